@@ -1,0 +1,731 @@
+#!/usr/bin/env python3
+"""Writes what repeats by type in the catalogue's crates from fields.tsv and cases.tsv.
+
+    catalogue/write.py            write the files, laid out by rt fmt
+    catalogue/write.py --check    say which files are not as written (exit status 1), and write nothing
+
+fields.tsv has a line for each row of each layout: layout number, mnemonic of the annex, struct, field of the annex,
+lowest bit, width, highest admitted value, English name, type (bool, an enum of cases.tsv, or - where reserved).
+cases.tsv has a line for each named case of each enum: enum, value, case, meaning.
+"""
+import os
+import re
+import shutil
+import subprocess
+import sys
+import tempfile
+
+HERE = os.path.dirname(os.path.abspath(__file__))
+ROOT = os.path.dirname(HERE)
+WITHOUT_DAT = {'GeneralNotices'}  # type 22 has no DAT
+CRATES = ['rows', 'cases', 'states', 'kinds']
+
+
+def table(name):
+    with open(os.path.join(HERE, name)) as f:
+        lines = [line.rstrip('\n').split('\t') for line in f]
+    return [dict(zip(lines[0], line)) for line in lines[1:]]
+
+
+class Row:
+    def __init__(self, place, line):
+        self.place = place
+        self.field, self.name, self.type = line['field'], line['name'], line['type']
+        self.low, self.width, self.top = int(line['low']), int(line['width']), int(line['top'])
+        self.reserved, self.bit = self.type == '-', self.type == 'bool'
+        self.named = not self.reserved and not self.bit
+        self.key = f'«{self.name}»' if '_' in self.name else self.name
+
+
+class Layout:
+    def __init__(self, place, number, mnemonic, struct, first, rows):
+        self.place, self.number, self.mnemonic, self.struct = place, number, mnemonic, struct
+        self.first, self.rows = first, rows
+        self.bytes = (rows[-1].low + rows[-1].width) // 8
+        self.dat = struct not in WITHOUT_DAT
+        self.key = low(struct)
+        self.fields = [r for r in rows if not r.reserved]
+        self.named = [r for r in rows if r.named]
+
+
+def low(name):
+    return name[0].lower() + name[1:]
+
+
+def read():
+    layouts, first = [], 0
+    lines = table('fields.tsv')
+    for number in dict.fromkeys(line['layout'] for line in lines):
+        own = [line for line in lines if line['layout'] == number]
+        rows = [Row(i, line) for i, line in enumerate(own)]
+        layouts.append(Layout(len(layouts), int(number), own[0]['mnemonic'], own[0]['struct'], first, rows))
+        first += len(rows)
+    enums = {}
+    for line in table('cases.tsv'):
+        cases = enums.setdefault(line['enum'], [])
+        assert int(line['value']) == len(cases), line
+        cases.append((line['case'], line['meaning']))
+    for l in layouts:
+        for r in l.named:
+            assert len(enums[r.type]) == r.top + 1, (l.struct, r.field)
+    return layouts, enums
+
+
+LAYOUTS, ENUMS = read()
+TOTAL = sum(len(l.rows) for l in LAYOUTS)
+STRUCTS = [l.struct for l in LAYOUTS]
+
+
+def names(words):
+    return ', '.join(words)
+
+
+def nth(name, i):
+    return name + (str(i) if i > 1 else '')
+
+
+def returns(i):
+    return 'returns' + (f'-{i}' if i > 1 else '')
+
+
+def before(n):
+    return ' .before' * n
+
+
+def spec_end(name, answers):
+    return f'pub {name}-spec : {{M : Type 1}} → statement M\n{name}-spec = tie.close (tie.spec {" ".join(answers)})\n'
+
+
+SEARCH, CALL = '(λ c. search needs)', '(λ c κs. search needs)'
+
+
+def ties(crate, path):
+    at = f'Rattle.{crate}.proofs.{path}'
+    return f'use {at}.Statement.{{statement}}\nuse {at}.Tie as tie\n'
+
+
+# ---- rows: the table and the layouts
+
+def rows_source(old):
+    body = ''
+    for l in LAYOUTS:
+        for r in l.rows:
+            body += f'    {l.number}, {r.low}, {r.width}, {r.top}, // {l.mnemonic} {"reserved" if r.reserved else r.field}\n'
+    return re.sub(r'const ROWS: \[u8; \d+\] = \[\n.*?\];', f'const ROWS: [u8; {4 * TOTAL}] = [\n{body}];', old, flags=re.S)
+
+
+def rows_table():
+    rows = '\n'.join(f'    {l.number} ∷ {r.low} ∷ {r.width} ∷ {r.top} ∷' for l in LAYOUTS for r in l.rows)
+    layouts = ''.join(
+        f'    layout {l.number} {l.first} {len(l.rows)} {l.bytes} {"true" if l.dat else "false"} ∷\n' for l in LAYOUTS)
+    return f'''-- Every row of every layout, {TOTAL} rows of layout, lowest bit, width and highest admitted value (0: reserved), in one constant
+-- table; and the layouts, each with its number, its first row, how many, its width in bytes and whether bit 0 is DAT.
+-- Written by catalogue/write.py. Assumes nothing.
+use mathlib.Core.Bool.{{Bool, true, false}}
+use mathlib.Core.List.{{List, [], _∷_}}
+use Prim.Native.Nat.{{ℕ, zero, suc, _+_, _*_}}
+use lib.ListN.{{getD}}
+use Rattle.rows.specs.declared.Layout.{{Layout}}
+
+abbrev pub rowTotal : ℕ
+rowTotal = {TOTAL}
+
+unfoldable pub table : List ℕ
+table =
+{rows}
+    []
+
+abbrev pub layout : ℕ → ℕ → ℕ → ℕ → Bool → Layout
+layout number first count bytes dat = record {{ number = number; first = first; count = count; bytes = bytes; dat = dat }}
+
+unfoldable pub layouts : List Layout
+layouts =
+{layouts}    []
+
+-- the layout at a place; none past the end
+abbrev pub layoutAt : ℕ → Layout
+layoutAt i = getD layouts i (layout 0 0 0 0 false)
+
+-- a row: a field's lowest bit, its width and its highest admitted value
+pub record Row : Type 0 where
+  pub low : ℕ
+  pub width : ℕ
+  pub top : ℕ
+
+-- the number at a place of the table; the row i; the number of the layout that it belongs to
+abbrev pub cellAt : ℕ → ℕ
+cellAt place = getD table place 0
+
+abbrev pub rowAt : ℕ → Row
+rowAt i = record {{ low = cellAt (4 * i + 1); width = cellAt (4 * i + 2); top = cellAt (4 * i + 3) }}
+
+abbrev pub numberAt : ℕ → ℕ
+numberAt i = cellAt (4 * i)
+
+-- n rows from row i on
+abbrev pub rowsFrom : ℕ → ℕ → List Row
+rowsFrom i zero = []
+rowsFrom i (suc n) = rowAt i ∷ rowsFrom (suc i) n
+'''
+
+
+# ---- cases: an enum for each field wider than one bit
+
+def cases_source():
+    uses = names(low(e) + x for e in ENUMS for x in ('Of', 'No'))
+    text = f'''// The floor of cases: the named cases of every field that is wider than one bit, each enum with its reading of a value and the
+// value of a case. Written by catalogue/write.py from catalogue/cases.tsv. It checks nothing: a value that has no case
+// is read as the first.
+ghost use mathlib.Core.Path.{{_≡_}};
+ghost use Rattle.cases.specs.Cases.{{{uses}}};
+'''
+    for e, cases in ENUMS.items():
+        text += f'\npub enum {e} {{\n' + ''.join(f'    {c}, // {m}\n' for c, m in cases) + '}\n'
+        text += f'''
+impl {e} {{
+    pub fn of(value: u32) -> {e}
+        ensures {{ λ r. ⌜ r ≡ {low(e)}Of value ⌝ }}
+    {{
+        match value {{
+{''.join(f"            {i} => {e}::{c},{chr(10)}" for i, (c, _) in enumerate(cases))}            _ => {e}::{cases[0][0]},
+        }}
+    }}
+
+    pub fn number(self) -> u32
+        ensures {{ λ r. ⌜ r ≡ {low(e)}No self ⌝ }}
+    {{
+        match self {{
+{''.join(f"            {e}::{c} => {i},{chr(10)}" for i, (c, _) in enumerate(cases))}        }}
+    }}
+}}
+'''
+    return text
+
+
+def cases_specs():
+    text = '''-- Each multi-valued field's own named cases, in the order of their values; a case's value, and the case of a value.
+-- Written by catalogue/write.py. Assumes nothing.
+use mathlib.Core.List.{List, [], _∷_}
+use Prim.Native.Nat.{ℕ}
+use lib.ListN.{getD}
+'''
+    for e in ENUMS:
+        text += f'use Rattle.cases.specs.declared.{e}.{{{e}}}\n'
+    for e, cases in ENUMS.items():
+        l = low(e)
+        text += f'\nabbrev pub {l}Cases : List {e}\n{l}Cases = {" ∷ ".join(f"{e}.{c}" for c, _ in cases)} ∷ []\n'
+        text += f'\nabbrev pub {l}Of : ℕ → {e}\n{l}Of v = getD {l}Cases v {e}.{cases[0][0]}\n'
+        text += f'\nabbrev pub {l}No : {e} → ℕ\n' + ''.join(f'{l}No {e}.{c} = {i}\n' for i, (c, _) in enumerate(cases))
+    return text
+
+
+def cases_laws():
+    text = '''-- The value of the case of a value is that value where it is listed and else 0; the case of a case's value is that case.
+-- Written by catalogue/write.py. Assumes nothing.
+use mathlib.Core.Path.{_≡_, refl}
+use Prim.Native.Nat.{ℕ}
+use Rattle.rows.proofs.Listed.{listed, named}
+'''
+    text += f'use Rattle.cases.specs.Cases.{{{names(low(e) + x for e in ENUMS for x in ("Cases", "Of", "No"))}}}\n'
+    for e in ENUMS:
+        text += f'use Rattle.cases.specs.declared.{e}.{{{e}}}\n'
+    for e, cases in ENUMS.items():
+        l, top = low(e), len(cases) - 1
+        text += f'\npub {l}-listed : (v : ℕ) → {l}No ({l}Of v) ≡ listed {top} v\n'
+        text += f'{l}-listed = named {l}No {l}Cases {e}.{cases[0][0]} {top} tt refl refl\n'
+        text += f'\npub {l}-back : (c : {e}) → {l}Of ({l}No c) ≡ c\n' + ''.join(f'{l}-back {e}.{c} = refl\n' for c, _ in cases)
+    return text
+
+
+def case_of_proof(e):
+    n = len(ENUMS[e])
+    return f'''-- `cases::{e}::of` meets its contract: a value that has no case is read as the first.
+-- Written by catalogue/write.py. Assumes nothing.
+use mathlib.Core.Path.{{sym}}
+use lib.ListN.{{List·getD-eq-default}}
+use borrow.Author.Needs.{{needs}}
+use Rattle.cases.specs.Cases.{{{low(e)}Cases}}
+use Rattle.rows.proofs.Tests.{{past}}
+{ties('cases', e + '.of')}
+unlisted : tie.Need-{returns(n + 1)}
+unlisted c = sym (List·getD-eq-default {low(e)}Cases _ (past _ {n} (c .match .rest)))
+
+{spec_end('of', [SEARCH] * n + ['unlisted'])}'''
+
+
+# ---- states: a struct for each layout
+
+def states_source():
+    text = '// The floor of states: a struct for each layout with its named fields, its width in bytes and its state without data, and the\n'
+    text += '// way between a state and its fields\' values in the rows\' order. Written by catalogue/write.py from catalogue/fields.tsv.\n'
+    text += '// It checks nothing; the annex\'s mnemonic stands beside each field.\n'
+    text += ''.join(f'use cases::{e};\n' for e in ENUMS)
+    text += f'''
+ghost use mathlib.Core.Path.{{_≡_}};
+ghost use mathlib.Core.List.{{[]}};
+ghost use Rattle.rows.specs.Fields.{{padded}};
+ghost use Rattle.states.specs.States.{{{names(l.key + x for l in LAYOUTS for x in ('Of', 'Values'))}}};
+'''
+    for l in LAYOUTS:
+        text += f'\n// Layout {l.number}: {l.mnemonic}.\npub struct {l.struct} {{\n'
+        text += ''.join(f'    pub {r.name}: {r.type}, // {r.field}\n' for r in l.fields) + '}\n'
+        text += f'\nimpl {l.struct} {{\n    pub const WIDTH: usize = {l.bytes};\n'
+        if l.dat:
+            text += f'\n    pub const WITHOUT_DATA: {l.struct} = {l.struct} {{\n'
+            text += ''.join(f'        {r.name}: {"false" if r.bit else r.type + "::" + ENUMS[r.type][0][0]},\n' for r in l.fields)
+            text += f'''    }};
+
+    pub fn without_data() -> {l.struct}
+        ensures {{ λ r. ⌜ r ≡ {l.key}Of [] ⌝ }}
+    {{
+        {l.struct}::WITHOUT_DATA
+    }}
+'''
+        text += f'\n    pub fn of_values(values: [u32; 24]) -> {l.struct}\n        ensures {{ λ r. ⌜ r ≡ {l.key}Of values ⌝ }}\n    {{\n'
+        text += ''.join(f'        let {r.name} = {r.type}::of(values[{r.place}]);\n' for r in l.named)
+        text += f'        {l.struct} {{\n'
+        text += ''.join(f'            {r.name}: values[{r.place}] == 1,\n' if r.bit else f'            {r.name},\n' for r in l.fields)
+        text += f'        }}\n    }}\n\n    pub fn values(self) -> [u32; 24]\n        ensures {{ λ r. ⌜ r ≡ padded ({l.key}Values self) ⌝ }}\n    {{\n'
+        text += ''.join(f'        let {r.name} = self.{r.name};\n' for r in l.named)
+        text += '        [\n'
+        for r in l.rows:
+            value = '0' if r.reserved else f'self.{r.name} as u32' if r.bit else f'{r.name}.number()'
+            text += f'            {value},\n'
+        text += '            0,\n' * (24 - len(l.rows)) + '        ]\n    }\n}\n'
+    return text
+
+
+def states_specs():
+    text = '''-- Each type's state from its fields' values in the rows' order, and a state's values (a reserved row's is 0).
+-- Written by catalogue/write.py. Assumes nothing.
+use mathlib.Core.List.{List, [], _∷_}
+use Prim.Native.Nat.{ℕ}
+use lib.ListN.{getD}
+use lib.Dec.{eqb}
+use Rattle.rows.specs.Fields.{bitNo}
+'''
+    text += f'use Rattle.cases.specs.Cases.{{{names(low(e) + x for e in ENUMS for x in ("Of", "No"))}}}\n'
+    for s in STRUCTS:
+        text += f'use Rattle.states.specs.declared.{s}.{{{s}}}\n'
+    for l in LAYOUTS:
+        text += f'\nabbrev pub {l.key}Of : List ℕ → {l.struct}\n{l.key}Of vs = record {{\n'
+        for r in l.fields:
+            value = f'eqb (getD vs {r.place} 0) 1' if r.bit else f'{low(r.type)}Of (getD vs {r.place} 0)'
+            text += f'  {r.key} = {value};\n'
+        text += f'}}\n\nabbrev pub {l.key}Values : {l.struct} → List ℕ\n{l.key}Values s =\n'
+        for r in l.rows:
+            value = '0' if r.reserved else f'bitNo (s .{r.key})' if r.bit else f'{low(r.type)}No (s .{r.key})'
+            text += f'    {value} ∷\n'
+        text += '    []\n'
+    return text
+
+
+def states_laws():
+    text = '''-- Of each type: the values of a state that is made of values are the listed ones, and a state's own values make it again.
+-- Written by catalogue/write.py. Assumes nothing.
+use mathlib.Core.Path.{_≡_}
+use mathlib.Core.List.{List, [], _∷_}
+use Prim.Native.Nat.{ℕ}
+use lib.ListN.{getD}
+use Rattle.rows.specs.Table.{table, rowsFrom}
+use Rattle.rows.specs.Fields.{padded}
+use Rattle.rows.proofs.Listed.{listedFrom, bit-listed, bit-back, reserved-listed}
+'''
+    text += f'use Rattle.cases.proofs.CaseLaws.{{{names(low(e) + x for e in ENUMS for x in ("-listed", "-back"))}}}\n'
+    text += f'use Rattle.states.specs.States.{{{names(l.key + x for l in LAYOUTS for x in ("Of", "Values"))}}}\n'
+    for s in STRUCTS:
+        text += f'use Rattle.states.specs.declared.{s}.{{{s}}}\n'
+    for l in LAYOUTS:
+        text += f'\npub {l.key}-listed : (vs : List ℕ) → {l.key}Values ({l.key}Of vs) ≡ listedFrom 0 (rowsFrom {l.first} {len(l.rows)}) vs\n'
+        text += f'unfolding table\n{l.key}-listed vs =\n    λ i.\n'
+        for r in l.rows:
+            law = 'reserved' if r.reserved else 'bit' if r.bit else low(r.type)
+            text += f'    {law}-listed (getD vs {r.place} 0) i ∷\n'
+        text += f'    []\n\npub {l.key}-back : (s : {l.struct}) → {l.key}Of (padded ({l.key}Values s)) ≡ s\n{l.key}-back s = λ i. record {{\n'
+        for r in l.fields:
+            text += f'  {r.key} = {"bit" if r.bit else low(r.type)}-back (s .{r.key}) i;\n'
+        text += '}\n'
+    return text
+
+
+def of_values_proof(l):
+    n, done = len(l.named), 0
+    text = f'''-- `states::{l.struct}::of_values` meets its contract: each named field by what its reader ensures.
+-- Written by catalogue/write.py. Assumes nothing.
+use lib.ListN.{{getD}}
+use lib.Dec.{{eqb}}
+use borrow.Author.Needs.{{needs}}
+{ties('states', l.struct + '.of_values')}
+returns : tie.Need-returns
+returns c =
+    let vs = c{before(n)} .args .t1 in
+    λ i. record {{
+'''
+    for r in l.fields:
+        if r.bit:
+            value = f'eqb (getD vs {r.place} 0) 1'
+        else:
+            done += 1
+            value = f'(c{before(n - done)} .{nth("of", done)} .ensures) i'
+        text += f'      {r.key} = {value};\n'
+    answers = [SEARCH, CALL] * n + [SEARCH] * (len(l.fields) - n) + ['returns']
+    return text + '    }\n\n' + spec_end('of-values', answers)
+
+
+def values_proof(l):
+    m, place, done, parts, answers = len(l.fields), 0, 0, [], []
+    for r in l.rows:
+        if r.reserved:
+            parts.append('0')
+            continue
+        place += 1
+        if r.bit:
+            parts.append(f'bitNo (s .{r.key})')
+            answers.append(SEARCH)
+        else:
+            done += 1
+            parts.append(f'(c{before(m - place)} .{nth("number", done)} .ensures) i')
+            answers.append(CALL)
+    return f'''-- `states::{l.struct}::values` meets its contract: each named field by what its number ensures.
+-- Written by catalogue/write.py. Assumes nothing.
+use mathlib.Core.List.{{[], _∷_}}
+use borrow.Author.Needs.{{needs}}
+use Rattle.rows.specs.Fields.{{padded, bitNo}}
+{ties('states', l.struct + '.values')}
+returns : tie.Need-returns
+returns c =
+    let s = c{before(m)} .args .self in
+    λ i.
+    padded
+    ({' ∷ '.join(parts)} ∷
+    [])
+
+{spec_end('values', answers + ['returns'])}'''
+
+
+# ---- kinds: what goes by the kind
+
+def kinds_source():
+    def match(on, value, arm):
+        return f'    match {on} {{\n' + ''.join(f'        {arm(l)} => {value(l)},\n' for l in LAYOUTS) + '    }\n}\n'
+
+    kind = lambda l: f'Kind::{l.struct}'
+    text = f'''// The floor of kinds: the kinds of element, one for each layout, the state of any kind, and every function that goes by the kind.
+// Written by catalogue/write.py from catalogue/fields.tsv. It checks nothing: whoever adds a type adds it here, and the floors
+// above go by the layout.
+use rows::Layout;
+{''.join(f"use states::{s};{chr(10)}" for s in sorted(STRUCTS))}
+ghost use mathlib.Core.Path.{{_≡_}};
+ghost use Rattle.rows.specs.Fields.{{padded}};
+ghost use Rattle.kinds.specs.Kinds.{{layoutOf, sortNumbered, kindIn, elementOf, elementValues}};
+
+// The kinds of element that are carried.
+pub enum Kind {{
+{''.join(f"    {s},{chr(10)}" for s in STRUCTS)}}}
+
+// A state of any kind.
+pub enum Element {{
+{''.join(f"    {s}({s}),{chr(10)}" for s in STRUCTS)}}}
+
+// What a number stands for: a kind that is carried, or none.
+pub enum Sort {{
+    Carried(Kind),
+    Other,
+}}
+
+// A kind's layout.
+pub fn layout(kind: Kind) -> Layout
+    ensures {{ λ r. ⌜ r ≡ layoutOf kind ⌝ }}
+{{
+'''
+    text += match('kind', lambda l: f'''Layout {{
+            number: {l.number},
+            first: {l.first},
+            count: {len(l.rows)},
+            bytes: {l.struct}::WIDTH,
+            dat: {'true' if l.dat else 'false'},
+        }}''', kind)
+    text += '''
+// The kind whose layout has a number, if there is one.
+pub fn sort_numbered(number: u8) -> Sort
+    ensures { λ r. ⌜ r ≡ sortNumbered number ⌝ }
+{
+    match number {
+''' + ''.join(f'        {l.number} => Sort::Carried(Kind::{l.struct}),\n' for l in LAYOUTS) + '''        _ => Sort::Other,
+    }
+}
+
+// The kind of a state.
+pub fn kind_in(element: Element) -> Kind
+    ensures { λ r. ⌜ r ≡ kindIn element ⌝ }
+{
+''' + match('element', kind, lambda l: f'Element::{l.struct}(_)') + '''
+// A kind's state from its fields' values.
+pub fn element_of(kind: Kind, values: [u32; 24]) -> Element
+    ensures { λ r. ⌜ r ≡ elementOf kind values ⌝ }
+{
+''' + match('kind', lambda l: f'Element::{l.struct}({l.struct}::of_values(values))', kind) + '''
+// The values of a state's fields.
+pub fn values_of(element: Element) -> [u32; 24]
+    ensures { λ r. ⌜ r ≡ padded (elementValues element) ⌝ }
+{
+''' + match('element', lambda l: 'state.values()', lambda l: f'Element::{l.struct}(state)')
+    return text
+
+
+def kinds_specs():
+    kinds = ' ∷ '.join(f'Kind.{s}' for s in STRUCTS)
+    text = '''-- An element state is one of the types, each with its own struct: the kinds, the layout of each, and the state of any kind from
+-- its fields' values.
+-- Written by catalogue/write.py. Assumes nothing.
+use mathlib.Core.Bool.{cond}
+use mathlib.Core.List.{List, [], _∷_}
+use Prim.Native.Nat.{ℕ}
+use lib.Dec.{eqb}
+use Rattle.rows.specs.Table.{Row, layoutAt}
+use Rattle.rows.specs.Covering.{layoutRows}
+use Rattle.rows.specs.declared.Layout.{Layout}
+'''
+    text += f'use Rattle.states.specs.States.{{{names(l.key + x for l in LAYOUTS for x in ("Of", "Values"))}}}\n'
+    text += f'''use Rattle.kinds.specs.declared.Kind.{{Kind}}
+use Rattle.kinds.specs.declared.Element.{{Element}}
+use Rattle.kinds.specs.declared.Sort.{{Sort}}
+
+abbrev pub kinds : List Kind
+kinds = {kinds} ∷ []
+
+-- a kind's place among them, by which its layout is found
+abbrev pub place : Kind → ℕ
+{''.join(f"place Kind.{l.struct} = {l.place}{chr(10)}" for l in LAYOUTS)}
+abbrev pub layoutOf : Kind → Layout
+layoutOf k = layoutAt (place k)
+
+abbrev pub layoutNo : Kind → ℕ
+layoutNo k = layoutOf k .number
+
+abbrev pub widthOf : Kind → ℕ
+widthOf k = layoutOf k .bytes
+
+abbrev pub rowsOf : Kind → List Row
+rowsOf k = layoutRows (layoutOf k)
+
+-- the kind whose layout has a number
+abbrev pub lookup : ℕ → List Kind → Sort
+lookup n [] = Sort.Other
+lookup n (k ∷ ks) = cond (eqb n (layoutNo k)) (Sort.Carried k) (lookup n ks)
+
+abbrev pub sortNumbered : ℕ → Sort
+sortNumbered n = lookup n kinds
+
+abbrev pub elementOf : Kind → List ℕ → Element
+{''.join(f"elementOf Kind.{l.struct} vs = Element.{l.struct} ({l.key}Of vs){chr(10)}" for l in LAYOUTS)}
+abbrev pub elementValues : Element → List ℕ
+{''.join(f"elementValues (Element.{l.struct} s) = {l.key}Values s{chr(10)}" for l in LAYOUTS)}
+abbrev pub kindIn : Element → Kind
+{''.join(f"kindIn (Element.{s} s) = Kind.{s}{chr(10)}" for s in STRUCTS)}'''
+    return text
+
+
+def lookup_law():
+    return '''-- A number is looked up among the kinds: in vain where it is none of theirs.
+-- Written by catalogue/write.py. Assumes nothing.
+use mathlib.Core.Path.{_≡_, _∙_, refl, sym, ap}
+use mathlib.Core.Bool.{Bool, cond}
+use mathlib.Core.List.{List, [], _∷_}
+use Prim.Native.Nat.{ℕ}
+use borrow.Author.Tests.{ne-eqb}
+use Rattle.kinds.specs.Kinds.{layoutNo, lookup}
+use Rattle.kinds.specs.declared.Kind.{Kind}
+use Rattle.kinds.specs.declared.Sort.{Sort}
+
+abbrev pub Apart : ℕ → List Kind → Type 0
+Apart n [] = Unit
+Apart n (k ∷ ks) = (n ≡ layoutNo k → ⊥) × Apart n ks
+
+pub vain : (n : ℕ) (ks : List Kind) → Apart n ks → Sort.Other ≡ lookup n ks
+vain n [] a = refl
+vain n (k ∷ ks) a = vain n ks (a .1) ∙ sym (ap (λ (b : Bool). cond b (Sort.Carried k) (lookup n ks)) (ne-eqb n (layoutNo k) (a .0)))
+'''
+
+
+def kinds_laws():
+    text = '''-- Of each kind: its place, that its number finds it, and that a state keeps the listed values and its own values make it again.
+-- Written by catalogue/write.py. Assumes nothing.
+use mathlib.Core.Path.{_≡_, refl, ap}
+use mathlib.Core.List.{List, []}
+use Prim.Native.Nat.{ℕ, _<_}
+use lib.Dec.{lit<}
+use lib.ListN.{length}
+use Rattle.rows.specs.Table.{table, layouts}
+use Rattle.rows.specs.Fields.{padded, valuesOf}
+use Rattle.rows.proofs.Listed.{listedFrom}
+'''
+    text += f'use Rattle.states.proofs.StateLaws.{{{names(l.key + x for l in LAYOUTS for x in ("-listed", "-back"))}}}\n'
+    text += f'''use Rattle.kinds.specs.Kinds.{{place, layoutNo, rowsOf, sortNumbered, elementOf, elementValues, kindIn}}
+use Rattle.kinds.specs.declared.Kind.{{Kind}}
+use Rattle.kinds.specs.declared.Element.{{Element}}
+use Rattle.kinds.specs.declared.Sort.{{Sort}}
+
+pub placed : (k : Kind) → place k < length layouts
+unfolding layouts
+{''.join(f"placed Kind.{s} = lit< tt{chr(10)}" for s in STRUCTS)}
+pub kind-found : (k : Kind) → sortNumbered (layoutNo k) ≡ Sort.Carried k
+unfolding layouts
+{''.join(f"kind-found Kind.{s} = refl{chr(10)}" for s in STRUCTS)}
+pub element-listed : (k : Kind) (vs : List ℕ) → elementValues (elementOf k vs) ≡ listedFrom 0 (rowsOf k) vs
+unfolding layouts
+{''.join(f"element-listed Kind.{l.struct} vs = {l.key}-listed vs{chr(10)}" for l in LAYOUTS)}
+pub element-back : (e : Element) → elementOf (kindIn e) (padded (elementValues e)) ≡ e
+{''.join(f"element-back (Element.{l.struct} s) = ap Element.{l.struct} ({l.key}-back s){chr(10)}" for l in LAYOUTS)}
+pub element-kind : (k : Kind) (vs : List ℕ) → kindIn (elementOf k vs) ≡ k
+{''.join(f"element-kind Kind.{s} vs = refl{chr(10)}" for s in STRUCTS)}
+-- the number 0 is read as the state of no values, which is the one without data
+pub zero-state : (k : Kind) → elementOf k (padded (valuesOf 0 (rowsOf k))) ≡ elementOf k []
+unfolding table layouts
+{''.join(f"zero-state Kind.{s} = refl{chr(10)}" for s in STRUCTS)}'''
+    return text
+
+
+def by_kind_proof(fn, spec, value, opens, fields):
+    told = lambda i: f'c .before .{nth("element", i)}' if fields else f'c .{nth("enum-told", i)}'
+    arms = [f'(λ c. sym (ap {spec} ({told(i)} .given .1)))' for i in range(1, len(LAYOUTS) + 1)]
+    spec_name = fn.replace('_', '-')
+    text = f'''-- `kinds::{fn}` meets its contract, arm by arm.
+-- Written by catalogue/write.py. Assumes nothing.
+use mathlib.Core.Path.{{sym, ap}}
+use borrow.Author.Needs.{{needs}}
+{value}use Rattle.kinds.specs.Kinds.{{{spec}}}
+{ties('kinds', fn)}
+'''
+    end = spec_end(spec_name, [SEARCH] * len(LAYOUTS) + arms)
+    return text + (end.replace('statement M\n', f'statement M\nunfolding {opens}\n') if opens else end)
+
+
+def sort_proof():
+    n = len(LAYOUTS)
+    rest = 'tt'
+    for i in reversed(range(n)):
+        rest = f'(c .match .rest{" .0" * (n - 1 - i)} .1, {rest})'
+    keys = [f'(λ c. sym (ap sortNumbered (c .match .keys{i + 1})))' for i in range(n)]
+    end = spec_end('sort-numbered', keys + ['other']).replace('statement M\n', 'statement M\nunfolding layouts\n')
+    return f'''-- `kinds::sort_numbered` meets its contract: a number that is none of the layouts' is looked up in vain.
+-- Written by catalogue/write.py. Assumes nothing.
+use mathlib.Core.Path.{{sym, ap}}
+use Rattle.rows.specs.Table.{{layouts}}
+use Rattle.kinds.specs.Kinds.{{kinds, sortNumbered}}
+use Rattle.kinds.proofs.Lookup.{{vain}}
+{ties('kinds', 'sort_numbered')}
+other : tie.Need-{returns(n + 1)}
+unfolding layouts
+other c = vain (c .before .args .number) kinds {rest}
+
+{end}'''
+
+
+def per_kind_proof(fn, uses, answer):
+    n = len(LAYOUTS)
+    text = f'''-- `kinds::{fn}` meets its contract: each kind by what its own function ensures.
+-- Written by catalogue/write.py. Assumes nothing.
+use mathlib.Core.Path.{{_∙_, sym, ap}}
+use borrow.Author.Needs.{{needs}}
+{uses}use Rattle.kinds.specs.declared.Element.{{Element}}
+{ties('kinds', fn)}'''
+    for i, l in enumerate(LAYOUTS, 1):
+        text += f'\n{returns(i)} : tie.Need-{returns(i)}\n{returns(i)} c = {answer(i, l)}\n'
+    return text + '\n' + spec_end(fn.replace('_', '-'), [SEARCH, CALL] * n + [returns(i) for i in range(1, n + 1)])
+
+
+def element_of_answer(i, l):
+    return (f'ap Element.{l.struct} (c .{nth("of-values", i)} .ensures) '
+            f'∙ sym (ap (λ (k : Kind). elementOf k (c .before .before .before .args .values)) (c .before .{nth("enum-told", i)} .given .1))')
+
+
+def values_of_answer(i, l):
+    return (f'c .{nth("values", i)} .ensures '
+            f'∙ sym (ap (λ (e : Element). padded (elementValues e)) (c .before .before .{nth("element", i)} .given .1))')
+
+
+def files(source):
+    """The files by their path below crates/, from the present text of those that are written in part."""
+    out = {
+        'rows/src/lib.rt': rows_source(source('rows/src/lib.rt')),
+        'rows/specs/Table.antt': rows_table(),
+        'cases/src/lib.rt': cases_source(),
+        'cases/specs/Lib.antt': 'pub mod Cases\n',
+        'cases/specs/Cases.antt': cases_specs(),
+        'cases/proofs/Lib.antt': 'pub mod CaseLaws\n',
+        'cases/proofs/CaseLaws.antt': cases_laws(),
+        'states/src/lib.rt': states_source(),
+        'states/specs/Lib.antt': 'pub mod States\n',
+        'states/specs/States.antt': states_specs(),
+        'states/proofs/Lib.antt': 'pub mod StateLaws\n',
+        'states/proofs/StateLaws.antt': states_laws(),
+        'kinds/src/lib.rt': kinds_source(),
+        'kinds/specs/Lib.antt': 'pub mod Kinds\n',
+        'kinds/specs/Kinds.antt': kinds_specs(),
+        'kinds/proofs/Lib.antt': 'pub mod Lookup\npub mod KindLaws\n',
+        'kinds/proofs/Lookup.antt': lookup_law(),
+        'kinds/proofs/KindLaws.antt': kinds_laws(),
+        'kinds/proofs/layout/Proof.antt': by_kind_proof('layout', 'layoutOf', 'use Rattle.rows.specs.Table.{layouts}\n', 'layouts', False),
+        'kinds/proofs/kind_in/Proof.antt': by_kind_proof('kind_in', 'kindIn', '', '', False),
+        'kinds/proofs/sort_numbered/Proof.antt': sort_proof(),
+        'kinds/proofs/element_of/Proof.antt': per_kind_proof(
+            'element_of',
+            'use Rattle.kinds.specs.Kinds.{elementOf}\nuse Rattle.kinds.specs.declared.Kind.{Kind}\n', element_of_answer),
+        'kinds/proofs/values_of/Proof.antt': per_kind_proof(
+            'values_of',
+            'use Rattle.rows.specs.Fields.{padded}\nuse Rattle.kinds.specs.Kinds.{elementValues}\n', values_of_answer),
+    }
+    for e in ENUMS:
+        out[f'cases/proofs/{e}/of/Proof.antt'] = case_of_proof(e)
+    for l in LAYOUTS:
+        if l.named:
+            out[f'states/proofs/{l.struct}/of_values/Proof.antt'] = of_values_proof(l)
+            out[f'states/proofs/{l.struct}/values/Proof.antt'] = values_proof(l)
+    return out
+
+
+def write(root):
+    def source(path):
+        with open(os.path.join(root, 'crates', path)) as f:
+            return f.read()
+
+    paths = files(source)
+    for crate in ('cases', 'states', 'kinds'):
+        shutil.rmtree(os.path.join(root, 'crates', crate, 'proofs'), ignore_errors=True)
+    for path, text in paths.items():
+        full = os.path.join(root, 'crates', path)
+        os.makedirs(os.path.dirname(full), exist_ok=True)
+        with open(full, 'w') as f:
+            f.write(text)
+    done = subprocess.run(['rt', 'fmt'], cwd=root, capture_output=True, text=True)
+    if done.returncode:
+        sys.exit(done.stdout + done.stderr)
+    return paths
+
+
+def check():
+    with tempfile.TemporaryDirectory() as fresh:
+        for crate in CRATES:
+            shutil.copytree(os.path.join(ROOT, 'crates', crate), os.path.join(fresh, 'crates', crate))
+        with open(os.path.join(fresh, 'crates.txt'), 'w') as f:
+            f.write(''.join(f'{crate}:\n' for crate in CRATES))
+        write(fresh)
+        other = ''
+        for crate in CRATES:
+            said = subprocess.run(['diff', '-r', os.path.join(ROOT, 'crates', crate), os.path.join(fresh, 'crates', crate)],
+                                  capture_output=True, text=True)
+            other += said.stdout
+    if other:
+        print(other)
+        sys.exit('catalogue: the files above are not as catalogue/write.py writes them')
+    print('catalogue: all files are as written')
+
+
+if __name__ == '__main__':
+    if sys.argv[1:] == ['--check']:
+        check()
+    elif sys.argv[1:]:
+        sys.exit(__doc__)
+    else:
+        write(ROOT)

@@ -1,0 +1,96 @@
+-- The answers of the functions over elements, from what their callees ensure.
+-- Assumes nothing.
+use mathlib.Core.Path.{_≡_, _∙_, refl, sym, ap, ap₂}
+use mathlib.Core.Bool.{Bool, true, false, cond}
+use mathlib.Core.List.{List}
+use Prim.Native.Nat.{ℕ, _+_, _%_, _<_, _≤_}
+use native.Mathlib.Omega.{arith}
+use borrow.Author.Tests.{eq-eqb, ne-eqb}
+use lib.Dec.{eqb}
+use lib.ListN.{replicate}
+use Rattle.rows.specs.Table.{rowTotal, rowsFrom}
+use Rattle.rows.specs.Fields.{refusal, checkRows, valuesOf, composeOf, padded, onFinding, fieldsRead}
+use Rattle.rows.specs.declared.Refusal.{Refusal}
+use Rattle.rows.specs.declared.Fields.{Fields}
+use Rattle.rows.specs.declared.Finding.{Finding}
+use Rattle.rows.specs.declared.Layout.{Layout}
+use Rattle.kinds.specs.Kinds.{layoutOf, rowsOf, elementOf, elementValues, kindIn}
+use Rattle.elements.specs.Elements.{datRule, elementCheck, stateOf, stateRead, wordOf}
+use Rattle.kinds.specs.declared.Kind.{Kind}
+use Rattle.kinds.specs.declared.Element.{Element}
+use Rattle.elements.specs.declared.State.{State}
+use Rattle.elements.proofs.Covering.{cover}
+use Rattle.elements.proofs.Laws.{word-small, compose-padded}
+
+-- the rule of DAT by its three tests
+dat : Bool → Bool → Bool → Finding
+dat has one none = cond has (cond one Finding.Accepted (cond none Finding.Accepted (Finding.Refused (refusal 12 0)))) Finding.Accepted
+
+module _ (k : Kind) (w : ℕ) (l : Layout) (is : l ≡ layoutOf k) where
+  tested : {has one none : Bool} → l .dat ≡ has → eqb (w % 2) 1 ≡ one → eqb w 0 ≡ none → dat has one none ≡ datRule k w
+  unfolding dat datRule
+  tested a b c = λ i. dat ((sym a ∙ ap (λ (m : Layout). m .dat) is) i) (sym b i) (sym c i)
+
+  pub dat-absent : l .dat ≡ false → Finding.Accepted ≡ datRule k w
+  unfolding dat
+  dat-absent e = tested e refl refl
+
+  pub dat-one : l .dat ≡ true → w % 2 ≡ 1 → Finding.Accepted ≡ datRule k w
+  unfolding dat
+  dat-one e h = tested e (eq-eqb _ _ h) refl
+
+  pub dat-none : l .dat ≡ true → (w % 2 ≡ 1 → ⊥) → w ≡ 0 → Finding.Accepted ≡ datRule k w
+  unfolding dat
+  dat-none e h z = tested e (ne-eqb _ _ h) (eq-eqb _ _ z)
+
+  pub dat-stale : l .dat ≡ true → (w % 2 ≡ 1 → ⊥) → (w ≡ 0 → ⊥) → Finding.Refused (refusal 12 0) ≡ datRule k w
+  unfolding dat
+  dat-stale e h z = tested e (ne-eqb _ _ h) (ne-eqb _ _ z)
+
+-- from what `read_fields` ensures
+module _ (k : Kind) (w : ℕ) (r : Fields) (e : r ≡ fieldsRead w (rowsOf k)) where
+  finding : r .finding ≡ checkRows w (rowsOf k)
+  finding = ap (λ (f : Fields). f .finding) e
+
+  pub check-refused : (x : Refusal) → r .finding ≡ Finding.Refused x → r .finding ≡ elementCheck k w
+  unfolding elementCheck
+  check-refused x t = t ∙ ap (λ (f : Finding). onFinding f (datRule k w) Finding.Refused) (sym t ∙ finding)
+
+  pub check-rest : r .finding ≡ Finding.Accepted → datRule k w ≡ elementCheck k w
+  unfolding elementCheck
+  check-rest t = ap (λ (f : Finding). onFinding f (datRule k w) Finding.Refused) (sym t ∙ finding)
+
+  answer : Finding → State
+  answer f = onFinding f (State.Read (stateOf k w)) State.Refused
+
+  pub state-refused : (x : Refusal) → r .finding ≡ Finding.Refused x → State.Refused x ≡ stateRead k w
+  unfolding answer stateRead
+  state-refused x t = ap answer (sym t ∙ check-refused x t)
+
+  pub state-stale : (d : Finding) (x : Refusal) → r .finding ≡ Finding.Accepted → d ≡ datRule k w → d ≡ Finding.Refused x → State.Refused x ≡ stateRead k w
+  unfolding answer stateRead
+  state-stale d x t p q = ap answer (sym q ∙ p ∙ check-rest t)
+
+  pub state-read : (d : Finding) (s : Element) → r .finding ≡ Finding.Accepted → d ≡ datRule k w → d ≡ Finding.Accepted → s ≡ elementOf k (r .values) → State.Read s ≡ stateRead k w
+  unfolding answer stateRead stateOf
+  state-read d s t p q h =
+      let all : r .values ≡ padded (valuesOf w (rowsOf k)) =
+      ap (λ (f : Fields). f .values) e ∙ ap (λ (f : Finding). onFinding f (padded (valuesOf w (rowsOf k))) (λ x. replicate 24 0)) (sym finding ∙ t) in
+      ap State.Read (h ∙ ap (elementOf k) all) ∙ ap answer (sym q ∙ p ∙ check-rest t)
+
+-- the rows of a kind are in the table
+pub in-table : (k : Kind) (l : Layout) → l ≡ layoutOf k → (l .first + l .count ≤ rowTotal) × (l .count ≤ 24)
+in-table k l is = let g = cover k in rw is (g .inside, g .few)
+
+-- from what the callees of `word_of` ensure
+module _ (e : Element) (k : Kind) (vs : List ℕ) (l : Layout) (ek : k ≡ kindIn e) (ev : vs ≡ padded (elementValues e)) (el : l ≡ layoutOf k) where
+  pub whole : composeOf (rowsFrom (l .first) (l .count)) vs ≡ wordOf e
+  whole =
+      ap (λ (m : Layout). composeOf (rowsFrom (m .first) (m .count)) vs) el
+      ∙ ap₂ (λ (j : Kind) (us : List ℕ). composeOf (rowsOf j) us) ek ev
+      ∙ compose-padded e
+
+  pub spans : (l .first + l .count ≤ rowTotal) × (l .count ≤ 24) × (composeOf (rowsFrom (l .first) (l .count)) vs < 4294967296)
+  spans =
+      let g = in-table k l el in
+      (g .0, g .1, rw whole (word-small e))

@@ -1,0 +1,121 @@
+-- Legal states and accepted numbers are in bijection: both round trips, over any kind; and the laws that a caller goes by.
+-- Assumes nothing.
+use mathlib.Core.Path.{_≡_, _∙_, refl, sym, ap, ap₂, subst}
+use mathlib.Core.List.{List, []}
+use Prim.Native.Nat.{ℕ, _-_, _*_, _^_, _<_}
+use native.Mathlib.Omega.{arith}
+use native.Mathlib.Nat.{lt-of-lt-of-le}
+use lib.ListN.{length, replicate}
+use lib.Pow.{pow-mono, pow-pos}
+use Rattle.rows.specs.Fields.{checkRows, valuesOf, composeOf, padded, onFinding}
+use Rattle.rows.specs.declared.Refusal.{Refusal}
+use Rattle.rows.specs.declared.Finding.{Finding}
+use Rattle.rows.proofs.Words.{Within, compose-values, compose-bound, values-compose}
+use Rattle.rows.proofs.Listed.{listed-within, listed-from, accepted-within, within-accepted, zero-accepted, compose-append}
+use Rattle.kinds.specs.Kinds.{widthOf, rowsOf, elementOf, elementValues, kindIn}
+use Rattle.elements.specs.Elements.{datRule, elementCheck, stateOf, stateRead, wordOf}
+use Rattle.kinds.specs.declared.Kind.{Kind}
+use Rattle.kinds.specs.declared.Element.{Element}
+use Rattle.elements.specs.declared.State.{State}
+use Rattle.elements.proofs.Covering.{cover}
+use Rattle.kinds.proofs.KindLaws.{element-listed, element-back, element-kind, zero-state}
+
+-- the values of any state are such as its rows admit
+state-within : (e : Element) → Within (rowsOf (kindIn e)) (elementValues e)
+state-within e =
+    subst (Within (rowsOf (kindIn e)))
+    (sym (element-listed (kindIn e) (padded (elementValues e))) ∙ ap elementValues (element-back e))
+    (listed-within (rowsOf (kindIn e)) 0 (padded (elementValues e)))
+
+-- a state's number fits its kind's bytes, and 32 bits
+pub word-fits : (e : Element) → wordOf e < 2 ^ (8 * widthOf (kindIn e))
+unfolding wordOf
+word-fits e =
+    let b = compose-bound (rowsOf (kindIn e)) (elementValues e) 0 (8 * widthOf (kindIn e)) (cover (kindIn e) .tiling) (state-within e) in
+    omega arith
+
+pub word-small : (e : Element) → wordOf e < 4294967296
+word-small e = lt-of-lt-of-le (word-fits e) (pow-mono {j = 32} (let g = cover (kindIn e) .narrow in omega arith))
+
+-- a state's kind is the one that it is read as
+pub state-kind : (k : Kind) (w : ℕ) → kindIn (stateOf k w) ≡ k
+unfolding stateOf
+state-kind k w = element-kind k (padded (valuesOf w (rowsOf k)))
+
+-- ---- the round trips
+
+-- a state's own values are the fields of its number
+own-values : (e : Element) → valuesOf (wordOf e) (rowsOf (kindIn e)) ≡ elementValues e
+unfolding wordOf
+own-values e = values-compose (rowsOf (kindIn e)) (elementValues e) (8 * widthOf (kindIn e)) (cover (kindIn e) .tiling) (state-within e)
+
+-- state, number, state: the same state
+pub state-word-state : (e : Element) → stateOf (kindIn e) (wordOf e) ≡ e
+unfolding stateOf
+state-word-state e = ap (λ (vs : List ℕ). elementOf (kindIn e) (padded vs)) (own-values e) ∙ element-back e
+
+-- number, state, number: the same number, where the fields are accepted
+fields-word : (k : Kind) (w : ℕ) → w < 2 ^ (8 * widthOf k) → checkRows w (rowsOf k) ≡ Finding.Accepted → wordOf (stateOf k w) ≡ w
+unfolding wordOf stateOf
+fields-word k w h ok =
+    let vs = valuesOf w (rowsOf k) in
+    ap₂ (λ (j : Kind) (us : List ℕ). composeOf (rowsOf j) us) (element-kind k (padded vs)) (element-listed k (padded vs))
+    ∙ ap (composeOf (rowsOf k)) (listed-from (rowsOf k) [] vs (replicate (24 - length vs) 0) (accepted-within w (rowsOf k) ok))
+    ∙ compose-values (rowsOf k) (8 * widthOf k) w (cover k .tiling) h
+
+accepted-fields : (k : Kind) (w : ℕ) → elementCheck k w ≡ Finding.Accepted → checkRows w (rowsOf k) ≡ Finding.Accepted
+unfolding elementCheck
+accepted-fields k w = go (checkRows w (rowsOf k))
+  where
+    go : (f : Finding) → onFinding f (datRule k w) Finding.Refused ≡ Finding.Accepted → f ≡ Finding.Accepted
+    go Finding.Accepted e = refl
+    go (Finding.Refused r) e = let z : _≡_ {A = ℕ} 0 1 = cc in absurd (omega arith)
+
+pub word-state-word : (k : Kind) (w : ℕ) → w < 2 ^ (8 * widthOf k) → elementCheck k w ≡ Finding.Accepted → wordOf (stateOf k w) ≡ w
+word-state-word k w h ok = fields-word k w h (accepted-fields k w ok)
+
+-- ---- what is found of a state's own number
+
+-- nothing but the rule of DAT: with named cases only 12 remains
+pub state-check : (e : Element) → elementCheck (kindIn e) (wordOf e) ≡ datRule (kindIn e) (wordOf e)
+unfolding elementCheck
+state-check e =
+    let k = kindIn e in
+    ap (λ (f : Finding). onFinding f (datRule k (wordOf e)) Finding.Refused)
+    (within-accepted (wordOf e) (rowsOf k) (subst (Within (rowsOf k)) (sym (own-values e)) (state-within e)))
+
+-- a legal state, written and read
+pub read-written : (e : Element) → elementCheck (kindIn e) (wordOf e) ≡ Finding.Accepted → stateRead (kindIn e) (wordOf e) ≡ State.Read e
+unfolding stateRead
+read-written e h =
+    let s = stateOf (kindIn e) (wordOf e) in
+    ap (λ (f : Finding). onFinding f (State.Read s) State.Refused) h ∙ ap State.Read (state-word-state e)
+
+-- the number 0 is accepted, and is that of the state without data
+pub zero-word : (k : Kind) → wordOf (elementOf k []) ≡ 0
+unfolding stateOf
+zero-word k = ap wordOf (sym (zero-state k)) ∙ fields-word k 0 (pow-pos (8 * widthOf k)) (zero-accepted (rowsOf k))
+
+-- the number with zeros behind the values
+pub compose-padded : (e : Element) → composeOf (rowsOf (kindIn e)) (padded (elementValues e)) ≡ wordOf e
+unfolding wordOf
+compose-padded e = compose-append (rowsOf (kindIn e)) (elementValues e) (replicate (24 - length (elementValues e)) 0) (state-within e)
+
+-- ---- what an answer says
+
+module _ (k : Kind) (w : ℕ) where
+  pub read-read : (e : Element) → State.Read e ≡ stateRead k w → (elementCheck k w ≡ Finding.Accepted) × (e ≡ stateOf k w)
+  unfolding stateRead
+  read-read e = go (elementCheck k w)
+    where
+      go : (f : Finding) → State.Read e ≡ onFinding f (State.Read (stateOf k w)) State.Refused → (f ≡ Finding.Accepted) × (e ≡ stateOf k w)
+      go Finding.Accepted p = (refl, cc)
+      go (Finding.Refused r) p = let z : _≡_ {A = ℕ} 0 1 = cc in absurd (omega arith)
+
+  pub read-refused : (r : Refusal) → State.Refused r ≡ stateRead k w → elementCheck k w ≡ Finding.Refused r
+  unfolding stateRead
+  read-refused r = go (elementCheck k w)
+    where
+      go : (f : Finding) → State.Refused r ≡ onFinding f (State.Read (stateOf k w)) State.Refused → f ≡ Finding.Refused r
+      go Finding.Accepted p = let z : _≡_ {A = ℕ} 0 1 = cc in absurd (omega arith)
+      go (Finding.Refused s) p = cc

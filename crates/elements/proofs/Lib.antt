@@ -1,0 +1,4 @@
+pub mod Covering
+pub mod Laws
+pub mod Answers
+pub mod Known

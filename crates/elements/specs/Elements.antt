@@ -1,0 +1,65 @@
+-- Which types are carried, the check of an element (fields from bit 0 up, then 12), and a state as a number and back.
+-- Assumes nothing.
+use mathlib.Core.Bool.{Bool, true, false, cond}
+use Prim.Native.Nat.{ℕ, _%_}
+use lib.Dec.{eqb}
+use Rattle.rows.specs.Fields.{refusal, checkRows, valuesOf, composeOf, padded, onFinding}
+use Rattle.rows.specs.declared.Finding.{Finding}
+use Rattle.kinds.specs.Kinds.{layoutOf, layoutNo, rowsOf, sortNumbered, elementOf, elementValues, kindIn}
+use Rattle.kinds.specs.declared.Kind.{Kind}
+use Rattle.kinds.specs.declared.Element.{Element}
+use Rattle.kinds.specs.declared.Sort.{Sort}
+use Rattle.elements.specs.declared.State.{State}
+
+-- ---- what is carried
+
+-- of a type under a catalogue's X: in catalogue 1.0 a layout has its type's number
+abbrev pub sortOf : ℕ → ℕ → Sort
+sortOf x type = cond (eqb x 1) (sortNumbered type) Sort.Other
+
+abbrev pub isCarried : Sort → Bool
+isCarried (Sort.Carried k) = true
+isCarried Sort.Other = false
+
+-- the kind (of what is not carried: any)
+abbrev pub carriedKind : Sort → Kind
+carriedKind (Sort.Carried k) = k
+carriedKind Sort.Other = Kind.Signal
+
+unfoldable pub carried : ℕ → ℕ → Bool
+carried x type = isCarried (sortOf x type)
+
+unfoldable pub kindOf : ℕ → ℕ → Kind
+kindOf x type = carriedKind (sortOf x type)
+
+unfoldable pub kindNumbered : ℕ → Kind
+kindNumbered n = carriedKind (sortNumbered n)
+
+abbrev pub sameKind : Kind → Kind → Bool
+sameKind j k = eqb (layoutNo j) (layoutNo k)
+
+-- ---- the check of an element
+
+-- where DAT is 0, all other bits must be 0; a kind without DAT is free of this rule
+unfoldable pub datRule : Kind → ℕ → Finding
+datRule k w =
+    cond (layoutOf k .dat)
+    (cond (eqb (w % 2) 1) Finding.Accepted (cond (eqb w 0) Finding.Accepted (Finding.Refused (refusal 12 0))))
+    Finding.Accepted
+
+-- fields from bit 0 up, then 12
+unfoldable pub elementCheck : Kind → ℕ → Finding
+elementCheck k w = onFinding (checkRows w (rowsOf k)) (datRule k w) Finding.Refused
+
+-- ---- states
+
+-- the state of an accepted number; the number of a state
+unfoldable pub stateOf : Kind → ℕ → Element
+stateOf k w = elementOf k (padded (valuesOf w (rowsOf k)))
+
+unfoldable pub wordOf : Element → ℕ
+wordOf e = composeOf (rowsOf (kindIn e)) (elementValues e)
+
+-- a refused reading gives a code and no state
+unfoldable pub stateRead : Kind → ℕ → State
+stateRead k w = onFinding (elementCheck k w) (State.Read (stateOf k w)) State.Refused

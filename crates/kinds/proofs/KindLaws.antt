@@ -1,0 +1,98 @@
+-- Of each kind: its place, that its number finds it, and that a state keeps the listed values and its own values make it again.
+-- Written by catalogue/write.py. Assumes nothing.
+use mathlib.Core.Path.{_≡_, refl, ap}
+use mathlib.Core.List.{List, []}
+use Prim.Native.Nat.{ℕ, _<_}
+use lib.Dec.{lit<}
+use lib.ListN.{length}
+use Rattle.rows.specs.Table.{table, layouts}
+use Rattle.rows.specs.Fields.{padded, valuesOf}
+use Rattle.rows.proofs.Listed.{listedFrom}
+use Rattle.states.proofs.StateLaws.{signal-listed, signal-back, changerSignal-listed, changerSignal-back, virtualBoard-listed, virtualBoard-back, lineTrackCircuit-listed, lineTrackCircuit-back, pointsTrackCircuit-listed, pointsTrackCircuit-back, crossingTrackCircuit-listed, crossingTrackCircuit-back, dualDetection-listed, dualDetection-back, points-listed, points-back, electricLock-listed, electricLock-back, generalNotices-listed, generalNotices-back, controlBoundary-listed, controlBoundary-back}
+use Rattle.kinds.specs.Kinds.{place, layoutNo, rowsOf, sortNumbered, elementOf, elementValues, kindIn}
+use Rattle.kinds.specs.declared.Kind.{Kind}
+use Rattle.kinds.specs.declared.Element.{Element}
+use Rattle.kinds.specs.declared.Sort.{Sort}
+
+pub placed : (k : Kind) → place k < length layouts
+unfolding layouts
+placed Kind.Signal = lit< tt
+placed Kind.ChangerSignal = lit< tt
+placed Kind.VirtualBoard = lit< tt
+placed Kind.LineTrackCircuit = lit< tt
+placed Kind.PointsTrackCircuit = lit< tt
+placed Kind.CrossingTrackCircuit = lit< tt
+placed Kind.DualDetection = lit< tt
+placed Kind.Points = lit< tt
+placed Kind.ElectricLock = lit< tt
+placed Kind.GeneralNotices = lit< tt
+placed Kind.ControlBoundary = lit< tt
+
+pub kind-found : (k : Kind) → sortNumbered (layoutNo k) ≡ Sort.Carried k
+unfolding layouts
+kind-found Kind.Signal = refl
+kind-found Kind.ChangerSignal = refl
+kind-found Kind.VirtualBoard = refl
+kind-found Kind.LineTrackCircuit = refl
+kind-found Kind.PointsTrackCircuit = refl
+kind-found Kind.CrossingTrackCircuit = refl
+kind-found Kind.DualDetection = refl
+kind-found Kind.Points = refl
+kind-found Kind.ElectricLock = refl
+kind-found Kind.GeneralNotices = refl
+kind-found Kind.ControlBoundary = refl
+
+pub element-listed : (k : Kind) (vs : List ℕ) → elementValues (elementOf k vs) ≡ listedFrom 0 (rowsOf k) vs
+unfolding layouts
+element-listed Kind.Signal vs = signal-listed vs
+element-listed Kind.ChangerSignal vs = changerSignal-listed vs
+element-listed Kind.VirtualBoard vs = virtualBoard-listed vs
+element-listed Kind.LineTrackCircuit vs = lineTrackCircuit-listed vs
+element-listed Kind.PointsTrackCircuit vs = pointsTrackCircuit-listed vs
+element-listed Kind.CrossingTrackCircuit vs = crossingTrackCircuit-listed vs
+element-listed Kind.DualDetection vs = dualDetection-listed vs
+element-listed Kind.Points vs = points-listed vs
+element-listed Kind.ElectricLock vs = electricLock-listed vs
+element-listed Kind.GeneralNotices vs = generalNotices-listed vs
+element-listed Kind.ControlBoundary vs = controlBoundary-listed vs
+
+pub element-back : (e : Element) → elementOf (kindIn e) (padded (elementValues e)) ≡ e
+element-back (Element.Signal s) = ap Element.Signal (signal-back s)
+element-back (Element.ChangerSignal s) = ap Element.ChangerSignal (changerSignal-back s)
+element-back (Element.VirtualBoard s) = ap Element.VirtualBoard (virtualBoard-back s)
+element-back (Element.LineTrackCircuit s) = ap Element.LineTrackCircuit (lineTrackCircuit-back s)
+element-back (Element.PointsTrackCircuit s) = ap Element.PointsTrackCircuit (pointsTrackCircuit-back s)
+element-back (Element.CrossingTrackCircuit s) = ap Element.CrossingTrackCircuit (crossingTrackCircuit-back s)
+element-back (Element.DualDetection s) = ap Element.DualDetection (dualDetection-back s)
+element-back (Element.Points s) = ap Element.Points (points-back s)
+element-back (Element.ElectricLock s) = ap Element.ElectricLock (electricLock-back s)
+element-back (Element.GeneralNotices s) = ap Element.GeneralNotices (generalNotices-back s)
+element-back (Element.ControlBoundary s) = ap Element.ControlBoundary (controlBoundary-back s)
+
+pub element-kind : (k : Kind) (vs : List ℕ) → kindIn (elementOf k vs) ≡ k
+element-kind Kind.Signal vs = refl
+element-kind Kind.ChangerSignal vs = refl
+element-kind Kind.VirtualBoard vs = refl
+element-kind Kind.LineTrackCircuit vs = refl
+element-kind Kind.PointsTrackCircuit vs = refl
+element-kind Kind.CrossingTrackCircuit vs = refl
+element-kind Kind.DualDetection vs = refl
+element-kind Kind.Points vs = refl
+element-kind Kind.ElectricLock vs = refl
+element-kind Kind.GeneralNotices vs = refl
+element-kind Kind.ControlBoundary vs = refl
+
+-- the number 0 is read as the state of no values, which is the one without data
+pub zero-state : (k : Kind) → elementOf k (padded (valuesOf 0 (rowsOf k))) ≡ elementOf k []
+unfolding table layouts
+zero-state Kind.Signal = refl
+zero-state Kind.ChangerSignal = refl
+zero-state Kind.VirtualBoard = refl
+zero-state Kind.LineTrackCircuit = refl
+zero-state Kind.PointsTrackCircuit = refl
+zero-state Kind.CrossingTrackCircuit = refl
+zero-state Kind.DualDetection = refl
+zero-state Kind.Points = refl
+zero-state Kind.ElectricLock = refl
+zero-state Kind.GeneralNotices = refl
+zero-state Kind.ControlBoundary = refl

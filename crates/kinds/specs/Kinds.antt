@@ -1,0 +1,90 @@
+-- An element state is one of the types, each with its own struct: the kinds, the layout of each, and the state of any kind from
+-- its fields' values.
+-- Written by catalogue/write.py. Assumes nothing.
+use mathlib.Core.Bool.{cond}
+use mathlib.Core.List.{List, [], _∷_}
+use Prim.Native.Nat.{ℕ}
+use lib.Dec.{eqb}
+use Rattle.rows.specs.Table.{Row, layoutAt}
+use Rattle.rows.specs.Covering.{layoutRows}
+use Rattle.rows.specs.declared.Layout.{Layout}
+use Rattle.states.specs.States.{signalOf, signalValues, changerSignalOf, changerSignalValues, virtualBoardOf, virtualBoardValues, lineTrackCircuitOf, lineTrackCircuitValues, pointsTrackCircuitOf, pointsTrackCircuitValues, crossingTrackCircuitOf, crossingTrackCircuitValues, dualDetectionOf, dualDetectionValues, pointsOf, pointsValues, electricLockOf, electricLockValues, generalNoticesOf, generalNoticesValues, controlBoundaryOf, controlBoundaryValues}
+use Rattle.kinds.specs.declared.Kind.{Kind}
+use Rattle.kinds.specs.declared.Element.{Element}
+use Rattle.kinds.specs.declared.Sort.{Sort}
+
+abbrev pub kinds : List Kind
+kinds = Kind.Signal ∷ Kind.ChangerSignal ∷ Kind.VirtualBoard ∷ Kind.LineTrackCircuit ∷ Kind.PointsTrackCircuit ∷ Kind.CrossingTrackCircuit ∷ Kind.DualDetection ∷ Kind.Points ∷ Kind.ElectricLock ∷ Kind.GeneralNotices ∷ Kind.ControlBoundary ∷ []
+
+-- a kind's place among them, by which its layout is found
+abbrev pub place : Kind → ℕ
+place Kind.Signal = 0
+place Kind.ChangerSignal = 1
+place Kind.VirtualBoard = 2
+place Kind.LineTrackCircuit = 3
+place Kind.PointsTrackCircuit = 4
+place Kind.CrossingTrackCircuit = 5
+place Kind.DualDetection = 6
+place Kind.Points = 7
+place Kind.ElectricLock = 8
+place Kind.GeneralNotices = 9
+place Kind.ControlBoundary = 10
+
+abbrev pub layoutOf : Kind → Layout
+layoutOf k = layoutAt (place k)
+
+abbrev pub layoutNo : Kind → ℕ
+layoutNo k = layoutOf k .number
+
+abbrev pub widthOf : Kind → ℕ
+widthOf k = layoutOf k .bytes
+
+abbrev pub rowsOf : Kind → List Row
+rowsOf k = layoutRows (layoutOf k)
+
+-- the kind whose layout has a number
+abbrev pub lookup : ℕ → List Kind → Sort
+lookup n [] = Sort.Other
+lookup n (k ∷ ks) = cond (eqb n (layoutNo k)) (Sort.Carried k) (lookup n ks)
+
+abbrev pub sortNumbered : ℕ → Sort
+sortNumbered n = lookup n kinds
+
+abbrev pub elementOf : Kind → List ℕ → Element
+elementOf Kind.Signal vs = Element.Signal (signalOf vs)
+elementOf Kind.ChangerSignal vs = Element.ChangerSignal (changerSignalOf vs)
+elementOf Kind.VirtualBoard vs = Element.VirtualBoard (virtualBoardOf vs)
+elementOf Kind.LineTrackCircuit vs = Element.LineTrackCircuit (lineTrackCircuitOf vs)
+elementOf Kind.PointsTrackCircuit vs = Element.PointsTrackCircuit (pointsTrackCircuitOf vs)
+elementOf Kind.CrossingTrackCircuit vs = Element.CrossingTrackCircuit (crossingTrackCircuitOf vs)
+elementOf Kind.DualDetection vs = Element.DualDetection (dualDetectionOf vs)
+elementOf Kind.Points vs = Element.Points (pointsOf vs)
+elementOf Kind.ElectricLock vs = Element.ElectricLock (electricLockOf vs)
+elementOf Kind.GeneralNotices vs = Element.GeneralNotices (generalNoticesOf vs)
+elementOf Kind.ControlBoundary vs = Element.ControlBoundary (controlBoundaryOf vs)
+
+abbrev pub elementValues : Element → List ℕ
+elementValues (Element.Signal s) = signalValues s
+elementValues (Element.ChangerSignal s) = changerSignalValues s
+elementValues (Element.VirtualBoard s) = virtualBoardValues s
+elementValues (Element.LineTrackCircuit s) = lineTrackCircuitValues s
+elementValues (Element.PointsTrackCircuit s) = pointsTrackCircuitValues s
+elementValues (Element.CrossingTrackCircuit s) = crossingTrackCircuitValues s
+elementValues (Element.DualDetection s) = dualDetectionValues s
+elementValues (Element.Points s) = pointsValues s
+elementValues (Element.ElectricLock s) = electricLockValues s
+elementValues (Element.GeneralNotices s) = generalNoticesValues s
+elementValues (Element.ControlBoundary s) = controlBoundaryValues s
+
+abbrev pub kindIn : Element → Kind
+kindIn (Element.Signal s) = Kind.Signal
+kindIn (Element.ChangerSignal s) = Kind.ChangerSignal
+kindIn (Element.VirtualBoard s) = Kind.VirtualBoard
+kindIn (Element.LineTrackCircuit s) = Kind.LineTrackCircuit
+kindIn (Element.PointsTrackCircuit s) = Kind.PointsTrackCircuit
+kindIn (Element.CrossingTrackCircuit s) = Kind.CrossingTrackCircuit
+kindIn (Element.DualDetection s) = Kind.DualDetection
+kindIn (Element.Points s) = Kind.Points
+kindIn (Element.ElectricLock s) = Kind.ElectricLock
+kindIn (Element.GeneralNotices s) = Kind.GeneralNotices
+kindIn (Element.ControlBoundary s) = Kind.ControlBoundary

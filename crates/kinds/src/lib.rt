@@ -1,0 +1,220 @@
+// The floor of kinds: the kinds of element, one for each layout, the state of any kind, and every function that goes by the kind.
+// Written by catalogue/write.py from catalogue/fields.tsv. It checks nothing: whoever adds a type adds it here, and the floors
+// above go by the layout.
+use rows::Layout;
+use states::ChangerSignal;
+use states::ControlBoundary;
+use states::CrossingTrackCircuit;
+use states::DualDetection;
+use states::ElectricLock;
+use states::GeneralNotices;
+use states::LineTrackCircuit;
+use states::Points;
+use states::PointsTrackCircuit;
+use states::Signal;
+use states::VirtualBoard;
+ghost use mathlib.Core.Path.{_≡_};
+ghost use Rattle.rows.specs.Fields.{padded};
+ghost use Rattle.kinds.specs.Kinds.{layoutOf, sortNumbered, kindIn, elementOf, elementValues};
+
+// The kinds of element that are carried.
+pub enum Kind {
+    Signal,
+    ChangerSignal,
+    VirtualBoard,
+    LineTrackCircuit,
+    PointsTrackCircuit,
+    CrossingTrackCircuit,
+    DualDetection,
+    Points,
+    ElectricLock,
+    GeneralNotices,
+    ControlBoundary,
+}
+
+// A state of any kind.
+pub enum Element {
+    Signal(Signal),
+    ChangerSignal(ChangerSignal),
+    VirtualBoard(VirtualBoard),
+    LineTrackCircuit(LineTrackCircuit),
+    PointsTrackCircuit(PointsTrackCircuit),
+    CrossingTrackCircuit(CrossingTrackCircuit),
+    DualDetection(DualDetection),
+    Points(Points),
+    ElectricLock(ElectricLock),
+    GeneralNotices(GeneralNotices),
+    ControlBoundary(ControlBoundary),
+}
+
+// What a number stands for: a kind that is carried, or none.
+pub enum Sort {
+    Carried(Kind),
+    Other,
+}
+
+// A kind's layout.
+pub fn layout(kind: Kind) -> Layout
+    ensures { λ r. ⌜ r ≡ layoutOf kind ⌝ }
+{
+    match kind {
+        Kind::Signal => Layout {
+            number: 1,
+            first: 0,
+            count: 24,
+            bytes: Signal::WIDTH,
+            dat: true,
+        },
+        Kind::ChangerSignal => Layout {
+            number: 2,
+            first: 24,
+            count: 3,
+            bytes: ChangerSignal::WIDTH,
+            dat: true,
+        },
+        Kind::VirtualBoard => Layout {
+            number: 3,
+            first: 27,
+            count: 4,
+            bytes: VirtualBoard::WIDTH,
+            dat: true,
+        },
+        Kind::LineTrackCircuit => Layout {
+            number: 4,
+            first: 31,
+            count: 11,
+            bytes: LineTrackCircuit::WIDTH,
+            dat: true,
+        },
+        Kind::PointsTrackCircuit => Layout {
+            number: 5,
+            first: 42,
+            count: 11,
+            bytes: PointsTrackCircuit::WIDTH,
+            dat: true,
+        },
+        Kind::CrossingTrackCircuit => Layout {
+            number: 6,
+            first: 53,
+            count: 12,
+            bytes: CrossingTrackCircuit::WIDTH,
+            dat: true,
+        },
+        Kind::DualDetection => Layout {
+            number: 7,
+            first: 65,
+            count: 7,
+            bytes: DualDetection::WIDTH,
+            dat: true,
+        },
+        Kind::Points => Layout {
+            number: 8,
+            first: 72,
+            count: 13,
+            bytes: Points::WIDTH,
+            dat: true,
+        },
+        Kind::ElectricLock => Layout {
+            number: 9,
+            first: 85,
+            count: 5,
+            bytes: ElectricLock::WIDTH,
+            dat: true,
+        },
+        Kind::GeneralNotices => Layout {
+            number: 22,
+            first: 90,
+            count: 8,
+            bytes: GeneralNotices::WIDTH,
+            dat: false,
+        },
+        Kind::ControlBoundary => Layout {
+            number: 23,
+            first: 98,
+            count: 9,
+            bytes: ControlBoundary::WIDTH,
+            dat: true,
+        },
+    }
+}
+
+// The kind whose layout has a number, if there is one.
+pub fn sort_numbered(number: u8) -> Sort
+    ensures { λ r. ⌜ r ≡ sortNumbered number ⌝ }
+{
+    match number {
+        1 => Sort::Carried(Kind::Signal),
+        2 => Sort::Carried(Kind::ChangerSignal),
+        3 => Sort::Carried(Kind::VirtualBoard),
+        4 => Sort::Carried(Kind::LineTrackCircuit),
+        5 => Sort::Carried(Kind::PointsTrackCircuit),
+        6 => Sort::Carried(Kind::CrossingTrackCircuit),
+        7 => Sort::Carried(Kind::DualDetection),
+        8 => Sort::Carried(Kind::Points),
+        9 => Sort::Carried(Kind::ElectricLock),
+        22 => Sort::Carried(Kind::GeneralNotices),
+        23 => Sort::Carried(Kind::ControlBoundary),
+        _ => Sort::Other,
+    }
+}
+
+// The kind of a state.
+pub fn kind_in(element: Element) -> Kind
+    ensures { λ r. ⌜ r ≡ kindIn element ⌝ }
+{
+    match element {
+        Element::Signal(_) => Kind::Signal,
+        Element::ChangerSignal(_) => Kind::ChangerSignal,
+        Element::VirtualBoard(_) => Kind::VirtualBoard,
+        Element::LineTrackCircuit(_) => Kind::LineTrackCircuit,
+        Element::PointsTrackCircuit(_) => Kind::PointsTrackCircuit,
+        Element::CrossingTrackCircuit(_) => Kind::CrossingTrackCircuit,
+        Element::DualDetection(_) => Kind::DualDetection,
+        Element::Points(_) => Kind::Points,
+        Element::ElectricLock(_) => Kind::ElectricLock,
+        Element::GeneralNotices(_) => Kind::GeneralNotices,
+        Element::ControlBoundary(_) => Kind::ControlBoundary,
+    }
+}
+
+// A kind's state from its fields' values.
+pub fn element_of(kind: Kind, values: [u32; 24]) -> Element
+    ensures { λ r. ⌜ r ≡ elementOf kind values ⌝ }
+{
+    match kind {
+        Kind::Signal => Element::Signal(Signal::of_values(values)),
+        Kind::ChangerSignal => Element::ChangerSignal(ChangerSignal::of_values(values)),
+        Kind::VirtualBoard => Element::VirtualBoard(VirtualBoard::of_values(values)),
+        Kind::LineTrackCircuit => Element::LineTrackCircuit(LineTrackCircuit::of_values(values)),
+        Kind::PointsTrackCircuit => Element::PointsTrackCircuit(PointsTrackCircuit::of_values(
+            values,
+        )),
+        Kind::CrossingTrackCircuit => Element::CrossingTrackCircuit(CrossingTrackCircuit::of_values(
+            values,
+        )),
+        Kind::DualDetection => Element::DualDetection(DualDetection::of_values(values)),
+        Kind::Points => Element::Points(Points::of_values(values)),
+        Kind::ElectricLock => Element::ElectricLock(ElectricLock::of_values(values)),
+        Kind::GeneralNotices => Element::GeneralNotices(GeneralNotices::of_values(values)),
+        Kind::ControlBoundary => Element::ControlBoundary(ControlBoundary::of_values(values)),
+    }
+}
+
+// The values of a state's fields.
+pub fn values_of(element: Element) -> [u32; 24]
+    ensures { λ r. ⌜ r ≡ padded (elementValues element) ⌝ }
+{
+    match element {
+        Element::Signal(state) => state.values(),
+        Element::ChangerSignal(state) => state.values(),
+        Element::VirtualBoard(state) => state.values(),
+        Element::LineTrackCircuit(state) => state.values(),
+        Element::PointsTrackCircuit(state) => state.values(),
+        Element::CrossingTrackCircuit(state) => state.values(),
+        Element::DualDetection(state) => state.values(),
+        Element::Points(state) => state.values(),
+        Element::ElectricLock(state) => state.values(),
+        Element::GeneralNotices(state) => state.values(),
+        Element::ControlBoundary(state) => state.values(),
+    }
+}

@@ -1,0 +1,69 @@
+-- The turns of the loops that write a number, copy bytes and compare bytes: what is done and what is left make up the whole.
+-- Assumes nothing.
+use Prim.Native.Nat.{ℕ, zero, suc, _+_, _-_, _/_, _%_, _≤_, _<_}
+use native.Mathlib.Omega.{arith}
+use native.Mathlib.Nat.{le-of-suc-le-suc, not-suc-le-zero}
+use native.Mathlib.Numerals.{add-one}
+use mathlib.Core.Path.{_≡_, refl, sym, ap, _∙_}
+use mathlib.Core.Bool.{Bool, true, false, _&&_}
+use mathlib.Core.List.{List, [], _∷_, _++_, append-assoc, append-nil}
+use lib.Dec.{eqb}
+use lib.ListN.{length, take, drop, getD, set}
+use lib.Seq.{drop-length, take-length, drop-cons, take-suc-set}
+use borrow.Author.Tests.{eq-eqb, ne-eqb}
+use Rattle.octets.specs.Octets.{bytes, sameBytes}
+use Rattle.octets.proofs.NumberLaws.{bytes-snoc}
+
+-- the element at the cursor, and the rest after it
+pub drop-next : (xs : List ℕ) (i : ℕ) → i < length xs → drop i xs ≡ getD xs i 0 ∷ drop (i + 1) xs
+drop-next xs i h = rw (add-one, drop-cons xs i 0)
+
+-- a store at the cursor lengthens what is written by one
+pub take-store : (xs : List ℕ) (i a : ℕ) → i < length xs → take (i + 1) (set xs i a) ≡ take i xs ++ (a ∷ [])
+take-store xs i a h = rw (add-one, take-suc-set)
+
+drop-set : (xs : List ℕ) (i a : ℕ) → i < length xs → drop i (set xs i a) ≡ a ∷ drop (suc i) xs
+drop-set [] i a h = absurd (not-suc-le-zero h)
+drop-set (x ∷ xs) zero a h = refl
+drop-set (x ∷ xs) (suc i) a h = drop-set xs i a (le-of-suc-le-suc h)
+
+-- `put` goes down: the number's last byte is stored before the cursor
+pub put-turn : (part : List ℕ) (i v : ℕ) → 0 < i → i ≤ length part
+    → bytes i v ++ drop i part ≡ bytes (i - 1) (v / 256) ++ drop (i - 1) (set part (i - 1) (v % 256))
+put-turn part zero v h k = absurd (not-suc-le-zero h)
+put-turn part (suc i) v h k =
+    let e : suc i - 1 ≡ i = omega arith in
+    rw (e, bytes-snoc i v, append-assoc, drop-set)
+
+pub put-end : (part : List ℕ) (i v : ℕ) → i ≡ 0 → bytes i v ++ drop i part ≡ part
+unfolding bytes
+put-end part i v e = rw e
+
+pub copy-turn : (part from : List ℕ) (i : ℕ) → i < length part → i < length from
+    → take i part ++ drop i from ≡ take (i + 1) (set part i (getD from i 0)) ++ drop (i + 1) from
+copy-turn part from i h k = rw (drop-next from i k, take-store part i (getD from i 0) h, append-assoc)
+
+pub copy-end : (part from : List ℕ) (i : ℕ) → i ≡ length from → i ≡ length part → take i part ++ drop i from ≡ part
+copy-end part from i e f = ap (λ (k : ℕ). take i part ++ drop k from) e ∙ rw (drop-length, append-nil, f, take-length)
+
+-- ---- the same bytes
+
+pub same-apart : (xs ys : List ℕ) → (length xs ≡ length ys → ⊥) → sameBytes xs ys ≡ false
+same-apart [] [] n = absurd (n refl)
+same-apart [] (y ∷ ys) n = refl
+same-apart (x ∷ xs) [] n = refl
+same-apart (x ∷ xs) (y ∷ ys) n = rw (same-apart xs ys (λ e. n (ap suc e))) (never (eqb x y))
+  where
+    never : (t : Bool) → (t && false) ≡ false
+    never true = refl
+    never false = refl
+
+module _ (xs ys : List ℕ) (i : ℕ) (h : i < length xs) (k : i < length ys) where
+  pub same-next : getD xs i 0 ≡ getD ys i 0 → sameBytes (drop i xs) (drop i ys) ≡ sameBytes (drop (i + 1) xs) (drop (i + 1) ys)
+  same-next e = rw (drop-next xs i h, drop-next ys i k, e, eq-eqb _ _ refl)
+
+  pub same-stop : (getD xs i 0 ≡ getD ys i 0 → ⊥) → sameBytes (drop i xs) (drop i ys) ≡ false
+  same-stop n = rw (drop-next xs i h, drop-next ys i k, ne-eqb _ _ n)
+
+pub same-end : (xs ys : List ℕ) (i : ℕ) → i ≡ length xs → i ≡ length ys → sameBytes (drop i xs) (drop i ys) ≡ true
+same-end xs ys i e f = ap (λ (k : ℕ). sameBytes (drop k xs) (drop i ys)) e ∙ rw (f, drop-length xs, drop-length ys)

@@ -1,0 +1,71 @@
+// Bytes and numbers: leaves that read a part of a slice, or fill one that the caller lends.
+// The bottom floor: it uses no other crate, knows no form, and never touches a byte outside the part it is given.
+ghost use mathlib.Core.Path.{_≡_};
+ghost use Prim.Native.Nat.{_+_, _≤_, _<_, _^_};
+ghost use lib.ListN.{length, take, drop};
+ghost use Rattle.octets.specs.Octets.{bytes, number, sameBytes};
+
+// The number of at most four bytes.
+pub fn get(part: &[u8]) -> u32
+    requires { ⌜ length (now part) ≤ 4 ⌝ }
+    ensures { λ r. ⌜ (r ≡ number (now (part .entry))) × (r < 256 ^ length (now (part .entry))) ⌝ }
+{
+    let mut value: u32 = 0;
+    let mut i = 0;
+    while i < part.len() {
+        value = value * 256 + part[i] as u32;
+        i += 1;
+    }
+    value
+}
+
+// The number of the bytes from a place on.
+pub fn get_at(s: &[u8], at: usize, width: usize) -> u32
+    requires { ⌜ (at + width ≤ length (now s)) × (width ≤ 4) ⌝ }
+    ensures { λ r. ⌜ (r ≡ number (take width (drop at (now (s .entry))))) × (r < 256 ^ width) ⌝ }
+{
+    let end = at + width;
+    get(&s[at..end])
+}
+
+// Fills the part with the number's bytes; what is too large for it loses its highest bytes.
+pub fn put(part: &mut [u8], value: u32)
+    ensures { λ _. ⌜ now (part .exit) ≡ bytes (length (now (part .entry))) value ⌝ }
+{
+    let mut i = part.len();
+    let mut rest = value;
+    while 0 < i {
+        i -= 1;
+        part[i] = (rest % 256) as u8;
+        rest = rest / 256;
+    }
+}
+
+// Fills the part with the bytes given.
+pub fn copy(part: &mut [u8], from: &[u8])
+    requires { ⌜ length (now part) ≡ length (now from) ⌝ }
+    ensures { λ _. ⌜ now (part .exit) ≡ now (from .entry) ⌝ }
+{
+    let mut i = 0;
+    while i < from.len() {
+        part[i] = from[i];
+        i += 1;
+    }
+}
+
+// Whether the two are the same bytes.
+pub fn same(a: &[u8], b: &[u8]) -> bool
+    ensures { λ r. ⌜ r ≡ sameBytes (now (a .entry)) (now (b .entry)) ⌝ }
+{
+    if a.len() != b.len() {
+        return false;
+    }
+    let mut i = 0;
+    while i < a.len() {
+        if a[i] != b[i] {
+            return false;
+        }
+        i += 1;
+    }
+    true
+}

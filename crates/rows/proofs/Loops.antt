@@ -1,0 +1,145 @@
+-- What the loops over rows keep: of the loop that reads fields, and of the loop that composes a number.
+-- Assumes nothing.
+use mathlib.Core.Path.{_≡_, _∙_, refl, sym, ap, ap₂, subst}
+use mathlib.Core.Bool.{Bool, true, false, cond}
+use mathlib.Core.List.{List, [], _∷_, _++_, append-assoc}
+use Prim.Native.Nat.{ℕ, zero, suc, _+_, _-_, _*_, _%_, _^_, _<_, _≤_}
+use native.Mathlib.Omega.{arith}
+use native.Mathlib.Nat.{add-zero, zero-add, add-suc, suc-add, mod-eq-of-lt}
+use native.Mathlib.Numerals.{add-one}
+use lib.Dec.{leb, eqb}
+use lib.ListN.{length, getD, set, drop, replicate, length-append}
+use lib.Seq.{set-append-seam, append-snoc, drop-cons}
+use Rattle.rows.specs.Table.{Row, rowAt, rowsFrom, table}
+use Rattle.rows.specs.Fields.{fieldOf, fieldRead, orElse, checkRows, valuesOf, composeOf, padded, onFinding, fieldsRead, refusedFields}
+use Rattle.rows.specs.declared.Fields.{Fields}
+use Rattle.rows.specs.declared.Refusal.{Refusal}
+use Rattle.rows.specs.declared.Field.{Field}
+use Rattle.rows.specs.declared.Finding.{Finding}
+
+rows-snoc : (n i : ℕ) → rowsFrom i (suc n) ≡ rowsFrom i n ++ (rowAt (i + n) ∷ [])
+rows-snoc zero i = ap (λ (k : ℕ). rowAt k ∷ []) (sym (add-zero i))
+rows-snoc (suc n) i = ap (λ (l : List Row). rowAt i ∷ l) (rows-snoc n (suc i) ∙ ap (λ (k : ℕ). rowsFrom (suc i) n ++ (rowAt k ∷ [])) (suc-add i n ∙ sym (add-suc i n)))
+
+values-snoc : (w : ℕ) (rs : List Row) (r : Row) → valuesOf w (rs ++ (r ∷ [])) ≡ valuesOf w rs ++ (fieldOf w r ∷ [])
+values-snoc w [] r = refl
+values-snoc w (s ∷ rs) r = ap (λ (l : List ℕ). fieldOf w s ∷ l) (values-snoc w rs r)
+
+pub values-length : (w n i : ℕ) → length (valuesOf w (rowsFrom i n)) ≡ n
+values-length w zero i = refl
+values-length w (suc n) i = ap suc (values-length w n (suc i))
+
+pad-store : (vs : List ℕ) (v : ℕ) → length vs < 24 → set (padded vs) (length vs) v ≡ padded (vs ++ (v ∷ []))
+pad-store vs v h =
+    let m = 24 - suc (length vs) in
+    let e : 24 - length vs ≡ suc m = omega arith in
+    let e′ : 24 - length (vs ++ (v ∷ [])) ≡ m = omega (arith, length-append vs (v ∷ [])) in
+    ap (λ (n : ℕ). set (vs ++ replicate n 0) (length vs) v) e
+    ∙ set-append-seam vs 0 (replicate m 0) v
+    ∙ sym (append-snoc vs v (replicate m 0))
+    ∙ ap (λ (n : ℕ). (vs ++ (v ∷ [])) ++ replicate n 0) (sym e′)
+
+-- the rows that are left, with the next in front
+rows-next : (first count k : ℕ) → k < count → rowsFrom (first + k) (count - k) ≡ rowAt (first + k) ∷ rowsFrom (first + (k + 1)) (count - (k + 1))
+rows-next first count k h =
+    let e : count - k ≡ suc (count - (k + 1)) = omega arith in
+    let e′ : suc (first + k) ≡ first + (k + 1) = omega arith in
+    ap (λ (n : ℕ). rowsFrom (first + k) n) e ∙ ap (λ (i : ℕ). rowAt (first + k) ∷ rowsFrom i (count - (k + 1))) e′
+
+picked : (b : Bool) (x v : ℕ) (r : Refusal) → cond b (Field.Value x) (Field.Refused r) ≡ Field.Value v → v ≡ x
+picked true x v r e = cc
+picked false x v r e = let z : _≡_ {A = ℕ} 0 1 = cc in omega arith
+
+pub value-is : (w : ℕ) (r : Row) (v : ℕ) → fieldRead w r ≡ Field.Value v → v ≡ fieldOf w r
+value-is w r v e = picked (leb (fieldOf w r) (r .top)) (fieldOf w r) v _ e
+
+-- what the reading loop keeps
+pub record Reading (w first count : ℕ) (values : List ℕ) (k : ℕ) : Type 0 where
+  pub bound : k ≤ count
+  pub so-far : values ≡ padded (valuesOf w (rowsFrom first k))
+  pub to-come : checkRows w (rowsFrom first count) ≡ checkRows w (rowsFrom (first + k) (count - k))
+
+pub starts : (w first count : ℕ) → Reading w first count (replicate 24 0) 0
+starts w first count =
+    let e : first + 0 ≡ first = omega arith in
+    let e′ : count - 0 ≡ count = omega arith in
+    record { bound = omega arith; so-far = refl; to-come = ap₂ (λ (i n : ℕ). checkRows w (rowsFrom i n)) (sym e) (sym e′) }
+
+pub turn : {w first count : ℕ} {values : List ℕ} {k : ℕ} → Reading w first count values k → k < count → count ≤ 24 → (v : ℕ)
+    → fieldRead w (rowAt (first + k)) ≡ Field.Value v → Reading w first count (set values k v) (k + 1)
+turn {w} {first} {count} {values} {k} r h small v e =
+    let n = values-length w k first in
+    let xs = valuesOf w (rowsFrom first k) in
+    record {
+      bound = omega arith;
+      so-far =
+          ap₂ (λ (l : List ℕ) (i : ℕ). set l i v) (r .so-far) (sym n)
+          ∙ pad-store xs v (omega arith)
+          ∙ ap (λ (x : ℕ). padded (xs ++ (x ∷ []))) (value-is w (rowAt (first + k)) v e)
+          ∙ ap padded (sym (values-snoc w (rowsFrom first k) (rowAt (first + k))) ∙ ap (valuesOf w) (sym (rows-snoc k first)) ∙ ap (λ (j : ℕ). valuesOf w (rowsFrom first j)) (sym (add-one k)));
+      to-come =
+          r .to-come
+          ∙ ap (checkRows w) (rows-next first count k h)
+          ∙ ap (λ (f : Field). orElse f (checkRows w (rowsFrom (first + (k + 1)) (count - (k + 1))))) e;
+    }
+
+-- the answer by the finding
+answer : ℕ → List Row → Finding → Fields
+answer w rs v = record { finding = v; values = onFinding v (padded (valuesOf w rs)) (λ r. replicate 24 0) }
+
+pub refused : {w first count : ℕ} {values : List ℕ} {k : ℕ} → Reading w first count values k → k < count → (x : Refusal)
+    → fieldRead w (rowAt (first + k)) ≡ Field.Refused x → refusedFields (Field.Refused x) ≡ fieldsRead w (rowsFrom first count)
+unfolding answer
+refused {w} {first} {count} {values} {k} r h x e =
+    sym
+    (ap (answer w (rowsFrom first count))
+    (r .to-come
+    ∙ ap (checkRows w) (rows-next first count k h)
+    ∙ ap (λ (f : Field). orElse f (checkRows w (rowsFrom (first + (k + 1)) (count - (k + 1))))) e))
+
+pub ends : {w first count : ℕ} {values : List ℕ} {k : ℕ} → Reading w first count values k → count ≤ k
+    → _≡_ {A = Fields} (record { finding = Finding.Accepted; values = values }) (fieldsRead w (rowsFrom first count))
+unfolding answer
+ends {w} {first} {count} {values} {k} r h =
+    let e : k ≡ count = omega arith in
+    let z : count - k ≡ 0 = omega arith in
+    let p : values ≡ padded (valuesOf w (rowsFrom first count)) = r .so-far ∙ ap (λ (j : ℕ). padded (valuesOf w (rowsFrom first j))) e in
+    (λ i. record { finding = Finding.Accepted; values = p i })
+    ∙ sym (ap (answer w (rowsFrom first count)) (r .to-come ∙ ap (λ (n : ℕ). checkRows w (rowsFrom (first + k) n)) z))
+
+-- what the composing loop keeps: the sum so far and what is still to come make the whole
+pub record Composing (vs : List ℕ) (first count word k : ℕ) : Type 0 where
+  pub bound : k ≤ count
+  pub whole : word + composeOf (rowsFrom (first + k) (count - k)) (drop k vs) ≡ composeOf (rowsFrom first count) vs
+
+pub compose-starts : (vs : List ℕ) (first count : ℕ) → Composing vs first count 0 0
+compose-starts vs first count =
+    let e : first + 0 ≡ first = omega arith in
+    let e′ : count - 0 ≡ count = omega arith in
+    record { bound = omega arith; whole = zero-add _ ∙ ap₂ (λ (i n : ℕ). composeOf (rowsFrom i n) vs) e e′ }
+
+-- the machine's shift of a value that is part of a sum below 2^32, and the next turn
+pub record Turn (vs : List ℕ) (first count word k low : ℕ) : Type 0 where
+  pub exact : getD vs k 0 * 2 ^ low % 4294967296 ≡ getD vs k 0 * 2 ^ low
+  pub fits : word + getD vs k 0 * 2 ^ low < 4294967296
+  pub next : Composing vs first count (word + getD vs k 0 * 2 ^ low) (k + 1)
+
+pub compose-turn : {vs : List ℕ} {first count word k : ℕ} → Composing vs first count word k → k < count → k < length vs
+    → composeOf (rowsFrom first count) vs < 4294967296 → (low : ℕ) → low ≡ rowAt (first + k) .low → Turn vs first count word k low
+compose-turn {vs} {first} {count} {word} {k} r h long small low e =
+    let x = getD vs k 0 * 2 ^ low in
+    let rest = composeOf (rowsFrom (first + (k + 1)) (count - (k + 1))) (drop (k + 1) vs) in
+    let s : composeOf (rowsFrom (first + k) (count - k)) (drop k vs) ≡ x + rest =
+    ap₂ composeOf (rows-next first count k h) (drop-cons vs k 0 long ∙ ap (λ (j : ℕ). getD vs k 0 ∷ drop j vs) (sym (add-one k)))
+    ∙ ap (λ (l : ℕ). getD vs k 0 * 2 ^ l + rest) (sym e) in
+    let w = r .whole in
+    record {
+      exact = mod-eq-of-lt (omega arith);
+      fits = omega arith;
+      next = record { bound = omega arith; whole = omega arith };
+    }
+
+pub compose-ends : {vs : List ℕ} {first count word k : ℕ} → Composing vs first count word k → count ≤ k → word ≡ composeOf (rowsFrom first count) vs
+compose-ends {vs} {first} {count} {word} {k} r h =
+    let z : count - k ≡ 0 = omega arith in
+    sym (add-zero word) ∙ ap (λ (n : ℕ). word + composeOf (rowsFrom (first + k) n) (drop k vs)) (sym z) ∙ r .whole

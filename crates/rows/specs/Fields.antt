@@ -1,0 +1,71 @@
+-- Element: fields from bit 0 up. A field's value by its row, the refusals 10 and 11, and the number that is made of values.
+-- Assumes nothing.
+use mathlib.Core.Bool.{Bool, true, false, cond}
+use mathlib.Core.List.{List, [], _∷_, _++_}
+use Prim.Native.Nat.{ℕ, _+_, _-_, _*_, _/_, _%_, _^_}
+use lib.Dec.{leb, eqb}
+use lib.ListN.{length, replicate}
+use Rattle.rows.specs.Table.{Row}
+use Rattle.rows.specs.declared.Refusal.{Refusal}
+use Rattle.rows.specs.declared.Field.{Field}
+use Rattle.rows.specs.declared.Finding.{Finding}
+use Rattle.rows.specs.declared.Fields.{Fields}
+
+-- the value of a row's field in the number w: bit k weighs 2^k, the highest bit of a field is its most significant
+abbrev pub fieldOf : ℕ → Row → ℕ
+fieldOf w r = w / 2 ^ r .low % 2 ^ r .width
+
+abbrev pub refusal : ℕ → ℕ → Refusal
+refusal code bit = record { code = code; bit = bit }
+
+-- one field: its value, or 10 (reserved bit 1) or 11 (value not listed) with the field's lowest bit
+abbrev pub fieldRead : ℕ → Row → Field
+fieldRead w r =
+    cond (leb (fieldOf w r) (r .top))
+    (Field.Value (fieldOf w r))
+    (Field.Refused (refusal (cond (eqb (r .top) 0) 10 11) (r .low)))
+
+-- a refused field is passed up at once
+abbrev pub orElse : Field → Finding → Finding
+orElse (Field.Value v) rest = rest
+orElse (Field.Refused r) rest = Finding.Refused r
+
+-- the fields from bit 0 up: the first that is refused
+abbrev pub checkRows : ℕ → List Row → Finding
+checkRows w [] = Finding.Accepted
+checkRows w (r ∷ rs) = orElse (fieldRead w r) (checkRows w rs)
+
+abbrev pub valuesOf : ℕ → List Row → List ℕ
+valuesOf w [] = []
+valuesOf w (r ∷ rs) = fieldOf w r ∷ valuesOf w rs
+
+-- the number whose fields by the rows are the values
+abbrev pub composeOf : List Row → List ℕ → ℕ
+composeOf [] vs = 0
+composeOf (r ∷ rs) [] = 0
+composeOf (r ∷ rs) (v ∷ vs) = v * 2 ^ r .low + composeOf rs vs
+
+-- the values in the first of 24 places, zeros behind them
+abbrev pub padded : List ℕ → List ℕ
+padded vs = vs ++ replicate (24 - length vs) 0
+
+abbrev pub onFinding : {A : Type 0} → Finding → A → (Refusal → A) → A
+onFinding Finding.Accepted good bad = good
+onFinding (Finding.Refused r) good bad = bad r
+
+-- all fields: the values where all are accepted, and zeros where one is refused
+abbrev pub fieldsRead : ℕ → List Row → Fields
+fieldsRead w rs =
+    record {
+      finding = checkRows w rs;
+      values = onFinding (checkRows w rs) (padded (valuesOf w rs)) (λ r. replicate 24 0);
+    }
+
+-- what a refused field leaves of them all
+abbrev pub refusedFields : Field → Fields
+refusedFields f = record { finding = orElse f Finding.Accepted; values = replicate 24 0 }
+
+-- one bit takes 0 or 1
+abbrev pub bitNo : Bool → ℕ
+bitNo true = 1
+bitNo false = 0

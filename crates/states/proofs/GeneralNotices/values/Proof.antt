@@ -1,0 +1,18 @@
+-- `states::GeneralNotices::values` meets its contract: each named field by what its number ensures.
+-- Written by catalogue/write.py. Assumes nothing.
+use mathlib.Core.List.{[], _∷_}
+use borrow.Author.Needs.{needs}
+use Rattle.rows.specs.Fields.{padded, bitNo}
+use Rattle.states.proofs.GeneralNotices.values.Statement.{statement}
+use Rattle.states.proofs.GeneralNotices.values.Tie as tie
+
+returns : tie.Need-returns
+returns c =
+    let s = c .before .before .before .before .before .before .before .args .self in
+    λ i.
+    padded
+    (bitNo (s .«power_in_order») ∷ bitNo (s .«points_moving») ∷ bitNo (s .«auto_routes_set») ∷ bitNo (s .«points_group_blocked») ∷ (c .before .before .number .ensures) i ∷ bitNo (s .«station_closed») ∷ (c .number2 .ensures) i ∷ 0 ∷
+    [])
+
+pub values-spec : {M : Type 1} → statement M
+values-spec = tie.close (tie.spec (λ c. search needs) (λ c. search needs) (λ c. search needs) (λ c. search needs) (λ c κs. search needs) (λ c. search needs) (λ c κs. search needs) returns)

@@ -1,0 +1,18 @@
+-- `states::LineTrackCircuit::values` meets its contract: each named field by what its number ensures.
+-- Written by catalogue/write.py. Assumes nothing.
+use mathlib.Core.List.{[], _∷_}
+use borrow.Author.Needs.{needs}
+use Rattle.rows.specs.Fields.{padded, bitNo}
+use Rattle.states.proofs.LineTrackCircuit.values.Statement.{statement}
+use Rattle.states.proofs.LineTrackCircuit.values.Tie as tie
+
+returns : tie.Need-returns
+returns c =
+    let s = c .before .before .before .before .before .before .before .before .before .before .args .self in
+    λ i.
+    padded
+    (bitNo (s .current) ∷ bitNo (s .«special_command_pending») ∷ bitNo (s .«movement_blocked») ∷ bitNo (s .«unexpected_occupancy») ∷ (c .before .before .before .before .before .number .ensures) i ∷ (c .before .before .before .before .number2 .ensures) i ∷ bitNo (s .«axle_counter_fault») ∷ bitNo (s .«axle_counter_preset») ∷ (c .before .number3 .ensures) i ∷ bitNo (s .«sequence_lost») ∷ 0 ∷
+    [])
+
+pub values-spec : {M : Type 1} → statement M
+values-spec = tie.close (tie.spec (λ c. search needs) (λ c. search needs) (λ c. search needs) (λ c. search needs) (λ c κs. search needs) (λ c κs. search needs) (λ c. search needs) (λ c. search needs) (λ c κs. search needs) (λ c. search needs) returns)

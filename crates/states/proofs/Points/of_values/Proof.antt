@@ -1,0 +1,28 @@
+-- `states::Points::of_values` meets its contract: each named field by what its reader ensures.
+-- Written by catalogue/write.py. Assumes nothing.
+use lib.ListN.{getD}
+use lib.Dec.{eqb}
+use borrow.Author.Needs.{needs}
+use Rattle.states.proofs.Points.of_values.Statement.{statement}
+use Rattle.states.proofs.Points.of_values.Tie as tie
+
+returns : tie.Need-returns
+returns c =
+    let vs = c .before .before .before .before .before .before .args .t1 in
+    λ i. record {
+      current = eqb (getD vs 0 0) 1;
+      «special_command_pending» = eqb (getD vs 1 0) 1;
+      «movement_blocked» = eqb (getD vs 2 0) 1;
+      «unexpected_occupancy» = eqb (getD vs 3 0) 1;
+      occupancy = (c .before .before .before .before .before .of .ensures) i;
+      «leg_shown» = (c .before .before .before .before .of2 .ensures) i;
+      «overlap_normal» = (c .before .before .before .of3 .ensures) i;
+      «overlap_reverse» = (c .before .before .of4 .ensures) i;
+      detection = (c .before .of5 .ensures) i;
+      «command_blocked» = eqb (getD vs 9 0) 1;
+      locking = (c .of6 .ensures) i;
+      «clearance_lost» = eqb (getD vs 11 0) 1;
+    }
+
+pub of-values-spec : {M : Type 1} → statement M
+of-values-spec = tie.close (tie.spec (λ c. search needs) (λ c κs. search needs) (λ c. search needs) (λ c κs. search needs) (λ c. search needs) (λ c κs. search needs) (λ c. search needs) (λ c κs. search needs) (λ c. search needs) (λ c κs. search needs) (λ c. search needs) (λ c κs. search needs) (λ c. search needs) (λ c. search needs) (λ c. search needs) (λ c. search needs) (λ c. search needs) (λ c. search needs) returns)

@@ -1,0 +1,18 @@
+-- `states::VirtualBoard::values` meets its contract: each named field by what its number ensures.
+-- Written by catalogue/write.py. Assumes nothing.
+use mathlib.Core.List.{[], _∷_}
+use borrow.Author.Needs.{needs}
+use Rattle.rows.specs.Fields.{padded, bitNo}
+use Rattle.states.proofs.VirtualBoard.values.Statement.{statement}
+use Rattle.states.proofs.VirtualBoard.values.Tie as tie
+
+returns : tie.Need-returns
+returns c =
+    let s = c .before .before .before .args .self in
+    λ i.
+    padded
+    (bitNo (s .current) ∷ (c .before .number .ensures) i ∷ bitNo (s .«closing_commanded») ∷ 0 ∷
+    [])
+
+pub values-spec : {M : Type 1} → statement M
+values-spec = tie.close (tie.spec (λ c. search needs) (λ c κs. search needs) (λ c. search needs) returns)
