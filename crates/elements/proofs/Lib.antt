@@ -1,4 +1,5 @@
 pub mod Covering
 pub mod Laws
+pub mod Findings
 pub mod Answers
 pub mod Known

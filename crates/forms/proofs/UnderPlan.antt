@@ -1,0 +1,58 @@
+-- Calls that begin with the table: a refused table's answer is the whole answer, an accepted one hands on its plan.
+-- Assumes nothing.
+use Prim.Native.Nat.{ℕ, _≤_}
+use native.Mathlib.Omega.{arith}
+use mathlib.Core.Path.{_≡_, sym, ap, _∙_}
+use mathlib.Core.List.{List}
+use lib.ListN.{length, take, length-take}
+use lib.Seq.{length-take-le}
+use Rattle.history.specs.declared.Answer.{Answer}
+use Rattle.history.specs.Verdict.{Verdict, then, told, settled}
+use Rattle.history.specs.Table.{Plan, planOf, readTable}
+use Rattle.history.specs.Image.{readImage}
+use Rattle.history.specs.Changes.{readList}
+use Rattle.history.specs.Calls.{tableCall, readPlan, imageCall, listCall}
+use Rattle.tables.specs.Outlines.{planAs, Outlined}
+use Rattle.tables.specs.declared.answers.Outline.{Outline}
+use Rattle.tables.proofs.AnswerLaws.{told-first, settled-first, told-then}
+
+module _ {b : List ℕ} {r : Outline} (o : Outlined b r) where
+  plan-told : told (readPlan b) ≡ r .answer
+  unfolding readPlan tableCall
+  plan-told = told-then (readTable b) planOf ∙ sym (o .answer)
+
+  module _ (bad : r .answer .code ≡ 0 → ⊥) where
+    plan-bad : told (readPlan b) .code ≡ 0 → ⊥
+    plan-bad e = bad (ap (λ (a : Answer). a .code) (sym plan-told) ∙ e)
+
+    pub table-refused : {A : Type 0} (next : Plan → Verdict A) → r .answer ≡ told (then (readPlan b) next)
+    table-refused next = sym plan-told ∙ told-first (readPlan b) next plan-bad
+
+    pub table-settled : (next : Plan → Verdict (List ℕ)) (out : List ℕ) → settled (then (readPlan b) next) out ≡ record { answer = r .answer; output = out }
+    table-settled next out = settled-first (readPlan b) next out plan-bad ∙ ap (λ (a : Answer). record { answer = a; output = out }) plan-told
+
+    pub image-refused : (A : List ℕ) → r .answer ≡ told (imageCall b A)
+    unfolding imageCall
+    image-refused A = table-refused (λ p. readImage p A)
+
+    pub list-refused : (L : List ℕ) → r .answer ≡ told (listCall b L)
+    unfolding listCall
+    list-refused L = table-refused (λ p. readList p L)
+
+  module _ (good : r .answer .code ≡ 0) where
+    pub under-plan : {A : Type 0} (next : Plan → Verdict A) → then (readPlan b) next ≡ next (planAs (r .x) (r .y) (take (r .count) (r .kinds)))
+    under-plan next = ap (λ (v : Verdict Plan). then v next) (o .plan good)
+
+    pub image-under : (A : List ℕ) → told (readImage (planAs (r .x) (r .y) (take (r .count) (r .kinds))) A) ≡ told (imageCall b A)
+    unfolding imageCall
+    image-under A = sym (ap told (under-plan (λ p. readImage p A)))
+
+    pub list-under : (L : List ℕ) → told (readList (planAs (r .x) (r .y) (take (r .count) (r .kinds))) L) ≡ told (listCall b L)
+    unfolding listCall
+    list-under L = sym (ap told (under-plan (λ p. readList p L)))
+
+  pub kinds-counted : r .count ≡ length (take (r .count) (r .kinds))
+  kinds-counted = sym (length-take-le (r .count) (r .kinds) (omega (arith, o .few, o .room)))
+
+  pub few-kinds : length (take (r .count) (r .kinds)) ≤ 1024
+  few-kinds = rw length-take (omega (arith, o .few))

@@ -1,0 +1,68 @@
+-- The walk over an image's elements, a turn at a time: the answer for the whole is the answer for what is left.
+-- Assumes nothing.
+use Prim.Native.Nat.{ℕ, suc, _+_, _≤_, _<_}
+use native.Mathlib.Omega.{arith}
+use mathlib.Core.Path.{_≡_, refl, sym, ap, ap₂, _∙_}
+use mathlib.Core.List.{List, [], _∷_}
+use lib.ListN.{length, take, drop}
+use lib.Seq.{drop-drop}
+use Rattle.rows.specs.declared.Finding.{Finding}
+use Rattle.rows.specs.declared.Refusal.{Refusal}
+use Rattle.kinds.specs.Kinds.{widthOf}
+use Rattle.elements.specs.Elements.{elementCheck}
+use Rattle.kinds.specs.declared.Kind.{Kind}
+use Rattle.octets.specs.Octets.{number}
+use Rattle.history.specs.Verdict.{Verdict, done, then, told, numbers}
+use Rattle.history.specs.Table.{kindAt}
+use Rattle.history.specs.Image.{element, _of_⨾_, widths, readWords}
+use Rattle.history.proofs.ElementLaws.{width-few}
+use Rattle.tables.specs.Outlines.{kindsOf}
+use Rattle.forms.proofs.Told.{told-refused, told-done, is-bad, is-good}
+use Rattle.tables.proofs.AnswerLaws.{told-then}
+use Rattle.forms.proofs.KindLaws.{kinds-next, kinds-end}
+
+-- the elements left at object i, from at on
+pub record Left (ns b : List ℕ) (i at : ℕ) : Type 0 where
+  pub inside : i ≤ length ns
+  pub room : at + widths (drop i (kindsOf ns)) ≡ length b
+  pub same : told (readWords 0 (kindsOf ns) b) ≡ told (readWords i (drop i (kindsOf ns)) (drop at b))
+
+pub begin : (ns b : List ℕ) → length b ≡ widths (kindsOf ns) → Left ns b 0 0
+begin ns b h = record { inside = omega arith; room = omega arith; same = refl }
+
+pub ended : {ns b : List ℕ} {i at : ℕ} → Left ns b i at → length ns ≤ i → numbers 0 65535 255 0 ≡ told (readWords 0 (kindsOf ns) b)
+ended {ns} {b} {i} {at} l h =
+    told-done (readWords i [] (drop at b)) [] refl ∙ sym (l .same ∙ ap (λ (ks : List Kind). told (readWords i ks (drop at b))) (kinds-end ns i h))
+
+-- over what the code has in hand: the kind, its width, the word, what is found
+module _ {ns b : List ℕ} {i at : ℕ} (l : Left ns b i at) (h : i < length ns) {kind : Kind} (kind-is : kind ≡ kindAt (kindsOf ns) i) {w : ℕ} (w-is : w ≡ widthOf kind) where
+  pub has-room : (at + w ≤ length b) × (w ≤ 4)
+  has-room =
+      let e : w ≡ widthOf (kindAt (kindsOf ns) i) = w-is ∙ ap widthOf kind-is in
+      (omega (arith, l .room, ap widths (kinds-next ns i h)), omega (arith, width-few kind))
+
+  module _ {word : ℕ} (word-is : word ≡ number (take w (drop at b))) {found : Finding} (found-is : found ≡ elementCheck kind word) where
+    -- the rest, after this object's element
+    next : Verdict (List ℕ)
+    next = then (readWords (suc i) (drop (i + 1) (kindsOf ns)) (drop w (drop at b))) (λ ws. done (word ∷ ws))
+
+    here : told (readWords 0 (kindsOf ns) b) ≡ told (found of i ⨾ next)
+    unfolding element next
+    here =
+        l .same ∙ ap (λ (ks : List Kind). told (readWords i ks (drop at b))) (kinds-next ns i h ∙ ap (λ (k : Kind). k ∷ drop (i + 1) (kindsOf ns)) (sym kind-is))
+        ∙ rw (← w-is, ← word-is, ← found-is)
+
+    pub stops : {r : Refusal} → found ≡ Finding.Refused r → numbers (r .code) i (r .bit) 0 ≡ told (readWords 0 (kindsOf ns) b)
+    stops {r} e = told-refused (found of i ⨾ next) (r .code) i (r .bit) (is-bad found i next r e) ∙ sym here
+
+    pub goes-on : found ≡ Finding.Accepted → Left ns b (i + 1) (at + w)
+    unfolding next
+    goes-on e =
+        let one : suc i ≡ i + 1 = omega arith in
+        let wide : w ≡ widthOf (kindAt (kindsOf ns) i) = w-is ∙ ap widthOf kind-is in
+        record {
+          inside = omega arith;
+          room = omega (arith, l .room, ap widths (kinds-next ns i h));
+          same = here ∙ ap told (is-good found i next e) ∙ told-then (readWords (suc i) (drop (i + 1) (kindsOf ns)) (drop w (drop at b))) (λ ws. word ∷ ws)
+              ∙ ap₂ (λ (n : ℕ) (c : List ℕ). told (readWords n (drop (i + 1) (kindsOf ns)) c)) one (drop-drop w at b);
+        }

@@ -1,0 +1,82 @@
+// The check of an image: 1, 2, 9, 8, then its elements from object 0 up.
+use super::objects::kind_at;
+use super::objects::widths_of;
+use history::Answer;
+use rows::Finding;
+use tables::accepted;
+use tables::is_under;
+use tables::is_whole;
+use tables::outline;
+use tables::refused;
+use tables::refused_bit;
+ghost use mathlib.Core.Path.{_≡_};
+ghost use Prim.Native.Nat.{_≤_};
+ghost use lib.ListN.{length};
+ghost use Rattle.history.specs.Verdict.{told};
+ghost use Rattle.history.specs.Image.{imageVersionGood, widths, readWords, readImage};
+ghost use Rattle.history.specs.Calls.{imageCall};
+ghost use Rattle.tables.specs.Outlines.{kindsOf, planAs};
+
+// An image, under its table.
+pub fn check_image(table: &[u8], image: &[u8]) -> Answer
+    ensures { λ r. ⌜ r ≡ told (imageCall (now (table .entry)) (now (image .entry))) ⌝ }
+{
+    let known = outline(table);
+    let answer = known.answer;
+    if answer.code != 0 {
+        return answer;
+    }
+    let x = known.x;
+    let y = known.y;
+    let count = known.count;
+    let kinds = known.kinds;
+    check_image_under(x, y, &kinds[..count], image)
+}
+
+// The same, under what is known of the table.
+pub fn check_image_under(x: u8, y: u8, kinds: &[u8], image: &[u8]) -> Answer
+    requires { ⌜ length (now kinds) ≤ 1024 ⌝ }
+    ensures { λ r. ⌜ r ≡ told (readImage (planAs x y (now (kinds .entry))) (now (image .entry))) ⌝ }
+{
+    if !is_whole(image, 7) {
+        return refused(1);
+    }
+    if !is_version(image[4]) {
+        return refused(2);
+    }
+    if !is_under(image, x, y) {
+        return refused(9);
+    }
+    if image.len() != 11 + widths_of(kinds) {
+        return refused(8);
+    }
+    check_words(kinds, &image[11..])
+}
+
+// The version byte is one that is read.
+fn is_version(version: u8) -> bool
+    ensures { λ r. ⌜ r ≡ imageVersionGood version ⌝ }
+{
+    version == 1
+}
+
+// The elements of all objects, in table order.
+fn check_words(kinds: &[u8], words: &[u8]) -> Answer
+    requires { ⌜ (length (now words) ≡ widths (kindsOf (now kinds))) × (length (now kinds) ≤ 1024) ⌝ }
+    ensures { λ r. ⌜ r ≡ told (readWords 0 (kindsOf (now (kinds .entry))) (now (words .entry))) ⌝ }
+{
+    let mut at: usize = 0;
+    let mut i: usize = 0;
+    while i < kinds.len() {
+        let kind = kind_at(kinds, i);
+        let width = elements::width(kind);
+        let word = octets::get_at(words, at, width);
+        let finding = elements::check_element(word, kind);
+        if let Finding::Refused(r) = finding {
+            return refused_bit(r.code, i as u16, r.bit);
+        }
+        at += width;
+        i += 1;
+    }
+    accepted()
+}

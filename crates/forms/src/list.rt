@@ -1,0 +1,139 @@
+// The check of a change list: 1, 2, 9, then entry by entry 8, 13, 14, 8, old element, new element, 15; last 8.
+use super::objects::kind_at;
+use history::Answer;
+use kinds::Kind;
+use rows::Finding;
+use tables::accepted;
+use tables::is_under;
+use tables::is_whole;
+use tables::outline;
+use tables::refused;
+use tables::refused_at;
+use tables::refused_bit;
+ghost use mathlib.Core.Path.{_≡_};
+ghost use Prim.Native.Nat.{_+_, _≤_, _<_};
+ghost use lib.ListN.{length, drop};
+ghost use Rattle.kinds.specs.Kinds.{widthOf};
+ghost use Rattle.history.specs.Verdict.{told};
+ghost use Rattle.history.specs.Changes.{entryOf, entryAt, checkEntry, readEntries, readList};
+ghost use Rattle.history.specs.Calls.{listCall};
+ghost use Rattle.tables.specs.Outlines.{kindsOf, planAs};
+ghost use Rattle.forms.specs.ListEntries.{checkChange, passed};
+
+// A change list, under its table.
+pub fn check_list(table: &[u8], list: &[u8]) -> Answer
+    ensures { λ r. ⌜ r ≡ told (listCall (now (table .entry)) (now (list .entry))) ⌝ }
+{
+    let known = outline(table);
+    let answer = known.answer;
+    if answer.code != 0 {
+        return answer;
+    }
+    let x = known.x;
+    let y = known.y;
+    let count = known.count;
+    let kinds = known.kinds;
+    check_list_under(x, y, &kinds[..count], list)
+}
+
+// The same, under what is known of the table.
+pub fn check_list_under(x: u8, y: u8, kinds: &[u8], list: &[u8]) -> Answer
+    requires { ⌜ length (now kinds) ≤ 1024 ⌝ }
+    ensures { λ r. ⌜ r ≡ told (readList (planAs x y (now (kinds .entry))) (now (list .entry))) ⌝ }
+{
+    if !is_whole(list, 13) {
+        return refused(1);
+    }
+    if list[4] != 1 {
+        return refused(2);
+    }
+    if !is_under(list, x, y) {
+        return refused(9);
+    }
+    let count = octets::get_at(list, 15, 2) as usize;
+    check_entries(kinds, count, &list[17..])
+}
+
+// As many entries as are counted fill the bytes.
+fn check_entries(kinds: &[u8], count: usize, entries: &[u8]) -> Answer
+    requires { ⌜ length (now kinds) ≤ 1024 ⌝ }
+    ensures { λ r. ⌜ r ≡ told (readEntries (kindsOf (now (kinds .entry))) 0 count (now (entries .entry))) ⌝ }
+{
+    let mut at: usize = 0;
+    let mut low: usize = 0;
+    let mut left = count;
+    while 0 < left {
+        let entry = check_entry(kinds, low, entries, at);
+        match entry {
+            Passed::Refused(answer) => {
+                return answer;
+            }
+            Passed::Entry { object, next } => {
+                low = object + 1;
+                at = next;
+            }
+        }
+        left -= 1;
+    }
+    if at != entries.len() {
+        return refused(8);
+    }
+    accepted()
+}
+
+// What checking an entry gives: an answer that refuses, or the entry's object and the place after it.
+pub enum Passed {
+    Refused(Answer),
+    Entry { object: usize, next: usize },
+}
+
+// The entry at a place, of an object from low on.
+fn check_entry(kinds: &[u8], low: usize, entries: &[u8], at: usize) -> Passed
+    requires { ⌜ (at ≤ length (now entries)) × (length (now kinds) ≤ 1024) ⌝ }
+    ensures { λ r. ⌜ r ≡ passed (at + 2) (checkEntry (kindsOf (now (kinds .entry))) low (drop at (now (entries .entry))) (entryAt (kindsOf (now (kinds .entry))) (drop at (now (entries .entry))))) ⌝ }
+{
+    let left = entries.len() - at;
+    if left < 2 {
+        return Passed::Refused(refused(8));
+    }
+    let number = octets::get_at(entries, at, 2);
+    let object = number as usize;
+    if kinds.len() <= object {
+        return Passed::Refused(refused_at(13, number as u16));
+    }
+    if object < low {
+        return Passed::Refused(refused_at(14, number as u16));
+    }
+    let kind = kind_at(kinds, object);
+    let width = elements::width(kind);
+    if left - 2 < width + width {
+        return Passed::Refused(refused(8));
+    }
+    check_change(kind, number as u16, entries, at + 2)
+}
+
+// The old and the new element from a place on: each is good, and they differ.
+fn check_change(kind: Kind, object: u16, entries: &[u8], at: usize) -> Passed
+    requires { ⌜ at + (widthOf kind + widthOf kind) ≤ length (now entries) ⌝ }
+    ensures { λ r. ⌜ r ≡ passed at (checkChange (entryOf object kind (drop at (now (entries .entry))))) ⌝ }
+{
+    let width = elements::width(kind);
+    let middle = at + width;
+    let old = octets::get_at(entries, at, width);
+    let new = octets::get_at(entries, middle, width);
+    let before = elements::check_element(old, kind);
+    if let Finding::Refused(r) = before {
+        return Passed::Refused(refused_bit(r.code, object, r.bit));
+    }
+    let after = elements::check_element(new, kind);
+    if let Finding::Refused(r) = after {
+        return Passed::Refused(refused_bit(r.code, object, r.bit));
+    }
+    if old == new {
+        return Passed::Refused(refused_at(15, object));
+    }
+    Passed::Entry {
+        object: object as usize,
+        next: middle + width,
+    }
+}

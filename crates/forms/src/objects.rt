@@ -1,0 +1,30 @@
+// The objects' kinds, from their layout numbers.
+use kinds::Kind;
+ghost use mathlib.Core.Path.{_≡_};
+ghost use Prim.Native.Nat.{_+_, _*_, _≤_, _<_};
+ghost use lib.ListN.{length};
+ghost use Rattle.history.specs.Table.{kindAt};
+ghost use Rattle.history.specs.Image.{widths};
+ghost use Rattle.tables.specs.Outlines.{kindsOf};
+
+pub fn kind_at(kinds: &[u8], i: usize) -> Kind
+    requires { ⌜ i < length (now kinds) ⌝ }
+    ensures { λ r. ⌜ r ≡ kindAt (kindsOf (now (kinds .entry))) i ⌝ }
+{
+    elements::kind_numbered(kinds[i])
+}
+
+// All objects' width in bytes.
+pub fn widths_of(kinds: &[u8]) -> usize
+    requires { ⌜ length (now kinds) ≤ 1024 ⌝ }
+    ensures { λ r. ⌜ (r ≡ widths (kindsOf (now (kinds .entry)))) × (r ≤ 4096) ⌝ }
+{
+    let mut sum: usize = 0;
+    let mut i: usize = 0;
+    while i < kinds.len() {
+        let kind = kind_at(kinds, i);
+        sum += elements::width(kind);
+        i += 1;
+    }
+    sum
+}

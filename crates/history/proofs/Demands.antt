@@ -1,0 +1,216 @@
+-- Demands 2 and 3, over the calls alone: T, A, B, .. are any bytes. `done` is what a call gives where it is not refused.
+-- Assumes nothing.
+use Prim.Native.Nat.{ℕ, _+_, _^_, _≤_, _<_}
+use mathlib.Core.Path.{_≡_, sym, ap, _∙_}
+use mathlib.Core.List.{List, map}
+use mathlib.Core.Logic.{_↔_}
+use lib.ListN.{length, getD}
+use Rattle.elements.specs.Elements.{stateOf, wordOf}
+use Rattle.kinds.specs.declared.Element.{Element}
+use Rattle.octets.specs.Octets.{Bytes}
+use Rattle.history.specs.Verdict.{refused, done, then, settled}
+use Rattle.history.specs.Table.{Table, tableBytes, Plan}
+use Rattle.history.specs.Image.{Image, imageBytes}
+use Rattle.history.specs.declared.Change.the-variants.{Keep as keep}
+use Rattle.history.specs.Changes.{Changes, listBytes}
+use Rattle.history.specs.Operations.{fits, meets, zip, applied, join}
+use Rattle.history.specs.Calls.{readPlan, tableCall, imageCall, listCall, differenceCall, applyCall, joinCall, turnCall, placed, readStateCall, writeStateCall}
+use Rattle.history.specs.Legal.{LegalTable, LegalImage, LegalList}
+use Rattle.history.proofs.VerdictLaws.{Lowest, passed-up}
+use Rattle.history.proofs.OperationLaws.{one-version, keeps-version, names-old, names-meeting}
+use Rattle.history.proofs.TableLaws.{table-form, plan-fair}
+use Rattle.history.proofs.ImageLaws.{image-form}
+use Rattle.history.proofs.ListLaws.{list-form}
+use Rattle.history.proofs.CallLaws.{accepted-image, accepted-list, turn-is, image-accepted, list-accepted, difference-is, difference-list, difference-applies, only-difference-applies, differences-join, difference-turned, joins-associate, joined-list, turned-list, applied-image}
+use Rattle.history.proofs.AcceptedLaws.{difference-under, apply-under, write-under, image-under, list-under, join-under, two-images, taken, two-lists, list-taken, written-in}
+use Rattle.history.proofs.SizeLaws.{join-short}
+use Rattle.history.proofs.OutputLaws.{Success, succeeds}
+use Rattle.history.proofs.StateLaws.{write-read, write-other, read-write, read-is, wrote, written-image, writtenBack, AllBelow, all-written-back, states-written, states-at}
+
+-- ---- the forms: accepted exactly where they are written of something legal, which they are then read as
+
+pub table-exactly : (T : List ℕ) → Bytes T → (t : Table) → (tableCall T ≡ done t) ↔ (LegalTable t × (T ≡ tableBytes t))
+unfolding tableCall
+table-exactly T h t = table-form T h t
+
+module _ (T : List ℕ) {p : Plan} (t : readPlan T ≡ done p) where
+  pub image-exactly : (A : List ℕ) → Bytes A → (a : Image) → (imageCall T A ≡ done a) ↔ (LegalImage p a × (A ≡ imageBytes p a))
+  unfolding imageCall
+  image-exactly A h a = rw t (image-form p (plan-fair T t) A h a)
+
+  pub list-exactly : (L : List ℕ) → Bytes L → (l : Changes) → (listCall T L ≡ done l) ↔ (LegalList p l × (L ≡ listBytes p l))
+  unfolding listCall
+  list-exactly L h l = rw t (list-form p (plan-fair T t) L h l)
+
+-- ---- demand 3
+
+-- two accepted images have a list, which is accepted
+pub has-difference : (T A B : List ℕ) {a b : Image} → Bytes A → Bytes B → imageCall T A ≡ done a → imageCall T B ≡ done b
+    → (L : List ℕ) × (differenceCall T A B ≡ done L) × (l : Changes) × (listCall T L ≡ done l)
+has-difference T A B ha hb ea eb =
+    let t = image-under T A ea .reads in
+    let a = accepted-image T t A ha ea in
+    let b = accepted-image T t B hb eb in
+    let d = difference-is T t a b in
+    let l = difference-list T t a b d in
+    (_, d, l .list, list-accepted T t l)
+
+-- the list from A to B turns A into B
+pub apply-of-difference : (T A B : List ℕ) {L : List ℕ} → Bytes A → Bytes B → differenceCall T A B ≡ done L → applyCall T A L ≡ done B
+apply-of-difference T A B ha hb e =
+    let t = difference-under T A B e .reads in
+    let f = two-images T t A B ha hb e in
+    difference-applies T t (f .0) (f .1) (one-version (f .0 .legal) (f .1 .legal)) e
+
+-- .. and no other accepted list does
+pub only-list : (T A L : List ℕ) {B : List ℕ} → Bytes A → Bytes L → applyCall T A L ≡ done B → differenceCall T A B ≡ done L
+only-list T A L ha hl e =
+    let t = apply-under T A L e .reads in
+    let f = taken T t A L ha hl e in
+    only-difference-applies T t (f .0) (f .1) e
+
+-- the list from A to B joined with the list from B to C is the list from A to C
+pub join-of-differences : (T A B C : List ℕ) {L M : List ℕ} → Bytes A → Bytes B → Bytes C → differenceCall T A B ≡ done L → differenceCall T B C ≡ done M
+    → joinCall T L M ≡ differenceCall T A C
+join-of-differences T A B C ha hb hc e g =
+    let t = difference-under T A B e .reads in
+    let f = two-images T t A B ha hb e in
+    differences-join T t (f .0) (f .1) (two-images T t B C hb hc g .1) e g
+
+-- turned back, the list from A to B is the list from B to A
+pub turned-difference : (T A B : List ℕ) {L : List ℕ} → Bytes A → Bytes B → differenceCall T A B ≡ done L → turnCall T L ≡ differenceCall T B A
+turned-difference T A B ha hb e =
+    let t = difference-under T A B e .reads in
+    let f = two-images T t A B ha hb e in
+    difference-turned T t (f .0) (f .1) e
+
+-- two lists that A takes in turn join to the list from A to the last image, which A takes with the same result
+pub two-lists-in-turn : (T A L M : List ℕ) {B C : List ℕ} → Bytes A → Bytes L → Bytes M → applyCall T A L ≡ done B → applyCall T B M ≡ done C
+    → (joinCall T L M ≡ differenceCall T A C) × ((K : List ℕ) → joinCall T L M ≡ done K → applyCall T A K ≡ done C)
+two-lists-in-turn T A L M {B} ha hl hm x y =
+    let t = apply-under T A L x .reads in
+    let f = taken T t A L ha hl x in
+    let q = applied-image T t (f .0) (f .1) x in
+    let b = q .0 in
+    let m = list-taken T t B M b hm y in
+    let r = applied-image T t b m y in
+    let c = r .0 in
+    let v = keeps-version (f .1 .legal) (f .0 .legal) (q .1) ∙ keeps-version (m .legal) (b .legal) (r .1) in
+    let j = differences-join T t (f .0) b c (only-difference-applies T t (f .0) (f .1) x) (only-difference-applies T t b m y) in
+    (j, (λ K e. difference-applies T t (f .0) c v (sym j ∙ e)))
+
+-- three lists that A takes in turn join to the list from A to the last image, whichever pair is joined first
+pub three-lists : (T A L M N : List ℕ) {B C D : List ℕ} → Bytes A → Bytes L → Bytes M → Bytes N
+    → applyCall T A L ≡ done B → applyCall T B M ≡ done C → applyCall T C N ≡ done D
+    → (then (joinCall T L M) (λ K. joinCall T K N) ≡ differenceCall T A D) × (then (joinCall T M N) (λ K. joinCall T L K) ≡ differenceCall T A D)
+three-lists T A L M N {B} {C} ha hl hm hn x y z =
+    let t = apply-under T A L x .reads in
+    let f = taken T t A L ha hl x in
+    let b = applied-image T t (f .0) (f .1) x .0 in
+    let m = list-taken T t B M b hm y in
+    let c = applied-image T t b m y .0 in
+    joins-associate T t (f .0) (f .1) m (list-taken T t C N c hn z) x y z
+
+-- what is given is accepted: the result, the join, the list turned back
+pub applied-accepted : (T A L : List ℕ) {B : List ℕ} → Bytes A → Bytes L → applyCall T A L ≡ done B → (b : Image) × (imageCall T B ≡ done b)
+applied-accepted T A L ha hl e =
+    let t = apply-under T A L e .reads in
+    let f = taken T t A L ha hl e in
+    let b = applied-image T t (f .0) (f .1) e .0 in
+    (b .image, image-accepted T t b)
+
+pub join-accepted : (T L M : List ℕ) {K : List ℕ} → Bytes L → Bytes M → joinCall T L M ≡ done K → (k : Changes) × (listCall T K ≡ done k)
+join-accepted T L M hl hm e =
+    let t = join-under T L M e .reads in
+    let f = two-lists T t L M hl hm e in
+    let k = joined-list T t (f .0) (f .1) e .0 in
+    (k .list, list-accepted T t k)
+
+pub turned-accepted : (T L : List ℕ) {l : Changes} → Bytes L → listCall T L ≡ done l → (K : List ℕ) × (turnCall T L ≡ done K) × (k : Changes) × (listCall T K ≡ done k)
+turned-accepted T L hl e =
+    let t = list-under T L e .reads in
+    let l = accepted-list T t L hl e in
+    let q = turn-is T t l in
+    let k = turned-list T t l q in
+    (_, q, k .list, list-accepted T t k)
+
+-- a join is never longer than the two lists together
+pub join-not-longer : (T L M : List ℕ) {K : List ℕ} → Bytes L → Bytes M → joinCall T L M ≡ done K → length K ≤ length L + length M
+join-not-longer T L M hl hm e =
+    let t = join-under T L M e .reads in
+    let f = two-lists T t L M hl hm e in
+    join-short T t (f .0) (f .1) e
+
+-- with outputs that have room: both calls succeed, write their front and leave the rest
+pub difference-then-apply : (T A B out out′ : List ℕ) {L : List ℕ} → Bytes A → Bytes B → differenceCall T A B ≡ done L → length L ≤ length out → length B ≤ length out′
+    → Success L out (settled (differenceCall T A B) out) × Success B out′ (settled (applyCall T A L) out′)
+difference-then-apply T A B out out′ ha hb e r r′ = (succeeds out e r, succeeds out′ (apply-of-difference T A B ha hb e) r′)
+
+-- ---- what a refusal names
+
+-- 18: the lowest object whose old element is not the image's
+pub names-lowest-old : (T A L : List ℕ) {a : Image} {l : Changes} {j bit : ℕ} → imageCall T A ≡ done a → listCall T L ≡ done l
+    → applyCall T A L ≡ refused 18 j bit → Lowest fits keep 0 (l .each) (a .words) j × (bit ≡ 255)
+unfolding imageCall listCall applyCall
+names-lowest-old T A L {a} {l} ea el e =
+    let t = image-under T A ea .reads in
+    names-old l a (passed-up (applied l a) _ (rw (t, rw t at ea, rw t at el) at e))
+
+-- 20: the lowest object whose new element in the first is not its old one in the second
+pub names-lowest-meeting : (T L M : List ℕ) {l m : Changes} {j bit : ℕ} → listCall T L ≡ done l → listCall T M ≡ done m
+    → joinCall T L M ≡ refused 20 j bit → Lowest meets keep keep (l .each) (m .each) j × (bit ≡ 255)
+unfolding listCall joinCall
+names-lowest-meeting T L M {l} {m} el em e =
+    let t = list-under T L el .reads in
+    names-meeting l m (passed-up (join l m) _ (rw (t, rw t at el, rw t at em) at e))
+
+-- ---- demand 2, on images
+
+-- a state written is read
+pub write-then-read : (T A : List ℕ) (i : ℕ) (e : Element) (position : ℕ) {B : List ℕ} → Bytes A → position < 2 ^ 32
+    → writeStateCall T A i e position ≡ done B → readStateCall T B i ≡ done e
+write-then-read T A i e position ha s q =
+    let t = write-under T A i e position q .reads in
+    write-read T t (written-in T t A i e position ha q) i e position s q
+
+-- the others stay, refusals too
+pub others-stay : (T A : List ℕ) (i : ℕ) (e : Element) (position : ℕ) {B : List ℕ} → Bytes A → position < 2 ^ 32
+    → writeStateCall T A i e position ≡ done B → (j : ℕ) → (j ≡ i → ⊥) → readStateCall T B j ≡ readStateCall T A j
+others-stay T A i e position ha s q =
+    let t = write-under T A i e position q .reads in
+    write-other T t (written-in T t A i e position ha q) i e position s q
+
+-- what was read, written at the image's own position, gives the image
+pub read-then-write : (T A : List ℕ) (i : ℕ) {a : Image} {e : Element} → Bytes A → imageCall T A ≡ done a → readStateCall T A i ≡ done e
+    → writeStateCall T A i e (a .position) ≡ done A
+read-then-write T A i {a} {e} ha ea q =
+    let t = image-under T A ea .reads in
+    let x = accepted-image T t A ha ea in
+    let same : a ≡ x .image = cc (image-accepted T t x) in
+    ap (λ (b : Image). writeStateCall T A i e (b .position)) same ∙ read-write T t x i e q
+
+-- .. of any objects in turn, and so of all
+pub all-read-then-written : (T A is : List ℕ) {p : Plan} {a : Image} → Bytes A → readPlan T ≡ done p → imageCall T A ≡ done a → AllBelow (length (p .kinds)) is
+    → writtenBack T (a .position) A is ≡ done A
+all-read-then-written T A is {p} {a} ha t ea h =
+    let x = accepted-image T t A ha ea in
+    let same : a ≡ x .image = cc (image-accepted T t x) in
+    ap (λ (b : Image). writtenBack T (b .position) A is) same ∙ all-written-back T t x is h
+
+-- the states of all objects, as the calls read them, written as an image give the image
+pub image-of-states : (T A : List ℕ) {p : Plan} {a : Image} → Bytes A → readPlan T ≡ done p → imageCall T A ≡ done a
+    → (imageBytes p (record { version = a .version; position = a .position; words = map wordOf (zip stateOf (p .kinds) (a .words)) }) ≡ A)
+    × ((i : ℕ) (d : Element) → i < length (p .kinds) → readStateCall T A i ≡ done (getD (zip stateOf (p .kinds) (a .words)) i d))
+image-of-states T A {p} {a} ha t ea =
+    let x = accepted-image T t A ha ea in
+    let same : x .image ≡ a = cc (image-accepted T t x) in
+    (rw same at (states-written T t x), (λ i d h. rw (← same) (read-is T t x i h ∙ ap done (sym (states-at d (x .legal .words) i h)))))
+
+-- the new image has the object's new element, the new position, and all other elements as they were
+pub written-is : (T A : List ℕ) (i : ℕ) (e : Element) (position : ℕ) {a : Image} {B : List ℕ} → Bytes A → position < 2 ^ 32 → imageCall T A ≡ done a
+    → writeStateCall T A i e position ≡ done B → imageCall T B ≡ done (placed a i (wordOf e) position)
+written-is T A i e position {a} ha s ea q =
+    let t = image-under T A ea .reads in
+    let x = accepted-image T t A ha ea in
+    let same : x .image ≡ a = cc (image-accepted T t x) in
+    image-accepted T t (written-image T t x i e position s (wrote T t x i e position q)) ∙ ap (λ (b : Image). done (placed b i (wordOf e) position)) same

@@ -1,0 +1,101 @@
+-- What is found of an element and of a state: the one place that looks into the layouts' crates.
+-- Assumes nothing.
+use Prim.Native.Nat.{ℕ, zero, suc, _+_, _*_, _%_, _^_, _≤_, _<_}
+use native.Mathlib.Omega.{arith}
+use native.Mathlib.Nat.{pow-suc}
+use mathlib.Core.Path.{_≡_, refl, sym, ap, _∙_}
+use mathlib.Core.Bool.{Bool, true, false}
+use mathlib.Core.List.{List, [], _∷_}
+use mathlib.Core.Logic.{_⊎_, inl, inr}
+use lib.Dec.{eqb, leb, ltb}
+use lib.Pow.{pow-add, pow-pos}
+use borrow.Author.Tests.{eq-eqb, lt-ltb, ltb-true, eqb-true}
+use Rattle.rows.specs.Fields.{refusal}
+use Rattle.rows.specs.declared.Finding.{Finding}
+use Rattle.kinds.specs.Kinds.{layoutNo, widthOf, kindIn}
+use Rattle.elements.specs.Elements.{sameKind, elementCheck, stateOf, wordOf}
+use Rattle.kinds.specs.declared.Kind.{Kind}
+use Rattle.kinds.specs.declared.Element.{Element}
+use Rattle.elements.proofs.Covering.{cover, kind-same}
+use Rattle.elements.proofs.Laws.{word-fits, state-kind as own-kind, state-word-state, word-state-word}
+use Rattle.elements.proofs.Findings.{Found, element-found, zero-found, state-found as own-found}
+use Rattle.history.specs.Verdict.{Verdict, done}
+use Rattle.history.specs.Image.{element, _of_⨾_}
+use Rattle.history.specs.Legal.{isAccepted, admits}
+use Rattle.history.proofs.VerdictLaws.{all, left, right}
+
+-- ---- one element
+
+pub was-accepted : {A : Type 0} (v : Finding) (i : ℕ) (r : Verdict A) {a : A} → (v of i ⨾ r) ≡ done a → (isAccepted v ≡ true) × (r ≡ done a)
+was-accepted Finding.Accepted i r e = (refl, e)
+was-accepted (Finding.Refused x) i r e = absurd (let z : _≡_ {A = ℕ} 0 1 = cc in omega arith)
+
+pub is-accepted : {A : Type 0} (v : Finding) (i : ℕ) (r : Verdict A) → isAccepted v ≡ true → (v of i ⨾ r) ≡ r
+is-accepted Finding.Accepted i r e = refl
+is-accepted (Finding.Refused x) i r e = absurd (let z : _≡_ {A = ℕ} 0 1 = cc in omega arith)
+
+pub admits-fits : (k : Kind) (w : ℕ) → admits k w ≡ true → w < 256 ^ widthOf k
+admits-fits k w h = ltb-true w (256 ^ widthOf k) (left (ltb w (256 ^ widthOf k)) _ h)
+
+pub admits-accepted : (k : Kind) (w : ℕ) → admits k w ≡ true → isAccepted (element k w) ≡ true
+admits-accepted k w h = right (ltb w (256 ^ widthOf k)) _ h
+
+pub width-few : (k : Kind) → widthOf k ≤ 4
+width-few k = omega (arith, cover k .narrow)
+
+-- ---- round trips
+
+pow-256 : (n : ℕ) → 256 ^ n ≡ 2 ^ (8 * n)
+pow-256 zero = refl
+pow-256 (suc n) =
+    let e : 8 * suc n ≡ 8 * n + 8 = omega arith in
+    pow-suc 256 n ∙ ap (λ (m : ℕ). m * 256) (pow-256 n) ∙ sym (ap (λ (m : ℕ). 2 ^ m) e ∙ pow-add 2 (8 * n) 8)
+
+accepted : (v : Finding) → isAccepted v ≡ true → v ≡ Finding.Accepted
+accepted Finding.Accepted e = refl
+accepted (Finding.Refused r) e = absurd (let z : _≡_ {A = ℕ} 0 1 = cc in omega arith)
+
+-- the number of the state that a number is read as
+pub word-again : (k : Kind) (w : ℕ) → admits k w ≡ true → wordOf (stateOf k w) ≡ w
+unfolding element
+word-again k w h =
+    let fits : w < 2 ^ (8 * widthOf k) = rw (pow-256 (widthOf k)) at (admits-fits k w h) in
+    word-state-word k w fits (accepted (elementCheck k w) (admits-accepted k w h))
+
+-- the state of an accepted number, and its kind
+pub state-again : (k : Kind) (e : Element) → kindIn e ≡ k → stateOf k (wordOf e) ≡ e
+state-again k e s = ap (λ (j : Kind). stateOf j (wordOf e)) (sym s) ∙ state-word-state e
+
+pub state-kind : (k : Kind) (w : ℕ) → kindIn (stateOf k w) ≡ k
+state-kind k w = own-kind k w
+
+pub state-admitted : (k : Kind) (e : Element) → kindIn e ≡ k → isAccepted (element k (wordOf e)) ≡ true → admits k (wordOf e) ≡ true
+state-admitted k e s h =
+    let fits : wordOf e < 256 ^ widthOf k = rw (← s, pow-256 (widthOf (kindIn e))) (word-fits e) in
+    all (lt-ltb _ _ fits) h
+
+-- 0, without data, is an element of every kind
+pub zero-admitted : (k : Kind) → admits k 0 ≡ true
+unfolding element
+zero-admitted k =
+    let small : 0 < 256 ^ widthOf k = rw (pow-256 (widthOf k)) (pow-pos (8 * widthOf k)) in
+    all (lt-ltb _ _ small) (ap isAccepted (zero-found k))
+
+-- kinds are the same where they are told to be
+pub same-kind : (j k : Kind) → sameKind j k ≡ true → j ≡ k
+same-kind j k e = kind-same j k (eqb-true _ _ e)
+
+pub is-same-kind : (j k : Kind) → j ≡ k → sameKind j k ≡ true
+is-same-kind j k e = eq-eqb (layoutNo j) (layoutNo k) (ap layoutNo e)
+
+-- ---- codes
+
+-- a state's number is accepted, or without data with another bit (12): no other code is left
+pub state-found : (k : Kind) (e : Element) → kindIn e ≡ k → (element k (wordOf e) ≡ Finding.Accepted) ⊎ (element k (wordOf e) ≡ Finding.Refused (refusal 12 0))
+unfolding element
+state-found k e s = rw (← s) (own-found e)
+
+-- a refused element's code is 10, 11 or 12
+pub code-found : (k : Kind) (w : ℕ) → Found (element k w)
+unfolding element
+code-found k w = element-found k w

@@ -1,0 +1,118 @@
+-- The paper's table, images and lists, as bytes: the calls give what it prints, each code is given where it should be, and its trap about joins.
+-- Assumes nothing.
+use Prim.Native.Nat.{ℕ}
+use mathlib.Core.Path.{_≡_, refl}
+use mathlib.Core.List.{List, [], _∷_, _++_}
+use mathlib.Core.Bool.{true, false}
+use lib.ListN.{take, set, replicate}
+use Rattle.rows.specs.Table.{table, layouts}
+use Rattle.elements.specs.Elements.{carried, kindOf, datRule, elementCheck, stateOf, wordOf}
+use Rattle.kinds.specs.declared.Element.{Element}
+use Rattle.cases.specs.declared.ChangerAspect.{ChangerAspect}
+use Rattle.history.specs.declared.Standing.{Standing}
+use Rattle.octets.specs.Octets.{bytes}
+use Rattle.history.specs.Verdict.{refused, done, settled, numbers}
+use Rattle.history.specs.Form.{formBytes, readForm}
+use Rattle.history.specs.Table.{versionGood, catalogueGood, labelLimit, labelGood, checkObject, readTable, planOf}
+use Rattle.history.specs.Image.{imageVersionGood, element, imageBytes, readImage}
+use Rattle.history.specs.declared.Change.the-variants.{Keep as keep, Swap as swap}
+use Rattle.history.specs.Changes.{listVersion, listBytes, checkEntry, readList}
+use Rattle.history.specs.Operations.{difference, applied, join, turned}
+use Rattle.history.specs.Calls.{readPlan, tableCall, imageCall, listCall, differenceCall, applyCall, joinCall, turnCall, readStateCall, writeStateCall, labelCall}
+use Rattle.history.specs.Standing.{fresh, counted, receiveCall}
+
+abbrev T : List ℕ
+T = 0 ∷ 0 ∷ 0 ∷ 0x14 ∷ 1 ∷ 1 ∷ 0 ∷ 0 ∷ 2 ∷ 4 ∷ 6 ∷ 0x41 ∷ 0x41 ∷ 0x3A ∷ 0x43 ∷ 0x56 ∷ 0x31 ∷ 2 ∷ 5 ∷ 0x41 ∷ 0x41 ∷ 0x3A ∷ 0x53 ∷ 0x31 ∷ []
+
+abbrev A : List ℕ
+A = 0 ∷ 0 ∷ 0 ∷ 0x0A ∷ 1 ∷ 1 ∷ 0 ∷ 0 ∷ 0 ∷ 0 ∷ 7 ∷ 0 ∷ 0x01 ∷ 0x03 ∷ []
+
+abbrev B : List ℕ
+B = 0 ∷ 0 ∷ 0 ∷ 0x0A ∷ 1 ∷ 1 ∷ 0 ∷ 0 ∷ 0 ∷ 0 ∷ 8 ∷ 0 ∷ 0x31 ∷ 0x03 ∷ []
+
+abbrev C : List ℕ
+C = 0 ∷ 0 ∷ 0 ∷ 0x0A ∷ 1 ∷ 1 ∷ 0 ∷ 0 ∷ 0 ∷ 0 ∷ 9 ∷ 0 ∷ 0x01 ∷ 0x05 ∷ []
+
+abbrev AB : List ℕ
+AB = 0 ∷ 0 ∷ 0 ∷ 0x13 ∷ 1 ∷ 1 ∷ 0 ∷ 0 ∷ 0 ∷ 0 ∷ 7 ∷ 0 ∷ 0 ∷ 0 ∷ 8 ∷ 0 ∷ 1 ∷ 0 ∷ 0 ∷ 0 ∷ 0x01 ∷ 0 ∷ 0x31 ∷ []
+
+abbrev BC : List ℕ
+BC = 0 ∷ 0 ∷ 0 ∷ 0x17 ∷ 1 ∷ 1 ∷ 0 ∷ 0 ∷ 0 ∷ 0 ∷ 8 ∷ 0 ∷ 0 ∷ 0 ∷ 9 ∷ 0 ∷ 2 ∷ 0 ∷ 0 ∷ 0 ∷ 0x31 ∷ 0 ∷ 0x01 ∷ 0 ∷ 1 ∷ 0x03 ∷ 0x05 ∷ []
+
+abbrev AC : List ℕ
+AC = 0 ∷ 0 ∷ 0 ∷ 0x11 ∷ 1 ∷ 1 ∷ 0 ∷ 0 ∷ 0 ∷ 0 ∷ 7 ∷ 0 ∷ 0 ∷ 0 ∷ 9 ∷ 0 ∷ 1 ∷ 0 ∷ 1 ∷ 0x03 ∷ 0x05 ∷ []
+
+-- as A, but for object 0's element; and with object 1's new one
+abbrev X : List ℕ
+X = 0 ∷ 0 ∷ 0 ∷ 0x0A ∷ 1 ∷ 1 ∷ 0 ∷ 0 ∷ 0 ∷ 0 ∷ 7 ∷ 0 ∷ 0x11 ∷ 0x03 ∷ []
+
+abbrev Y : List ℕ
+Y = 0 ∷ 0 ∷ 0 ∷ 0x0A ∷ 1 ∷ 1 ∷ 0 ∷ 0 ∷ 0 ∷ 0 ∷ 9 ∷ 0 ∷ 0x11 ∷ 0x05 ∷ []
+
+-- two objects of one type and label
+abbrev twice : List ℕ
+twice = 0 ∷ 0 ∷ 0 ∷ 0x0F ∷ 1 ∷ 1 ∷ 0 ∷ 0 ∷ 2 ∷ 2 ∷ 3 ∷ 0x41 ∷ 0x3A ∷ 0x42 ∷ 2 ∷ 3 ∷ 0x41 ∷ 0x3A ∷ 0x42 ∷ []
+
+pub printed : (tableCall T ≡ done (record { version = 1; x = 1; y = 0; objects = record { type = 4; label = 0x41 ∷ 0x41 ∷ 0x3A ∷ 0x43 ∷ 0x56 ∷ 0x31 ∷ [] } ∷ record { type = 2; label = 0x41 ∷ 0x41 ∷ 0x3A ∷ 0x53 ∷ 0x31 ∷ [] } ∷ [] }))
+    × (imageCall T A ≡ done (record { version = 1; position = 7; words = 0x0001 ∷ 0x03 ∷ [] }))
+    × (listCall T AB ≡ done (record { from = 7; to = 8; each = swap 0x0001 0x0031 ∷ keep ∷ [] }))
+    × (differenceCall T A B ≡ done AB)
+    × (differenceCall T A C ≡ done AC)
+    × (differenceCall T B C ≡ done BC)
+    × (applyCall T A AB ≡ done B)
+    × (applyCall T A AC ≡ done C)
+    × (joinCall T AB BC ≡ done AC)
+    × (turnCall T AB ≡ differenceCall T B A)
+    × (readStateCall T A 1 ≡ done (Element.ChangerSignal (record { current = true; aspect = ChangerAspect.FixedT })))
+    × (writeStateCall T A 1 (Element.ChangerSignal (record { current = true; aspect = ChangerAspect.FixedC })) 9 ≡ done C)
+    × (labelCall T 1 ≡ done (record { offset = 19; size = 5 }))
+    × (settled (differenceCall T A B) (replicate 23 0 ++ (5 ∷ [])) ≡ record { answer = numbers 0 65535 255 23; output = AB ++ (5 ∷ []) })
+unfolding table layouts datRule elementCheck stateOf wordOf bytes settled formBytes readForm versionGood catalogueGood labelLimit carried kindOf labelGood checkObject readTable planOf imageVersionGood element imageBytes readImage listVersion listBytes checkEntry readList difference applied join turned readPlan tableCall imageCall listCall differenceCall applyCall joinCall turnCall readStateCall writeStateCall labelCall
+printed = (refl, refl, refl, refl, refl, refl, refl, refl, refl, refl, refl, refl, refl, refl)
+
+pub each-code : (tableCall (take 3 T) ≡ refused 1 65535 255)
+    × (tableCall (set T 4 2) ≡ refused 2 65535 255)
+    × (tableCall (set T 6 1) ≡ refused 3 65535 255)
+    × (tableCall (set T 7 4) ≡ refused 4 65535 255)
+    × (tableCall (set T 9 10) ≡ refused 5 0 255)
+    × (tableCall (set T 10 33) ≡ refused 6 0 255)
+    × (tableCall (set T 21 0x41) ≡ refused 6 1 255)
+    × (tableCall twice ≡ refused 7 1 255)
+    × (tableCall (set T 8 3) ≡ refused 8 65535 255)
+    × (listCall T (set AB 16 0) ≡ refused 8 65535 255)
+    × (imageCall T (set A 5 2) ≡ refused 9 65535 255)
+    × (imageCall T (set A 13 0x09) ≡ refused 10 1 3)
+    × (imageCall T (set A 11 0x14) ≡ refused 11 0 10)
+    × (imageCall T (set A 13 0x02) ≡ refused 12 1 0)
+    × (listCall T (set AB 18 2) ≡ refused 13 2 255)
+    × (readStateCall T A 2 ≡ refused 13 2 255)
+    × (listCall T (set BC 24 0) ≡ refused 14 0 255)
+    × (listCall T (set AB 22 1) ≡ refused 15 0 255)
+    × (applyCall T C AB ≡ refused 16 65535 255)
+    × (applyCall T A BC ≡ refused 17 65535 255)
+    × (applyCall T (set C 10 8) BC ≡ refused 18 0 255)
+    × (joinCall T AB AB ≡ refused 19 65535 255)
+    × (joinCall T BC (set BC 10 9) ≡ refused 20 0 255)
+    × (settled (differenceCall T A B) (0 ∷ []) ≡ record { answer = numbers 21 65535 255 23; output = 0 ∷ [] })
+    × (writeStateCall T A 0 (Element.ChangerSignal (record { current = true; aspect = ChangerAspect.FixedT })) 9 ≡ refused 22 0 255)
+    × (writeStateCall T A 1 (Element.ChangerSignal (record { current = false; aspect = ChangerAspect.FixedT })) 9 ≡ refused 12 1 0)
+unfolding table layouts datRule elementCheck stateOf wordOf bytes settled formBytes readForm versionGood catalogueGood labelLimit carried kindOf labelGood checkObject readTable planOf imageVersionGood element imageBytes readImage listVersion listBytes checkEntry readList difference applied join turned readPlan tableCall imageCall listCall differenceCall applyCall joinCall turnCall readStateCall writeStateCall
+each-code = (refl, refl, refl, refl, refl, refl, refl, refl, refl, refl, refl, refl, refl, refl, refl, refl, refl, refl, refl, refl, refl, refl, refl, refl, refl, refl)
+
+-- "A join that drops an object also applies to images that refuse the steps": the join of AB and BC drops object 0
+pub trap : (joinCall T AB BC ≡ done AC) × (applyCall T X AB ≡ refused 18 0 255) × (applyCall T X AC ≡ done Y)
+unfolding table layouts datRule elementCheck stateOf wordOf bytes formBytes readForm versionGood catalogueGood labelLimit carried kindOf labelGood checkObject readTable planOf imageVersionGood element imageBytes readImage listVersion listBytes checkEntry readList applied join readPlan applyCall joinCall
+trap = (refl, refl, refl)
+
+-- a tally for each call: applied, late (with no room too), gap, and others, 21 among them; a full one stays
+abbrev brim : Standing
+brim = record { applied = 4294967295; late = 1; gap = 2; other = 3 }
+
+pub received-each : (receiveCall T A AB (A ++ (5 ∷ [])) fresh ≡ record { answer = numbers 0 65535 255 14; output = B ++ (5 ∷ []); standing = record { applied = 1; late = 0; gap = 0; other = 0 } })
+    × (receiveCall T C AB [] fresh ≡ record { answer = numbers 16 65535 255 0; output = []; standing = record { applied = 0; late = 1; gap = 0; other = 0 } })
+    × (receiveCall T A BC B fresh ≡ record { answer = numbers 17 65535 255 0; output = B; standing = record { applied = 0; late = 0; gap = 1; other = 0 } })
+    × (receiveCall T X AB B fresh ≡ record { answer = numbers 18 0 255 0; output = B; standing = record { applied = 0; late = 0; gap = 0; other = 1 } })
+    × (receiveCall T A AB (take 13 B) fresh ≡ record { answer = numbers 21 65535 255 14; output = take 13 B; standing = record { applied = 0; late = 0; gap = 0; other = 1 } })
+    × (receiveCall T A AB B brim .standing ≡ brim)
+unfolding table layouts datRule elementCheck stateOf wordOf bytes settled formBytes readForm versionGood catalogueGood labelLimit carried kindOf labelGood checkObject readTable planOf imageVersionGood element imageBytes readImage listVersion listBytes checkEntry readList applied readPlan applyCall fresh counted receiveCall
+received-each = (refl, refl, refl, refl, refl, refl)

@@ -1,0 +1,75 @@
+-- A form is read exactly where it is written, and as what was written.
+-- Assumes nothing.
+use Prim.Native.Nat.{ℕ, _+_, _^_, _≤_, _<_}
+use native.Mathlib.Omega.{arith}
+use mathlib.Core.Path.{_≡_, refl, _∙_}
+use mathlib.Core.Bool.{Bool, true}
+use mathlib.Core.List.{List, _∷_}
+use lib.Dec.{eqb, leb}
+use lib.ListN.{length, take, drop, getD, length-append, length-drop}
+use lib.Seq.{drop-cons}
+use borrow.Author.Tests.{eq-eqb, le-leb, leb-true, eqb-true}
+use Rattle.octets.specs.Octets.{bytes, number, Bytes}
+use Rattle.history.specs.Verdict.{done}
+use Rattle.history.specs.Form.{Form, formBytes, readForm}
+use Rattle.octets.proofs.NumberLaws.{length-bytes, read-bytes, drop-is, cut}
+use Rattle.history.proofs.VerdictLaws.{held}
+
+pub record Formed (least : ℕ) (good : ℕ → Bool) (b : List ℕ) (f : Form) : Type 0 where
+  pub version : good (f .version) ≡ true
+  pub enough : least ≤ 3 + length (f .contents)
+  pub whole : b ≡ formBytes f
+  pub inside : Bytes (f .contents)
+  pub small : (f .version < 256) × (f .x < 256) × (f .y < 256)
+
+three : (b : List ℕ) → 7 ≤ length b → drop 4 b ≡ getD b 4 0 ∷ getD b 5 0 ∷ getD b 6 0 ∷ drop 7 b
+three b h = drop-cons b 4 0 (omega arith) ∙ rw (drop-cons b 5 0 (omega arith), drop-cons b 6 0 (omega arith))
+
+pub form-is : (least : ℕ) (good : ℕ → Bool) (b : List ℕ) {f : Form} → 3 ≤ least → Bytes b → readForm least good b ≡ done f → Formed least good b f
+unfolding readForm formBytes
+form-is least good b {f} l h e =
+    let p₁ = held (leb 4 (length b)) _ _ _ _ e in
+    let p₂ = held (eqb (length b) (4 + number (take 4 b))) _ _ _ _ (p₁ .1) in
+    let p₃ = held (leb least (number (take 4 b))) _ _ _ _ (p₂ .1) in
+    let p₄ = held (good (getD b 4 0)) _ _ _ _ (p₃ .1) in
+    let f-is : f ≡ record { version = getD b 4 0; x = getD b 5 0; y = getD b 6 0; contents = drop 7 b } = cc (p₄ .1) in
+    let long : length b ≡ 4 + number (take 4 b) = eqb-true _ _ (p₂ .0) in
+    let more : least ≤ number (take 4 b) = leb-true _ _ (p₃ .0) in
+    let size : number (take 4 b) ≡ 3 + length (drop 7 b) = simp length-drop (omega arith) in
+    rw f-is (record {
+      version = p₄ .0;
+      enough = omega arith;
+      whole = cut 4 b (omega arith) h ∙ rw (size, three b (omega arith));
+      inside = drop-is 7 b h;
+      small = (h 4, h 5, h 6);
+    })
+
+pub form-version : (least : ℕ) (good : ℕ → Bool) (b : List ℕ) {f : Form} → readForm least good b ≡ done f → good (f .version) ≡ true
+unfolding readForm
+form-version least good b {f} e =
+    let p₁ = held (leb 4 (length b)) _ _ _ _ e in
+    let p₂ = held (eqb (length b) (4 + number (take 4 b))) _ _ _ _ (p₁ .1) in
+    let p₃ = held (leb least (number (take 4 b))) _ _ _ _ (p₂ .1) in
+    let p₄ = held (good (getD b 4 0)) _ _ _ _ (p₃ .1) in
+    let v : f .version ≡ getD b 4 0 = cc (p₄ .1) in
+    rw v (p₄ .0)
+
+form-parts : (f : Form) → (getD (formBytes f) 4 0 ≡ f .version) × (getD (formBytes f) 5 0 ≡ f .x) × (getD (formBytes f) 6 0 ≡ f .y) × (drop 7 (formBytes f) ≡ f .contents)
+unfolding formBytes bytes
+form-parts f = (refl, refl, refl, refl)
+
+form-size : (f : Form) → 3 + length (f .contents) < 2 ^ 32 → (number (take 4 (formBytes f)) ≡ 3 + length (f .contents)) × (length (formBytes f) ≡ 4 + (3 + length (f .contents)))
+unfolding formBytes
+form-size f h =
+    let c : List ℕ = f .version ∷ f .x ∷ f .y ∷ f .contents in
+    let n : ℕ = 3 + length (f .contents) in
+    (read-bytes 4 n c h, simp length-append (omega (arith, length-bytes 4 n)))
+
+pub form-reads : (least : ℕ) (good : ℕ → Bool) (f : Form) → good (f .version) ≡ true → least ≤ 3 + length (f .contents) → 3 + length (f .contents) < 2 ^ 32
+    → readForm least good (formBytes f) ≡ done f
+unfolding readForm
+form-reads least good f g l h =
+    let n : ℕ = 3 + length (f .contents) in
+    let p = form-parts f in
+    let s = form-size f h in
+    rw (s .0, s .1, le-leb 4 (4 + n) (omega arith), eq-eqb (4 + n) (4 + n) refl, le-leb least n l, p .0, g, p .1, p .2, p .3)

@@ -1,0 +1,234 @@
+-- The laws of change lists, over their meaning.
+-- Assumes nothing.
+use Prim.Native.Nat.{ℕ}
+use native.Mathlib.Omega.{arith}
+use mathlib.Core.Path.{_≡_, refl, sym, ap, ap₂, _∙_}
+use mathlib.Core.List.{List, [], _∷_, map}
+use lib.Dec.{eqb, leb}
+use borrow.Author.Tests.{eq-eqb, eqb-true, le-leb, leb-true}
+use native.Mathlib.Nat.{le-antisymm, zero-add}
+use Rattle.kinds.specs.declared.Kind.{Kind}
+use Rattle.history.specs.Verdict.{refused, done, then, refusalAt}
+use Rattle.history.specs.Table.{Plan}
+use Rattle.history.specs.Image.{Image, imageVersionGood}
+use Rattle.history.specs.declared.Change.{Change}
+use Rattle.history.specs.declared.Change.the-variants.{Keep as keep}
+use Rattle.history.specs.Changes.{Changes}
+use Rattle.history.specs.Operations.{differ, fits, after, meets, joined, back, zip, lowest, resultOf, jointOf, difference, applied, join, turned}
+use Rattle.history.specs.Legal.{admits, Every, nil, and, LegalImage, lawful, LegalList}
+use Rattle.history.proofs.VerdictLaws.{held, past, Lowest, names-lowest, refuses-lowest, Paired, none, more, paired, passes, passed, value}
+use Rattle.history.proofs.ChangeLaws.{fits-differ, after-differ, only-differ, meets-differ, joined-differ, back-differ, lawful-differ, lawful-joined, lawful-back, admits-after}
+
+-- ---- all objects
+
+fits-all : {xs ys : List ℕ} → Paired xs ys → Every fits (zip differ xs ys) xs
+fits-all none = nil
+fits-all (more {a = a} {b = b} r) = and (fits-differ a b) (fits-all r)
+
+after-all : {xs ys : List ℕ} → Paired xs ys → zip after (zip differ xs ys) xs ≡ ys
+after-all none = refl
+after-all (more {a = a} {b = b} r) = ap₂ _∷_ (after-differ a b) (after-all r)
+
+only-all : {ks : List Kind} {cs : List Change} {xs : List ℕ} → Every lawful ks cs → Every fits cs xs → cs ≡ zip differ xs (zip after cs xs)
+only-all nil nil = refl
+only-all (and {a = k} p ps) (and {a = c} {b = a} f h) = ap₂ _∷_ (only-differ k c a p f) (only-all ps h)
+
+meets-all : {xs ys zs : List ℕ} → Paired xs ys → Paired ys zs → Every meets (zip differ xs ys) (zip differ ys zs)
+meets-all none none = nil
+meets-all (more {a = a} {b = b} r) (more {b = c} s) = and (meets-differ a b c) (meets-all r s)
+
+joined-all : {xs ys zs : List ℕ} → Paired xs ys → Paired ys zs → zip joined (zip differ xs ys) (zip differ ys zs) ≡ zip differ xs zs
+joined-all none none = refl
+joined-all (more {a = a} {b = b} r) (more {b = c} s) = ap₂ _∷_ (joined-differ a b c) (joined-all r s)
+
+back-all : (xs ys : List ℕ) → map back (zip differ xs ys) ≡ zip differ ys xs
+back-all [] [] = refl
+back-all [] (y ∷ ys) = refl
+back-all (x ∷ xs) [] = refl
+back-all (x ∷ xs) (y ∷ ys) = ap₂ _∷_ (back-differ x y) (back-all xs ys)
+
+lawful-differ-all : {ks : List Kind} {xs ys : List ℕ} → Every admits ks xs → Every admits ks ys → Every lawful ks (zip differ xs ys)
+lawful-differ-all nil nil = nil
+lawful-differ-all (and {a = k} {b = a} p ps) (and {b = b} q qs) = and (lawful-differ k a b p q) (lawful-differ-all ps qs)
+
+lawful-joined-all : {ks : List Kind} {cs ds : List Change} → Every lawful ks cs → Every lawful ks ds → Every lawful ks (zip joined cs ds)
+lawful-joined-all nil nil = nil
+lawful-joined-all (and {a = k} {b = c} p ps) (and {b = d} q qs) = and (lawful-joined k c d p q) (lawful-joined-all ps qs)
+
+lawful-back-all : {ks : List Kind} {cs : List Change} → Every lawful ks cs → Every lawful ks (map back cs)
+lawful-back-all nil = nil
+lawful-back-all (and {a = k} {b = c} p ps) = and (lawful-back k c p) (lawful-back-all ps)
+
+admits-after-all : {ks : List Kind} {cs : List Change} {xs : List ℕ} → Every lawful ks cs → Every admits ks xs → Every admits ks (zip after cs xs)
+admits-after-all nil nil = nil
+admits-after-all (and {a = k} {b = c} p ps) (and {b = a} q qs) = and (admits-after k c a p q) (admits-after-all ps qs)
+
+-- ---- what an answer tells
+
+-- an application that is not refused
+pub record Takes (l : Changes) (a b : Image) : Type 0 where
+  pub place : l .from ≡ a .position
+  pub olds : Every fits (l .each) (a .words)
+  pub result : b ≡ resultOf l a
+
+-- a join that is not refused
+pub record Joins (l m k : Changes) : Type 0 where
+  pub place : l .to ≡ m .from
+  pub olds : Every meets (l .each) (m .each)
+  pub result : k ≡ jointOf l m
+
+module _ {p : Plan} where
+  pub takes : {l : Changes} {a b : Image} → LegalList p l → LegalImage p a → applied l a ≡ done b → Takes l a b
+  unfolding applied
+  takes {l} {a} {b} hl ha e =
+      let late = held (leb (a .position) (l .from)) _ _ _ _ e in
+      let gap = held (leb (l .from) (a .position)) _ _ _ _ (late .1) in
+      record {
+        place = le-antisymm (leb-true _ _ (gap .0)) (leb-true _ _ (late .0));
+        olds = passed 18 fits _ (paired (hl .each) (ha .words)) 0 (gap .1);
+        result = sym (value 18 fits _ (l .each) (a .words) 0 (gap .1));
+      }
+
+  pub joins : {l m k : Changes} → LegalList p l → LegalList p m → join l m ≡ done k → Joins l m k
+  unfolding join
+  joins {l} {m} {k} hl hm e =
+      let meet = held (eqb (l .to) (m .from)) _ _ _ _ e in
+      record {
+        place = eqb-true _ _ (meet .0);
+        olds = passed 20 meets _ (paired (hl .each) (hm .each)) 0 (meet .1);
+        result = sym (value 20 meets _ (l .each) (m .each) 0 (meet .1));
+      }
+
+pub taking : {l : Changes} {a b : Image} → Takes l a b → applied l a ≡ done b
+unfolding applied
+taking {l} {a} {b} h =
+    rw (le-leb (a .position) (l .from) (omega (arith, h .place)), le-leb (l .from) (a .position) (omega (arith, h .place)))
+    (passes 18 fits _ (h .olds) 0 ∙ ap done (sym (h .result)))
+
+pub joining : {l m k : Changes} → Joins l m k → join l m ≡ done k
+unfolding join
+joining {l} {m} {k} h = rw (eq-eqb (l .to) (m .from) (h .place)) (passes 20 meets _ (h .olds) 0 ∙ ap done (sym (h .result)))
+
+-- ---- the laws
+
+-- the list from a to b turned back
+pub turned-difference : (a b : Image) → turned (difference a b) ≡ difference b a
+unfolding difference turned
+turned-difference a b = rw (back-all (a .words) (b .words))
+
+module _ {p : Plan} where
+  -- images have one version byte
+  pub one-version : {a b : Image} → LegalImage p a → LegalImage p b → a .version ≡ b .version
+  unfolding imageVersionGood
+  one-version ha hb = eqb-true _ _ (ha .version) ∙ sym (eqb-true _ _ (hb .version))
+
+  -- the list from a to b is accepted, and turns a into b ..
+  pub difference-legal : {a b : Image} → LegalImage p a → LegalImage p b → LegalList p (difference a b)
+  unfolding difference
+  difference-legal ha hb = record { from = ha .position; to = hb .position; each = lawful-differ-all (ha .words) (hb .words) }
+
+  pub apply-difference : {a b : Image} → LegalImage p a → LegalImage p b → a .version ≡ b .version → applied (difference a b) a ≡ done b
+  unfolding difference
+  apply-difference {a} {b} ha hb v =
+      let r = paired (ha .words) (hb .words) in
+      taking (record { place = refl; olds = fits-all r; result = λ i. record { version = sym v i; position = b .position; words = sym (after-all r) i } })
+
+  -- .. and is the only accepted list that does
+  pub only-difference : {l : Changes} {a b : Image} → LegalList p l → LegalImage p a → applied l a ≡ done b → l ≡ difference a b
+  unfolding difference
+  only-difference {l} {a} {b} hl ha e =
+      let h = takes hl ha e in
+      rw (h .result) (λ i. record { from = h .place i; to = l .to; each = only-all (hl .each) (h .olds) i })
+
+  pub result-legal : {l : Changes} {a b : Image} → LegalList p l → LegalImage p a → applied l a ≡ done b → LegalImage p b
+  result-legal hl ha e =
+      let h = takes hl ha e in
+      rw (h .result) (record { version = ha .version; position = hl .to; words = admits-after-all (hl .each) (ha .words) })
+
+  -- an answer image has the form of the image given
+  pub keeps-version : {l : Changes} {a b : Image} → LegalList p l → LegalImage p a → applied l a ≡ done b → a .version ≡ b .version
+  keeps-version hl ha e = sym (ap (λ (b : Image). b .version) (takes hl ha e .result))
+
+  -- joined lists
+  pub join-differences : {a b c : Image} → LegalImage p a → LegalImage p b → LegalImage p c → join (difference a b) (difference b c) ≡ done (difference a c)
+  unfolding difference
+  join-differences {a} {b} {c} ha hb hc =
+      let r = paired (ha .words) (hb .words) in
+      let s = paired (hb .words) (hc .words) in
+      joining (record { place = refl; olds = meets-all r s; result = λ i. record { from = a .position; to = c .position; each = sym (joined-all r s) i } })
+
+  pub join-legal : {l m k : Changes} → LegalList p l → LegalList p m → join l m ≡ done k → LegalList p k
+  join-legal hl hm e = rw (joins hl hm e .result) (record { from = hl .from; to = hm .to; each = lawful-joined-all (hl .each) (hm .each) })
+
+  pub turned-legal : {l : Changes} → LegalList p l → LegalList p (turned l)
+  unfolding turned
+  turned-legal hl = record { from = hl .to; to = hl .from; each = lawful-back-all (hl .each) }
+
+-- ---- what a refusal names
+
+-- 18: the lowest object whose old element is not the image's
+pub names-old : (l : Changes) (a : Image) {j bit : ℕ} → applied l a ≡ refused 18 j bit → Lowest fits keep 0 (l .each) (a .words) j × (bit ≡ 255)
+unfolding applied
+names-old l a {j} {bit} e =
+    let late = past (leb (a .position) (l .from)) 16 65535 255 _ (omega arith) e in
+    let gap = past (leb (l .from) (a .position)) 17 65535 255 _ (omega arith) late in
+    let n = names-lowest fits keep 0 18 (resultOf l a) 0 (l .each) (a .words) gap in
+    (rw (n .object, zero-add (n .place)) (n .lowest), n .no-bit)
+
+pub refuses-old : (l : Changes) (a : Image) (j : ℕ) → l .from ≡ a .position → Lowest fits keep 0 (l .each) (a .words) j → applied l a ≡ refusalAt 18 j
+unfolding applied
+refuses-old l a j e h =
+    rw (le-leb (a .position) (l .from) (omega arith), le-leb (l .from) (a .position) (omega arith))
+    (refuses-lowest fits keep 0 18 (resultOf l a) 0 (l .each) (a .words) j h ∙ rw (zero-add j))
+
+-- 20: the lowest object whose new element in the first is not its old one in the second
+pub names-meeting : (l m : Changes) {j bit : ℕ} → join l m ≡ refused 20 j bit → Lowest meets keep keep (l .each) (m .each) j × (bit ≡ 255)
+unfolding join
+names-meeting l m {j} {bit} e =
+    let place = past (eqb (l .to) (m .from)) 19 65535 255 _ (omega arith) e in
+    let n = names-lowest meets keep keep 20 (jointOf l m) 0 (l .each) (m .each) place in
+    (rw (n .object, zero-add (n .place)) (n .lowest), n .no-bit)
+
+pub refuses-meeting : (l m : Changes) (j : ℕ) → l .to ≡ m .from → Lowest meets keep keep (l .each) (m .each) j → join l m ≡ refusalAt 20 j
+unfolding join
+refuses-meeting l m j e h =
+    rw (eq-eqb (l .to) (m .from) e) (refuses-lowest meets keep keep 20 (jointOf l m) 0 (l .each) (m .each) j h ∙ rw (zero-add j))
+
+-- ---- lists that some image takes in turn
+
+module _ {p : Plan} where
+  -- two: they join, to the list from the first image to the last, which the first image takes with the same result
+  pub join-taken : {l m : Changes} {a b c : Image} → LegalList p l → LegalList p m → LegalImage p a → applied l a ≡ done b → applied m b ≡ done c
+      → join l m ≡ done (difference a c)
+  join-taken {l} {m} {a} {b} {c} hl hm ha e f =
+      let hb = result-legal hl ha e in
+      rw (only-difference hl ha e, only-difference hm hb f) (join-differences ha hb (result-legal hm hb f))
+
+  pub join-applies : {l m k : Changes} {a b c : Image} → LegalList p l → LegalList p m → LegalImage p a → applied l a ≡ done b → applied m b ≡ done c
+      → join l m ≡ done k → applied k a ≡ done c
+  join-applies {l} {m} {k} {a} {b} {c} hl hm ha e f j =
+      let hb = result-legal hl ha e in
+      let same : k ≡ difference a c = cc (join-taken hl hm ha e f) in
+      rw same (apply-difference ha (result-legal hm hb f) (keeps-version hl ha e ∙ keeps-version hm hb f))
+
+  -- three: whichever pair is joined first
+  pub join-thrice : {l m n : Changes} {a b c d : Image} → LegalList p l → LegalList p m → LegalList p n → LegalImage p a
+      → applied l a ≡ done b → applied m b ≡ done c → applied n c ≡ done d
+      → (join l m ≡ done (difference a c)) × (join m n ≡ done (difference b d))
+      × (join (difference a c) n ≡ done (difference a d)) × (join l (difference b d) ≡ done (difference a d))
+  join-thrice {l} {m} {n} {a} {b} {c} {d} hl hm hn ha e f g =
+      let hb = result-legal hl ha e in
+      let hc = result-legal hm hb f in
+      let hd = result-legal hn hc g in (
+        join-taken hl hm ha e f,
+        join-taken hm hn hb f g,
+        join-taken (difference-legal ha hc) hn ha (apply-difference ha hc (keeps-version hl ha e ∙ keeps-version hm hb f)) g,
+        join-taken hl (difference-legal hb hd) ha e (apply-difference hb hd (keeps-version hm hb f ∙ keeps-version hn hc g)),
+      )
+
+  pub join-assoc : {l m n : Changes} {a b c d : Image} → LegalList p l → LegalList p m → LegalList p n → LegalImage p a
+      → applied l a ≡ done b → applied m b ≡ done c → applied n c ≡ done d
+      → then (join l m) (λ k. join k n) ≡ then (join m n) (λ k. join l k)
+  join-assoc {l} {m} {n} hl hm hn ha e f g =
+      let h = join-thrice hl hm hn ha e f g in
+      rw (h .0, h .1) (h .2 ∙ sym (h .3))

@@ -1,0 +1,176 @@
+-- States in images: what is written is read, what was read writes the same bytes, and other objects stay.
+-- Assumes nothing.
+use Prim.Native.Nat.{ℕ, zero, suc, _^_, _<_}
+use native.Mathlib.Omega.{arith}
+use mathlib.Core.Path.{_≡_, refl, sym, ap, ap₂, _∙_}
+use mathlib.Core.Bool.{Bool, true}
+use mathlib.Core.List.{List, [], _∷_, map}
+use mathlib.Core.Logic.{_⊎_, inl, inr}
+use lib.Dec.{ltb}
+use lib.ListN.{length, getD, set}
+use lib.Seq.{getD-set-same, getD-set-other, set-getD}
+use borrow.Author.Tests.{lt-ltb, ltb-true}
+use Rattle.kinds.specs.Kinds.{kindIn}
+use Rattle.elements.specs.Elements.{stateOf, wordOf}
+use Rattle.rows.specs.declared.Finding.{Finding}
+use Rattle.kinds.specs.declared.Kind.{Kind}
+use Rattle.kinds.specs.declared.Element.{Element}
+use Rattle.history.specs.Verdict.{Verdict, refused, done, then, refusalAt, _unless_⨾_}
+use Rattle.history.specs.Table.{Plan, kindAt}
+use Rattle.history.specs.Image.{element, imageBytes}
+use Rattle.history.specs.Operations.{zip}
+use Rattle.history.specs.Calls.{readPlan, placed, stateAt, readStateCall, writeStateCall}
+use Rattle.elements.specs.Elements.{sameKind}
+use Rattle.history.specs.Legal.{isAccepted, admits, Every, nil, and, LegalImage}
+use Rattle.history.proofs.VerdictLaws.{held}
+use Rattle.history.proofs.ElementLaws.{was-accepted, is-accepted, admits-accepted, word-again, state-again, state-kind, state-admitted, same-kind, is-same-kind, state-found}
+use Rattle.history.proofs.CallLaws.{AcceptedImage, legal-image}
+
+-- ---- all objects
+
+-- the words of all states are the words that these were read from
+pub words-again : {ks : List Kind} {ws : List ℕ} → Every admits ks ws → map wordOf (zip stateOf ks ws) ≡ ws
+words-again nil = refl
+words-again (and {a = k} {b = w} h r) = ap₂ _∷_ (word-again k w h) (words-again r)
+
+pub states-at : (d : Element) {ks : List Kind} {ws : List ℕ} → Every admits ks ws → (i : ℕ) → i < length ks
+    → getD (zip stateOf ks ws) i d ≡ stateOf (kindAt ks i) (getD ws i 0)
+states-at d nil i h = absurd (omega arith)
+states-at d (and p ps) zero h = refl
+states-at d (and p ps) (suc i) h = states-at d ps i (omega arith)
+
+-- ---- a test at each place
+
+module _ {A B : Type 0} {test : A → B → Bool} where
+  every-long : {xs : List A} {ys : List B} → Every test xs ys → length ys ≡ length xs
+  every-long nil = refl
+  every-long (and h r) = ap suc (every-long r)
+
+  every-at : (d : A) (d′ : B) {xs : List A} {ys : List B} → Every test xs ys → (i : ℕ) → i < length xs → test (getD xs i d) (getD ys i d′) ≡ true
+  every-at d d′ nil i l = absurd (omega arith)
+  every-at d d′ (and h r) zero l = h
+  every-at d d′ (and h r) (suc i) l = every-at d d′ r i (omega arith)
+
+  every-set : (d : A) {xs : List A} {ys : List B} → Every test xs ys → (i : ℕ) (b : B) → i < length xs → test (getD xs i d) b ≡ true → Every test xs (set ys i b)
+  every-set d nil i b l t = nil
+  every-set d (and h r) zero b l t = and t r
+  every-set d (and h r) (suc i) b l t = and h (every-set d r i b (omega arith) t)
+
+-- ---- the calls
+
+-- each object's state read, and written back at the position
+abbrev pub writtenBack : List ℕ → ℕ → List ℕ → List ℕ → Verdict (List ℕ)
+writtenBack T position A [] = done A
+writtenBack T position A (i ∷ is) = then (readStateCall T A i) λ e. then (writeStateCall T A i e position) λ B. writtenBack T position B is
+
+abbrev pub AllBelow : ℕ → List ℕ → Type 0
+AllBelow n [] = Unit {0}
+AllBelow n (i ∷ is) = (i < n) × AllBelow n is
+
+module _ (T : List ℕ) {p : Plan} (t : readPlan T ≡ done p) where
+  -- object i's answer, of an accepted image
+  abbrev answered : ℕ → Element → Verdict Element
+  answered i state = refusalAt 13 i unless ltb i (length (p .kinds)) ⨾ done state
+
+  read-any : {A : List ℕ} (a : AcceptedImage p A) (i : ℕ) → readStateCall T A i ≡ answered i (stateAt p (a .image) i)
+  unfolding readStateCall
+  read-any a i = rw (t, a .reads)
+
+  pub read-is : {A : List ℕ} (a : AcceptedImage p A) (i : ℕ) → i < length (p .kinds) → readStateCall T A i ≡ done (stateAt p (a .image) i)
+  unfolding readStateCall
+  read-is a i h = rw (t, a .reads, lt-ltb i (length (p .kinds)) h)
+
+  -- what a write that is not refused tells
+  pub record Wrote {A : List ℕ} (a : AcceptedImage p A) (i : ℕ) (e : Element) (position : ℕ) (B : List ℕ) : Type 0 where
+    pub inside : i < length (p .kinds)
+    pub kind : kindIn e ≡ kindAt (p .kinds) i
+    pub good : admits (kindAt (p .kinds) i) (wordOf e) ≡ true
+    pub same : B ≡ imageBytes p (placed (a .image) i (wordOf e) position)
+
+  pub wrote : {A B : List ℕ} (a : AcceptedImage p A) (i : ℕ) (e : Element) (position : ℕ) → writeStateCall T A i e position ≡ done B → Wrote a i e position B
+  unfolding writeStateCall
+  wrote {A} {B} a i e position q =
+      let q₀ = rw (t, a .reads) at q in
+      let q₁ = held (ltb i (length (p .kinds))) _ _ _ _ q₀ in
+      let q₂ = held (sameKind (kindIn e) (kindAt (p .kinds) i)) _ _ _ _ (q₁ .1) in
+      let q₃ = was-accepted (element (kindAt (p .kinds) i) (wordOf e)) i _ (q₂ .1) in
+      let s = same-kind (kindIn e) (kindAt (p .kinds) i) (q₂ .0) in
+      record { inside = ltb-true _ _ (q₁ .0); kind = s; good = state-admitted (kindAt (p .kinds) i) e s (q₃ .0); same = cc (q₃ .1) }
+
+  -- the new image is accepted
+  pub written-legal : {A B : List ℕ} (a : AcceptedImage p A) (i : ℕ) (e : Element) (position : ℕ) → position < 2 ^ 32 → Wrote a i e position B
+      → LegalImage p (placed (a .image) i (wordOf e) position)
+  written-legal a i e position small w = record {
+    version = a .legal .version;
+    position = small;
+    words = every-set Kind.Signal (a .legal .words) i (wordOf e) (w .inside) (w .good);
+  }
+
+  pub write-is : {A : List ℕ} (a : AcceptedImage p A) (i : ℕ) (e : Element) (position : ℕ) → i < length (p .kinds) → kindIn e ≡ kindAt (p .kinds) i → isAccepted (element (kindAt (p .kinds) i) (wordOf e)) ≡ true
+      → writeStateCall T A i e position ≡ done (imageBytes p (placed (a .image) i (wordOf e) position))
+  unfolding writeStateCall
+  write-is a i e position l s h =
+      rw (t, a .reads, lt-ltb i (length (p .kinds)) l, is-same-kind (kindIn e) (kindAt (p .kinds) i) s)
+      (is-accepted (element (kindAt (p .kinds) i) (wordOf e)) i _ h)
+
+  -- a state of the object's type is written, or refused with 12
+  pub write-found : {A : List ℕ} (a : AcceptedImage p A) (i : ℕ) (e : Element) (position : ℕ) → i < length (p .kinds) → kindIn e ≡ kindAt (p .kinds) i
+      → (writeStateCall T A i e position ≡ done (imageBytes p (placed (a .image) i (wordOf e) position))) ⊎ (writeStateCall T A i e position ≡ refused 12 i 0)
+  unfolding writeStateCall
+  write-found {A = A} a i e position l s = go (state-found (kindAt (p .kinds) i) e s)
+    where
+      go : (element (kindAt (p .kinds) i) (wordOf e) ≡ Finding.Accepted) ⊎ (element (kindAt (p .kinds) i) (wordOf e) ≡ Finding.Refused (record { code = 12; bit = 0 }))
+          → (writeStateCall T A i e position ≡ done (imageBytes p (placed (a .image) i (wordOf e) position))) ⊎ (writeStateCall T A i e position ≡ refused 12 i 0)
+      go (inl f) = inl (rw (t, a .reads, lt-ltb i (length (p .kinds)) l, is-same-kind (kindIn e) (kindAt (p .kinds) i) s, f))
+      go (inr f) = inr (rw (t, a .reads, lt-ltb i (length (p .kinds)) l, is-same-kind (kindIn e) (kindAt (p .kinds) i) s, f))
+
+  abbrev pub written-image : {A B : List ℕ} (a : AcceptedImage p A) (i : ℕ) (e : Element) (position : ℕ) → position < 2 ^ 32 → Wrote a i e position B → AcceptedImage p B
+  written-image a i e position small w = legal-image T t (written-legal a i e position small w) (w .same)
+
+  -- a state written is read
+  pub write-read : {A B : List ℕ} (a : AcceptedImage p A) (i : ℕ) (e : Element) (position : ℕ) → position < 2 ^ 32
+      → writeStateCall T A i e position ≡ done B → readStateCall T B i ≡ done e
+  write-read a i e position small q =
+      let w = wrote a i e position q in
+      let long : i < length (a .image .words) = omega (arith, every-long (a .legal .words), w .inside) in
+      read-is (written-image a i e position small w) i (w .inside)
+      ∙ ap done (ap (stateOf (kindAt (p .kinds) i)) (getD-set-same (a .image .words) i (wordOf e) 0 long) ∙ state-again (kindAt (p .kinds) i) e (w .kind))
+
+  -- other objects stay
+  pub write-other : {A B : List ℕ} (a : AcceptedImage p A) (i : ℕ) (e : Element) (position : ℕ) → position < 2 ^ 32
+      → writeStateCall T A i e position ≡ done B → (j : ℕ) → (j ≡ i → ⊥) → readStateCall T B j ≡ readStateCall T A j
+  write-other a i e position small q j n =
+      let w = wrote a i e position q in
+      read-any (written-image a i e position small w) j
+      ∙ ap (λ (w : ℕ). answered j (stateOf (kindAt (p .kinds) j) w)) (getD-set-other (a .image .words) i j (wordOf e) 0 n)
+      ∙ sym (read-any a j)
+
+  -- the state that was read, written at the same position, gives the same bytes
+  pub read-write : {A : List ℕ} (a : AcceptedImage p A) (i : ℕ) (e : Element)
+      → readStateCall T A i ≡ done e → writeStateCall T A i e (a .image .position) ≡ done A
+  read-write {A} a i e q =
+      let r = held (ltb i (length (p .kinds))) _ _ _ _ (sym (read-any a i) ∙ q) in
+      let l = ltb-true i (length (p .kinds)) (r .0) in
+      let k : Kind = kindAt (p .kinds) i in
+      let w : ℕ = getD (a .image .words) i 0 in
+      let e-is : e ≡ stateOf k w = cc (read-is a i l) in
+      let good = every-at Kind.Signal 0 (a .legal .words) i l in
+      let word : wordOf e ≡ w = ap wordOf e-is ∙ word-again k w good in
+      let kind : kindIn e ≡ k = ap kindIn e-is ∙ state-kind k w in
+      write-is a i e (a .image .position) l kind (rw word (admits-accepted k w good))
+      ∙ ap done (ap (λ (v : ℕ). imageBytes p (placed (a .image) i v (a .image .position))) word
+      ∙ ap (λ (ws : List ℕ). imageBytes p (record { version = a .image .version; position = a .image .position; words = ws })) (set-getD (a .image .words) i 0)
+      ∙ sym (a .same))
+
+  -- .. of any objects in turn
+  pub all-written-back : {A : List ℕ} (a : AcceptedImage p A) (is : List ℕ) → AllBelow (length (p .kinds)) is → writtenBack T (a .image .position) A is ≡ done A
+  all-written-back a [] h = refl
+  all-written-back a (i ∷ is) h =
+      let e = read-is a i (h .0) in
+      rw (e, read-write a i (stateAt p (a .image) i) e) (all-written-back a is (h .1))
+
+  -- the states of all objects, written as an image, are the image's bytes
+  pub states-written : {A : List ℕ} (a : AcceptedImage p A)
+      → imageBytes p (record { version = a .image .version; position = a .image .position; words = map wordOf (zip stateOf (p .kinds) (a .image .words)) }) ≡ A
+  states-written a =
+      ap (λ (ws : List ℕ). imageBytes p (record { version = a .image .version; position = a .image .position; words = ws })) (words-again (a .legal .words)) ∙ sym (a .same)

@@ -1,0 +1,121 @@
+-- Verdicts that are no refusals; lists taken along one another, and the lowest object at which a test fails.
+-- Assumes nothing.
+use Prim.Native.Nat.{ℕ, zero, suc, _+_, _<_}
+use native.Mathlib.Nat.{add-zero, add-suc, suc-add}
+use native.Mathlib.Omega.{arith}
+use mathlib.Core.Path.{_≡_, refl, sym, ap, _∙_}
+use mathlib.Core.Bool.{Bool, true, false, _&&_}
+use mathlib.Core.List.{List, [], _∷_}
+use lib.ListN.{length, getD}
+use Rattle.history.specs.Verdict.{Verdict, refused, done, then, refusalAt, _unless_⨾_}
+use Rattle.history.specs.Operations.{lowest}
+use Rattle.history.specs.Legal.{Every, nil, and}
+
+-- both of two tests
+pub all : {a b : Bool} → a ≡ true → b ≡ true → (a && b) ≡ true
+all p q = rw (p, q)
+
+pub left : (a b : Bool) → (a && b) ≡ true → a ≡ true
+left true b e = refl
+left false b e = e
+
+pub right : (a b : Bool) → (a && b) ≡ true → b ≡ true
+right true b e = e
+right false b e = absurd (let z : _≡_ {A = ℕ} 0 1 = cc in omega arith)
+
+-- a verdict that is no refusal: the test held; the value was put to use
+pub held : {A : Type 0} (t : Bool) (code object bit : ℕ) (r : Verdict A) {a : A} → (refused code object bit unless t ⨾ r) ≡ done a → (t ≡ true) × (r ≡ done a)
+held true code object bit r e = (refl, e)
+held false code object bit r e = absurd (let z : _≡_ {A = ℕ} 0 1 = cc in omega arith)
+
+pub used : {A B : Type 0} (x : Verdict A) (f : A → Verdict B) {b : B} → then x f ≡ done b → (a : A) × (x ≡ done a) × (f a ≡ done b)
+used (refused code object bit) f e = absurd (let z : _≡_ {A = ℕ} 0 1 = cc in omega arith)
+used (done a) f e = (a, refl, e)
+
+-- a refusal is passed up
+pub passed-up : {A B : Type 0} (x : Verdict A) (f : A → B) {code object bit : ℕ} → then x (λ a. done (f a)) ≡ refused code object bit → x ≡ refused code object bit
+passed-up (refused code object bit) f e = cc
+passed-up (done a) f e = absurd (let z : _≡_ {A = ℕ} 0 1 = cc in omega arith)
+
+-- a refusal of another code comes from the rest
+pub past : {A : Type 0} (t : Bool) (code object bit : ℕ) (r : Verdict A) {code′ object′ bit′ : ℕ}
+    → (code ≡ code′ → ⊥) → (refused code object bit unless t ⨾ r) ≡ refused code′ object′ bit′ → r ≡ refused code′ object′ bit′
+past true code object bit r n e = e
+past false code object bit r n e = absurd (n cc)
+
+-- ---- the lowest object at which a test fails
+
+module _ {A B : Type 0} (test : A → B → Bool) (x : A) (y : B) where
+  -- the test fails at n, and holds at each object below
+  pub record Lowest (xs : List A) (ys : List B) (n : ℕ) : Type 0 where
+    pub first : n < length xs
+    pub second : n < length ys
+    pub fails : test (getD xs n x) (getD ys n y) ≡ false
+    pub holds : (k : ℕ) → k < n → test (getD xs k x) (getD ys k y) ≡ true
+
+  lowest-here : (a : A) (b : B) (xs : List A) (ys : List B) → test a b ≡ false → Lowest (a ∷ xs) (b ∷ ys) 0
+  lowest-here a b xs ys e = record { first = omega arith; second = omega arith; fails = e; holds = λ k h. absurd (omega arith) }
+
+  lowest-later : (a : A) (b : B) (xs : List A) (ys : List B) (n : ℕ) → test a b ≡ true → Lowest xs ys n → Lowest (a ∷ xs) (b ∷ ys) (suc n)
+  lowest-later a b xs ys n e l = record { first = omega (arith, l .first); second = omega (arith, l .second); fails = l .fails; holds = go }
+    where
+      go : (k : ℕ) → k < suc n → test (getD (a ∷ xs) k x) (getD (b ∷ ys) k y) ≡ true
+      go zero h = e
+      go (suc k) h = l .holds k (omega arith)
+
+  -- a refusal with this code, of objects counted from i, names the lowest at which the test fails
+  pub record Names (xs : List A) (ys : List B) (code i c j b : ℕ) : Type 0 where
+    pub place : ℕ
+    pub lowest : Lowest xs ys place
+    pub object : j ≡ i + place
+    pub given : c ≡ code
+    pub no-bit : b ≡ 255
+
+  module _ {C : Type 0} (code : ℕ) (c : C) where
+    pub names-lowest : (i : ℕ) (xs : List A) (ys : List B) {code′ j bit : ℕ} → lowest code test i xs ys c ≡ refused code′ j bit → Names xs ys code i code′ j bit
+    names-lowest i [] ys e = absurd (let z : _≡_ {A = ℕ} 0 1 = cc in omega arith)
+    names-lowest i (a ∷ xs) [] e = absurd (let z : _≡_ {A = ℕ} 0 1 = cc in omega arith)
+    names-lowest i (a ∷ xs) (b ∷ ys) {code′} {j} {bit} e = go (test a b) refl (names-lowest (suc i) xs ys) e
+      where
+        go : (u : Bool) → test a b ≡ u → (lowest code test (suc i) xs ys c ≡ refused code′ j bit → Names xs ys code (suc i) code′ j bit)
+            → (refusalAt code i unless u ⨾ lowest code test (suc i) xs ys c) ≡ refused code′ j bit → Names (a ∷ xs) (b ∷ ys) code i code′ j bit
+        go false t later e = record { place = 0; lowest = lowest-here a b xs ys t; object = cc (add-zero i); given = cc; no-bit = cc }
+        go true t later e =
+            let r = later e in
+            record { place = suc (r .place); lowest = lowest-later a b xs ys (r .place) t (r .lowest); object = omega (arith, r .object); given = r .given; no-bit = r .no-bit }
+
+  module _ {C : Type 0} (code : ℕ) (c : C) where
+    -- .. and where the test fails, the lowest such object is refused
+    pub refuses-lowest : (i : ℕ) (xs : List A) (ys : List B) (n : ℕ) → Lowest xs ys n → lowest code test i xs ys c ≡ refusalAt code (i + n)
+    refuses-lowest i [] ys n l = absurd (omega (arith, l .first))
+    refuses-lowest i (a ∷ xs) [] n l = absurd (omega (arith, l .second))
+    refuses-lowest i (a ∷ xs) (b ∷ ys) zero l = rw (l .fails, add-zero i)
+    refuses-lowest i (a ∷ xs) (b ∷ ys) (suc n) l =
+        let next : Lowest xs ys n = record { first = omega (arith, l .first); second = omega (arith, l .second); fails = l .fails; holds = λ k h. l .holds (suc k) (omega arith) } in
+        rw (l .holds 0 (omega arith)) (refuses-lowest (suc i) xs ys n next ∙ ap (refusalAt code) (suc-add i n ∙ sym (add-suc i n)))
+
+module _ {A B : Type 0} where
+  -- as long as one another
+  pub data Paired : List A → List B → Type 0 where
+    none : Paired [] []
+    more : {a : A} {b : B} {xs : List A} {ys : List B} → Paired xs ys → Paired (a ∷ xs) (b ∷ ys)
+
+  pub paired : {C : Type 0} {f : C → A → Bool} {g : C → B → Bool} {cs : List C} {xs : List A} {ys : List B} → Every f cs xs → Every g cs ys → Paired xs ys
+  paired nil nil = none
+  paired (and p ps) (and q qs) = more (paired ps qs)
+
+  module _ {C : Type 0} (code : ℕ) (test : A → B → Bool) (c : C) where
+    pub passes : {xs : List A} {ys : List B} → Every test xs ys → (i : ℕ) → lowest code test i xs ys c ≡ done c
+    passes nil i = refl
+    passes (and t h) i = rw t (passes h (suc i))
+
+    pub passed : {xs : List A} {ys : List B} → Paired xs ys → (i : ℕ) {c′ : C} → lowest code test i xs ys c ≡ done c′ → Every test xs ys
+    passed none i e = nil
+    passed (more {a = a} {b = b} r) i e =
+        let s = held (test a b) _ _ _ _ e in
+        and (s .0) (passed r (suc i) (s .1))
+
+    pub value : (xs : List A) (ys : List B) (i : ℕ) {c′ : C} → lowest code test i xs ys c ≡ done c′ → c ≡ c′
+    value [] ys i e = cc
+    value (x ∷ xs) [] i e = cc
+    value (x ∷ xs) (y ∷ ys) i e = value xs ys (suc i) (held (test x y) _ _ _ _ e .1)

@@ -1,0 +1,107 @@
+-- The calls, over raw bytes. "Order: table, then the other forms as given, then object number, 22, positions, values (12 of a state handed
+-- in, 18, 20), 21 last." (21 is `settled`'s.)
+use Prim.Native.Nat.{ℕ, _+_}
+use mathlib.Core.Bool.{Bool}
+use mathlib.Core.List.{List}
+use lib.Dec.{eqb, ltb}
+use lib.ListN.{length, take, getD, set}
+use Rattle.kinds.specs.Kinds.{kindIn}
+use Rattle.elements.specs.Elements.{sameKind, stateOf, wordOf}
+use Rattle.kinds.specs.declared.Kind.{Kind}
+use Rattle.kinds.specs.declared.Element.{Element}
+use Rattle.history.specs.Verdict.{Verdict, done, then, refusalAt, _unless_⨾_}
+use Rattle.history.specs.Table.{object, Table, objectsBytes, readTable, Plan, planOf, kindAt}
+use Rattle.history.specs.Image.{Image, element, _of_⨾_, readImage, imageBytes}
+use Rattle.history.specs.Changes.{Changes, readList, listBytes}
+use Rattle.history.specs.Operations.{difference, applied, join, turned}
+
+-- ---- checking the three forms
+
+unfoldable pub tableCall : List ℕ → Verdict Table
+tableCall t = readTable t
+
+-- what the other forms go by, of an accepted table
+unfoldable pub readPlan : List ℕ → Verdict Plan
+readPlan t = then (readTable t) λ t. done (planOf t)
+
+unfoldable pub imageCall : List ℕ → List ℕ → Verdict Image
+imageCall t a = then (readPlan t) λ p. readImage p a
+
+unfoldable pub listCall : List ℕ → List ℕ → Verdict Changes
+listCall t l = then (readPlan t) λ p. readList p l
+
+-- ---- change lists
+
+unfoldable pub differenceCall : List ℕ → List ℕ → List ℕ → Verdict (List ℕ)
+differenceCall t a b =
+    then (readPlan t) λ p.
+    then (readImage p a) λ a.
+    then (readImage p b) λ b.
+    done (listBytes p (difference a b))
+
+unfoldable pub applyCall : List ℕ → List ℕ → List ℕ → Verdict (List ℕ)
+applyCall t a l =
+    then (readPlan t) λ p.
+    then (readImage p a) λ a.
+    then (readList p l) λ l.
+    then (applied l a) λ b.
+    done (imageBytes p b)
+
+unfoldable pub joinCall : List ℕ → List ℕ → List ℕ → Verdict (List ℕ)
+joinCall t l m =
+    then (readPlan t) λ p.
+    then (readList p l) λ l.
+    then (readList p m) λ m.
+    then (join l m) λ k.
+    done (listBytes p k)
+
+unfoldable pub turnCall : List ℕ → List ℕ → Verdict (List ℕ)
+turnCall t l =
+    then (readPlan t) λ p.
+    then (readList p l) λ l.
+    done (listBytes p (turned l))
+
+-- ---- states
+
+-- object i's element as a state
+abbrev pub stateAt : Plan → Image → ℕ → Element
+stateAt p a i = stateOf (kindAt (p .kinds) i) (getD (a .words) i 0)
+
+-- 13
+unfoldable pub readStateCall : List ℕ → List ℕ → ℕ → Verdict Element
+readStateCall t a i =
+    then (readPlan t) λ p.
+    then (readImage p a) λ a.
+    refusalAt 13 i unless ltb i (length (p .kinds)) ⨾
+    done (stateAt p a i)
+
+-- the image with object i's word and the position anew
+abbrev pub placed : Image → ℕ → ℕ → ℕ → Image
+placed a i w position = record { version = a .version; position = position; words = set (a .words) i w }
+
+-- 13, 22; "a state handed in is checked as an element is" (12)
+unfoldable pub writeStateCall : List ℕ → List ℕ → ℕ → Element → ℕ → Verdict (List ℕ)
+writeStateCall t a i state position =
+    then (readPlan t) λ p.
+    then (readImage p a) λ a.
+    refusalAt 13 i unless ltb i (length (p .kinds)) ⨾
+    refusalAt 22 i unless sameKind (kindIn state) (kindAt (p .kinds) i) ⨾
+    element (kindAt (p .kinds) i) (wordOf state) of i ⨾
+    done (imageBytes p (placed a i (wordOf state) position))
+
+-- ---- "the label is handed back as the very bytes of the lent table": where it stands in them
+
+pub record Place : Type 0 where
+  pub offset : ℕ
+  pub size : ℕ
+
+-- after nine bytes, the earlier entries, and the object's own type and label length
+abbrev pub labelPlace : Table → ℕ → Place
+labelPlace t i = record { offset = 9 + (length (objectsBytes (take i (t .objects))) + 2); size = length (object t i .label) }
+
+-- 13
+unfoldable pub labelCall : List ℕ → ℕ → Verdict Place
+labelCall t i =
+    then (readTable t) λ t.
+    refusalAt 13 i unless ltb i (length (t .objects)) ⨾
+    done (labelPlace t i)

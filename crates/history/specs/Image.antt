@@ -1,0 +1,69 @@
+-- "Image: a 4-byte position, then each object's element in table order."
+use Prim.Native.Nat.{ℕ, suc, _+_}
+use mathlib.Core.Bool.{Bool}
+use mathlib.Core.List.{List, [], _∷_, _++_}
+use lib.Dec.{eqb}
+use lib.ListN.{length, take, drop}
+use Rattle.rows.specs.declared.Finding.{Finding}
+use Rattle.kinds.specs.Kinds.{widthOf}
+use Rattle.elements.specs.Elements.{elementCheck}
+use Rattle.kinds.specs.declared.Kind.{Kind}
+use Rattle.octets.specs.Octets.{bytes, number}
+use Rattle.history.specs.Verdict.{Verdict, refused, done, then, refusal, _unless_⨾_}
+use Rattle.history.specs.Form.{formBytes, readForm}
+use Rattle.history.specs.Table.{Plan, sameCatalogue}
+
+-- a word for each object: its element's number
+pub record Image : Type 0 where
+  pub version : ℕ
+  pub position : ℕ
+  pub words : List ℕ
+
+unfoldable pub imageVersionGood : ℕ → Bool
+imageVersionGood v = eqb v 1
+
+-- ---- elements
+
+-- what is found of an element: fields from bit 0 up (10, 11), then 12
+unfoldable pub element : Kind → ℕ → Finding
+element k w = elementCheck k w
+
+-- what is found of an element refuses, naming its object and bit; else the rest decides
+infixr 5 _of_⨾_
+abbrev pub _of_⨾_ : {A : Type 0} → Finding → ℕ → Verdict A → Verdict A
+Finding.Accepted of i ⨾ rest = rest
+Finding.Refused r of i ⨾ rest = refused (r .code) i (r .bit)
+
+-- all objects' width in bytes
+abbrev pub widths : List Kind → ℕ
+widths [] = 0
+widths (k ∷ ks) = widthOf k + widths ks
+
+-- ---- writing
+
+abbrev pub wordsBytes : List Kind → List ℕ → List ℕ
+wordsBytes [] ws = []
+wordsBytes (k ∷ ks) [] = []
+wordsBytes (k ∷ ks) (w ∷ ws) = bytes (widthOf k) w ++ wordsBytes ks ws
+
+unfoldable pub imageBytes : Plan → Image → List ℕ
+imageBytes p a = formBytes (record { version = a .version; x = p .x; y = p .y; contents = bytes 4 (a .position) ++ wordsBytes (p .kinds) (a .words) })
+
+-- ---- reading
+
+-- the elements of the objects from i on
+abbrev pub readWords : ℕ → List Kind → List ℕ → Verdict (List ℕ)
+readWords i [] b = done []
+readWords i (k ∷ ks) b =
+    element k (number (take (widthOf k) b)) of i ⨾
+    then (readWords (suc i) ks (drop (widthOf k) b)) λ ws.
+    done (number (take (widthOf k) b) ∷ ws)
+
+-- 1, 2, 9, 8, then elements
+unfoldable pub readImage : Plan → List ℕ → Verdict Image
+readImage p b =
+    then (readForm 7 imageVersionGood b) λ f.
+    refusal 9 unless sameCatalogue f p ⨾
+    refusal 8 unless eqb (length (f .contents)) (4 + widths (p .kinds)) ⨾
+    then (readWords 0 (p .kinds) (drop 4 (f .contents))) λ ws.
+    done (record { version = f .version; position = number (take 4 (f .contents)); words = ws })

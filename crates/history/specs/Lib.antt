@@ -1,0 +1,9 @@
+pub mod Verdict
+pub mod Form
+pub mod Table
+pub mod Image
+pub mod Changes
+pub mod Operations
+pub mod Calls
+pub mod Legal
+pub mod Standing

@@ -1,0 +1,53 @@
+-- "Every call gives code, object, bit, length. Success: 0, 65535, 255, bytes written (0 where none). Refusal: the code; object and bit
+-- as named, else 65535 and 255; length 0 except code 21." "Success writes the front of the output; the rest stays. Refusal writes no output."
+use Prim.Native.Nat.{ℕ}
+use mathlib.Core.Bool.{Bool, true, false, cond}
+use mathlib.Core.List.{List, _++_}
+use lib.Dec.{leb}
+use lib.ListN.{length, drop}
+use Rattle.history.specs.declared.Answer.{Answer}
+
+-- what a call finds: a refusal's code, object and bit, or the value
+pub data Verdict (A : Type 0) : Type 0 where
+  refused : (code object bit : ℕ) → Verdict A
+  done : A → Verdict A
+
+-- a value is put to use; a refusal stays
+abbrev pub then : {A B : Type 0} → Verdict A → (A → Verdict B) → Verdict B
+then (refused code object bit) next = refused code object bit
+then (done a) next = next a
+
+-- a refusal that names nothing (65535, 255); one that names an object
+abbrev pub refusal : {A : Type 0} → ℕ → Verdict A
+refusal code = refused code 65535 255
+
+abbrev pub refusalAt : {A : Type 0} → ℕ → ℕ → Verdict A
+refusalAt code object = refused code object 255
+
+-- the refusal, unless the test holds; then the rest decides
+infixr 5 _unless_⨾_
+abbrev pub _unless_⨾_ : {A : Type 0} → Verdict A → Bool → Verdict A → Verdict A
+r unless true ⨾ rest = rest
+r unless false ⨾ rest = r
+
+-- ---- the numbers given back, and the output at the end
+
+abbrev pub numbers : ℕ → ℕ → ℕ → ℕ → Answer
+numbers code object bit n = record { code = code; object = object; bit = bit; length = n }
+
+-- a call that writes nothing: success is 0, 65535, 255, 0
+unfoldable pub told : {A : Type 0} → Verdict A → Answer
+told (refused code object bit) = numbers code object bit 0
+told (done a) = numbers 0 65535 255 0
+
+pub record Outcome : Type 0 where
+  pub answer : Answer
+  pub output : List ℕ
+
+-- a call that writes: 21 last, with the length needed
+unfoldable pub settled : Verdict (List ℕ) → List ℕ → Outcome
+settled (refused code object bit) out = record { answer = numbers code object bit 0; output = out }
+settled (done b) out =
+    cond (leb (length b) (length out))
+    (record { answer = numbers 0 65535 255 (length b); output = b ++ drop (length b) out })
+    (record { answer = numbers 21 65535 255 (length b); output = out })

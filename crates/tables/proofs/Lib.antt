@@ -1,0 +1,13 @@
+pub mod AnswerLaws
+pub mod WholeLaws
+pub mod Forms
+pub mod RuleLaws
+pub mod LabelLaws
+pub mod EntryLaws
+pub mod PlaceLaws
+pub mod RepeatLaws
+pub mod TurnLaws
+pub mod TableLaws
+pub mod PlanLaws
+pub mod LabelPlaceLaws
+pub mod CallerLaws

@@ -1,0 +1,4 @@
+pub mod Whole
+pub mod Places
+pub mod Outlines
+pub mod LabelPlaces

@@ -1,0 +1,43 @@
+-- What the other forms go by, as the code hands it on: X, Y, the count, and each object's layout number.
+-- Assumes nothing.
+use Prim.Native.Nat.{ℕ, _-_, _≤_}
+use mathlib.Core.Path.{_≡_}
+use mathlib.Core.List.{List, [], _++_, map}
+use lib.ListN.{length, take, replicate}
+use Rattle.kinds.specs.Kinds.{layoutNo}
+use Rattle.kinds.specs.declared.Kind.{Kind}
+use Rattle.elements.specs.Elements.{kindNumbered}
+use Rattle.history.specs.Verdict.{Verdict, refused, done, told}
+use Rattle.history.specs.Table.{Table, Plan, planOf}
+use Rattle.history.specs.Calls.{tableCall, readPlan}
+use Rattle.tables.specs.declared.answers.Outline.{Outline}
+
+-- the kinds of layout numbers
+unfoldable pub kindsOf : List ℕ → List Kind
+kindsOf ns = map kindNumbered ns
+
+-- X, Y and layout numbers, as what the other forms go by
+unfoldable pub planAs : ℕ → ℕ → List ℕ → Plan
+planAs x y ns = record { x = x; y = y; kinds = kindsOf ns }
+
+-- the numbers in the first places of 1,024, zeros behind them
+abbrev pub padded : List ℕ → List ℕ
+padded ns = ns ++ replicate (1024 - length ns) 0
+
+-- the layout numbers of a read table, in table order
+unfoldable pub layoutsIn : Verdict Table → List ℕ
+layoutsIn (refused code object bit) = padded []
+layoutsIn (done t) = padded (map layoutNo (planOf t .kinds))
+
+-- the answer; of a read table X, Y, count and layout numbers; else zeros
+unfoldable pub outlineOf : Verdict Table → Outline
+outlineOf (refused code object bit) = record { answer = told {A = Table} (refused code object bit); x = 0; y = 0; count = 0; kinds = padded [] }
+outlineOf (done t) = record { answer = told (done t); x = t .x; y = t .y; count = length (t .objects); kinds = layoutsIn (done t) }
+
+-- the whole outcome, and what callers go by
+pub record Outlined (b : List ℕ) (r : Outline) : Type 0 where
+  pub whole : r ≡ outlineOf (tableCall b)
+  pub answer : r .answer ≡ told (tableCall b)
+  pub few : r .count ≤ 1024
+  pub room : length (r .kinds) ≡ 1024
+  pub plan : r .answer .code ≡ 0 → readPlan b ≡ done (planAs (r .x) (r .y) (take (r .count) (r .kinds)))

@@ -1,0 +1,34 @@
+-- The table's entries by their places in the bytes, as a loop with a cursor walks them. A device of the proofs: the meaning is `history`'s.
+-- Assumes nothing.
+use Prim.Native.Nat.{ℕ, zero, suc, _+_}
+use mathlib.Core.Bool.{_&&_}
+use mathlib.Core.List.{List, []}
+use lib.Dec.{leb}
+use lib.ListN.{length, getD, take, drop}
+use Rattle.octets.specs.Octets.{number}
+use Rattle.history.specs.Verdict.{Verdict, done, refusal, refusalAt, _unless_⨾_}
+use Rattle.elements.specs.Elements.{carried}
+use Rattle.history.specs.Table.{Object, labelLimit, labelGood, readObjects}
+
+-- the count in a table's bytes
+abbrev pub countIn : List ℕ → ℕ
+countIn b = number (take 2 (drop 7 b))
+
+-- where object k's entry begins
+unfoldable pub placeOf : List ℕ → ℕ → ℕ
+placeOf b zero = 9
+placeOf b (suc k) = placeOf b k + (2 + getD b (placeOf b k + 1) 0)
+
+-- an entry but for repeats, from its place: 8 (two bytes lacking), 5, 6 (length), 8 (label cut), 6 (bytes); where the next begins
+unfoldable pub entryCheck : List ℕ → ℕ → ℕ → Verdict ℕ
+entryCheck b at k =
+    refusal 8 unless leb (at + 2) (length b) ⨾
+    refusalAt 5 k unless carried (getD b 5 0) (getD b at 0) ⨾
+    refusalAt 6 k unless leb 1 (getD b (at + 1) 0) && leb (getD b (at + 1) 0) (labelLimit (getD b 4 0)) ⨾
+    refusal 8 unless leb (at + (2 + getD b (at + 1) 0)) (length b) ⨾
+    refusalAt 6 k unless labelGood (take (getD b (at + 1) 0) (drop (at + 2) b)) ⨾
+    done (at + (2 + getD b (at + 1) 0))
+
+-- the table's entries, read from byte 9 on
+unfoldable pub entriesIn : List ℕ → ℕ → Verdict (List Object)
+entriesIn b count = readObjects (getD b 4 0) (getD b 5 0) [] count (drop 9 b)

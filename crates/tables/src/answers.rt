@@ -1,0 +1,46 @@
+// The numbers given back, made in one place for each kind of answer; and what the calls on a table give beside them.
+use history::Answer;
+ghost use mathlib.Core.Path.{_≡_};
+ghost use Rattle.history.specs.Verdict.{numbers};
+
+// A refusal that names nothing.
+pub fn refused(code: u8) -> Answer
+    ensures { λ r. ⌜ r ≡ numbers code 65535 255 0 ⌝ }
+{
+    refused_at(code, 65535)
+}
+
+// A refusal that names an object.
+pub fn refused_at(code: u8, object: u16) -> Answer
+    ensures { λ r. ⌜ r ≡ numbers code object 255 0 ⌝ }
+{
+    refused_bit(code, object, 255)
+}
+
+// A refusal that names an object and a bit.
+pub fn refused_bit(code: u8, object: u16, bit: u8) -> Answer
+    ensures { λ r. ⌜ r ≡ numbers code object bit 0 ⌝ }
+{
+    Answer {
+        code,
+        object,
+        bit,
+        length: 0,
+    }
+}
+
+// Success that writes no bytes: code 0, and nothing is named.
+pub fn accepted() -> Answer
+    ensures { λ r. ⌜ r ≡ numbers 0 65535 255 0 ⌝ }
+{
+    refused(0)
+}
+
+// What `outline` gives: the table's answer; of an accepted table X, Y, the count and each object's layout number; else zeros.
+pub struct Outline {
+    pub answer: Answer,
+    pub x: u8,
+    pub y: u8,
+    pub count: usize,
+    pub kinds: [u8; 1024],
+}

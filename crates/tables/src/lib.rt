@@ -1,0 +1,20 @@
+// The floor of tables: the check of a table against the meaning in `history`, what the other forms go by (X, Y and each object's
+// kind), a label's place, and what the three forms share. It uses octets and elements, writes no output and keeps nothing.
+mod answers;
+mod labels;
+mod place;
+mod plan;
+mod table;
+mod whole;
+
+pub use answers::Outline;
+pub use answers::accepted;
+pub use answers::refused;
+pub use answers::refused_at;
+pub use answers::refused_bit;
+pub use place::LabelAt;
+pub use place::label_place;
+pub use plan::outline;
+pub use table::check_table;
+pub use whole::is_under;
+pub use whole::is_whole;

@@ -1,0 +1,157 @@
+// The check of the table form.
+use super::answers::accepted;
+use super::answers::refused;
+use super::answers::refused_at;
+use super::labels::is_good_at;
+use super::whole::byte_at;
+use super::whole::is_whole;
+use history::Answer;
+ghost use mathlib.Core.Path.{_≡_};
+ghost use mathlib.Core.Bool.{_&&_};
+ghost use Prim.Native.Nat.{_+_, _≤_, _<_};
+ghost use lib.Dec.{leb};
+ghost use lib.ListN.{length, getD};
+ghost use Rattle.history.specs.Verdict.{told};
+ghost use Rattle.history.specs.Table.{versionGood, catalogueGood, labelLimit};
+ghost use Rattle.history.specs.Calls.{tableCall};
+ghost use Rattle.tables.specs.Places.{countIn, entryCheck, entriesIn};
+
+const MOST_OBJECTS: usize = 1024;
+
+const LONGEST_LABEL: usize = 32;
+
+// The check of a table: 1, 2, 3, 4, then the entries.
+pub fn check_table(table: &[u8]) -> Answer
+    ensures { λ r. ⌜ r ≡ told (tableCall (now (table .entry))) ⌝ }
+{
+    if !is_whole(table, 5) {
+        return refused(1);
+    }
+    if !is_version(table[4]) {
+        return refused(2);
+    }
+    if !is_catalogue(table[5], table[6]) {
+        return refused(3);
+    }
+    let count = object_count(table);
+    if MOST_OBJECTS < count {
+        return refused(4);
+    }
+    check_entries(table, count)
+}
+
+// The object count of a table that has one.
+pub fn object_count(table: &[u8]) -> usize
+    requires { ⌜ 9 ≤ length (now table) ⌝ }
+    ensures { λ r. ⌜ r ≡ countIn (now (table .entry)) ⌝ }
+{
+    octets::get_at(table, 7, 2) as usize
+}
+
+// Per entry its check, then 7; last 8. The search for an earlier object with the same type and label is left at the first.
+fn check_entries(table: &[u8], count: usize) -> Answer
+    requires { ⌜ (9 ≤ length (now table)) × (count ≤ 1024) ⌝ }
+    ensures { λ r. ⌜ r ≡ told (entriesIn (now (table .entry)) count) ⌝ }
+{
+    let mut k = 0;
+    let mut at = 9;
+    'entries: while k < count {
+        let found = check_entry(table, at, k as u16);
+        if found.code != 0 {
+            return found;
+        }
+        let size = entry_size(table, at);
+        let mut j = 0;
+        let mut was = 9;
+        'earlier: while j < k {
+            let mut i = 0;
+            'bytes: while i < size {
+                if table[was + i] != table[at + i] {
+                    break 'bytes;
+                }
+                i += 1;
+            }
+            if i == size {
+                break 'entries;
+            }
+            was = was + entry_size(table, was);
+            j += 1;
+        }
+        at = at + size;
+        k += 1;
+    }
+    if k < count {
+        return refused_at(7, k as u16);
+    }
+    if at != table.len() {
+        return refused(8);
+    }
+    accepted()
+}
+
+// The bytes of an entry: its type, its label length and its label.
+pub fn entry_size(table: &[u8], at: usize) -> usize
+    requires { ⌜ at + 2 ≤ length (now table) ⌝ }
+    ensures { λ r. ⌜ (r ≡ 2 + getD (now (table .entry)) (at + 1) 0) × (r < 258) ⌝ }
+{
+    2 + byte_at(table, at + 1)
+}
+
+// An entry but for repeats: 8 (two bytes lacking), 5, 6 (length), 8 (label cut), 6 (bytes).
+fn check_entry(table: &[u8], at: usize, object: u16) -> Answer
+    requires { ⌜ (9 ≤ length (now table)) × (at ≤ length (now table)) ⌝ }
+    ensures { λ r. ⌜ r ≡ told (entryCheck (now (table .entry)) at object) ⌝ }
+{
+    let left = table.len() - at;
+    if left < 2 {
+        return refused(8);
+    }
+    if !elements::is_carried(table[5], table[at]) {
+        return refused_at(5, object);
+    }
+    let size = byte_at(table, at + 1);
+    if !is_size(table[4], size) {
+        return refused_at(6, object);
+    }
+    if left - 2 < size {
+        return refused(8);
+    }
+    if !is_good_at(table, at + 2, size) {
+        return refused_at(6, object);
+    }
+    accepted()
+}
+
+// The version byte is one that is read.
+fn is_version(version: u8) -> bool
+    ensures { λ r. ⌜ r ≡ versionGood version ⌝ }
+{
+    version == 1
+}
+
+// The catalogue version is one that is carried.
+fn is_catalogue(x: u8, y: u8) -> bool
+    ensures { λ r. ⌜ r ≡ catalogueGood x y ⌝ }
+{
+    if x != 1 {
+        return false;
+    }
+    y == 0
+}
+
+// The longest label under a version.
+fn label_limit(version: u8) -> usize
+    ensures { λ r. ⌜ r ≡ labelLimit version ⌝ }
+{
+    LONGEST_LABEL
+}
+
+// A label has at least one byte, and no more than its version's limit.
+fn is_size(version: u8, size: usize) -> bool
+    ensures { λ r. ⌜ r ≡ leb 1 size && leb size (labelLimit version) ⌝ }
+{
+    if size < 1 {
+        return false;
+    }
+    size <= label_limit(version)
+}

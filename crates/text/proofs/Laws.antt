@@ -1,0 +1,91 @@
+-- Digits of a number, bytes in hex, and writings one after the other: what the writers of text go by.
+-- Assumes nothing.
+use mathlib.Core.Path.{_≡_, refl, sym, ap, _∙_}
+use mathlib.Core.Bool.{Bool, true, false, cond}
+use mathlib.Core.List.{List, [], _∷_, _++_}
+use Prim.Native.Nat.{ℕ, zero, suc, _+_, _*_, _/_, _%_, _^_, _-_, _≤_, _<_}
+use native.Mathlib.Nat.{add-zero, add-suc, suc-add, le-of-lt, le-refl, le-trans, div-lt-iff-lt-mul, pow-suc}
+use native.Mathlib.Omega.{arith}
+use native.Mathlib.Numerals.{add-one}
+use lib.Dec.{ltb, lit<}
+use lib.ListN.{length, getD, take, drop, set, length-append}
+use lib.Seq.{sets, length-take-le, take-suc, drop-cons}
+use borrow.Author.Tests.{lt-ltb, le-ltb, ltb-true, ltb-false}
+use Rattle.text.specs.Decimal.{decimalIn, decimal}
+use Rattle.text.specs.Hex.{hexDigit, hexes}
+use Rattle.text.specs.Wrote.{Wrote}
+
+-- a tenth of a number has a digit less
+tenth : (k n : ℕ) → n < 10 ^ suc (suc k) → n / 10 < 10 ^ suc k
+tenth k n h = div-lt-iff-lt-mul (lit< tt) .1 (rw pow-suc at h)
+
+-- as many digits as the number needs, or more, give the same
+enough-at : (b : Bool) (k j n : ℕ) → ltb n 10 ≡ b → (10 ≤ n → decimalIn k (n / 10) ≡ decimalIn j (n / 10))
+    → cond b ((48 + n) ∷ []) (decimalIn k (n / 10) ++ ((48 + n % 10) ∷ [])) ≡ cond b ((48 + n) ∷ []) (decimalIn j (n / 10) ++ ((48 + n % 10) ∷ []))
+enough-at true k j n e less = refl
+enough-at false k j n e less = ap (λ (l : List ℕ). l ++ ((48 + n % 10) ∷ [])) (less (ltb-false n 10 e))
+
+enough : (k j n : ℕ) → n < 10 ^ suc k → n < 10 ^ suc j → decimalIn (suc k) n ≡ decimalIn (suc j) n
+unfolding decimalIn
+enough zero j n h h′ = enough-at (ltb n 10) zero j n refl (λ ten. absurd (omega arith))
+enough (suc k) zero n h h′ = enough-at (ltb n 10) (suc k) zero n refl (λ ten. absurd (omega arith))
+enough (suc k) (suc j) n h h′ = enough-at (ltb n 10) (suc k) (suc j) n refl (λ ten. enough k j (n / 10) (tenth k n h) (tenth j n h′))
+
+pub decimal-small : (n : ℕ) → n < 10 → decimal n ≡ (48 + n) ∷ []
+unfolding decimal decimalIn
+decimal-small n h = simp (lt-ltb _ _ h)
+
+pub decimal-more : (n : ℕ) → 10 ≤ n → n < 10000000000 → decimal n ≡ decimal (n / 10) ++ ((48 + n % 10) ∷ [])
+unfolding decimal decimalIn
+decimal-more n h h′ = simp (le-ltb _ _ h) (ap (λ (l : List ℕ). l ++ ((48 + n % 10) ∷ [])) (enough 8 9 (n / 10) (omega arith) (omega arith)))
+
+pub sets-append : (l : List ℕ) (i : ℕ) (xs ys : List ℕ) → sets (sets l i xs) (i + length xs) ys ≡ sets l i (xs ++ ys)
+sets-append l i [] ys = ap (λ (k : ℕ). sets l k ys) (add-zero i)
+sets-append l i (a ∷ xs) ys =
+    ap (λ (k : ℕ). sets (sets (set l i a) (suc i) xs) k ys) (add-suc i (length xs) ∙ sym (suc-add i (length xs)))
+    ∙ sets-append (set l i a) (suc i) xs ys
+
+pub decimal-length : (n : ℕ) → 10 ≤ n → n < 10000000000 → length (decimal n) ≡ length (decimal (n / 10)) + 1
+decimal-length n h h′ = ap length (decimal-more n h h′) ∙ length-append (decimal (n / 10)) ((48 + n % 10) ∷ [])
+
+-- the store of the last digit, after the digits of a tenth of n
+pub last-digit : (l m : List ℕ) (at p n : ℕ) → 10 ≤ n → n < 10000000000 → p ≡ at + length (decimal (n / 10)) → m ≡ sets l at (decimal (n / 10)) → set m p (48 + n % 10) ≡ sets l at (decimal n)
+last-digit l m at p n h h′ e d =
+    (λ i. set (d i) (e i) (48 + n % 10)) ∙ sets-append l at (decimal (n / 10)) ((48 + n % 10) ∷ []) ∙ ap (sets l at) (sym (decimal-more n h h′))
+
+-- a number below 10 ^ k, with k not 0, has at most k digits
+fits-at : (b : Bool) (k n : ℕ) → ltb n 10 ≡ b → n < 10000000000 → (10 ≤ n → length (decimal (n / 10)) ≤ k) → length (decimal n) ≤ suc k
+fits-at true k n e h less = omega (arith, ap length (decimal-small n (ltb-true n 10 e)))
+fits-at false k n e h less = omega (arith, decimal-length n (ltb-false n 10 e) h, less (ltb-false n 10 e))
+
+pub decimal-fits : (k n : ℕ) → n < 10 ^ suc k → n < 10000000000 → length (decimal n) ≤ suc k
+decimal-fits zero n h h′ = omega (arith, ap length (decimal-small n h))
+decimal-fits (suc k) n h h′ = fits-at (ltb n 10) (suc k) n refl h′ (λ _. decimal-fits k (n / 10) (tenth k n h) (omega arith))
+
+pub then : {l : List ℕ} {at : ℕ} {xs m : List ℕ} {p : ℕ} {ys n : List ℕ} {r : ℕ} → Wrote l at xs m p → Wrote m p ys n r → Wrote l at (xs ++ ys) n r
+then {l} {at} {xs} {m} {p} {ys} {n} {r} a b = record {
+  next = omega (arith, a .next, b .next, length-append xs ys);
+  text = b .text ∙ (λ i. sets (a .text i) (a .next i) ys) ∙ sets-append l at xs ys;
+}
+
+-- a turn of the loop that copies s: one element more
+pub copy-next : (l m s : List ℕ) (at i : ℕ) → i < length s → m ≡ sets l at (take i s) → set m (at + i) (getD s i 0) ≡ sets l at (take (i + 1) s)
+copy-next l m s at i h e =
+    (λ j. set (e j) (at + sym (length-take-le i s (le-of-lt h)) j) (getD s i 0))
+    ∙ sets-append l at (take i s) (getD s i 0 ∷ [])
+    ∙ ap (sets l at) (sym (take-suc s i 0 h) ∙ ap (λ (k : ℕ). take k s) (sym (add-one i)))
+
+-- bytes in hex, one more
+pub hexes-length : (bs : List ℕ) → length (hexes bs) ≡ 2 * length bs
+hexes-length [] = refl
+hexes-length (b ∷ bs) = omega (arith, hexes-length bs)
+
+hexes-append : (xs bs : List ℕ) → hexes (xs ++ bs) ≡ hexes xs ++ hexes bs
+hexes-append [] bs = refl
+hexes-append (a ∷ xs) bs = ap (λ (l : List ℕ). hexDigit (a / 16) ∷ hexDigit (a % 16) ∷ l) (hexes-append xs bs)
+
+pub hexes-next : (s : List ℕ) (i : ℕ) → i < length s → hexes (take i s) ++ hexes (getD s i 0 ∷ []) ≡ hexes (take (i + 1) s)
+hexes-next s i h = sym (ap hexes (ap (λ (k : ℕ). take k s) (add-one i) ∙ take-suc s i 0 h) ∙ hexes-append (take i s) (getD s i 0 ∷ []))
+
+pub hexes-taken : (s : List ℕ) (i : ℕ) → i ≤ length s → length (hexes (take i s)) ≡ 2 * i
+hexes-taken s i h = hexes-length (take i s) ∙ ap (λ (n : ℕ). 2 * n) (length-take-le i s h)
