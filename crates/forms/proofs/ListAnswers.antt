@@ -27,7 +27,7 @@ module _ (x y : ℕ) (ns b : List ℕ) where
   chain : readList (planAs x y ns) b
       ≡ (refusal 1 unless isWhole 13 b ⨾ refusal 2 unless eqb listVersion (getD b 4 0) ⨾ refusal 9 unless isUnder x y b ⨾
       then (readEntries (kindsOf ns) 0 (number (take 2 (drop 8 (drop 7 b)))) (drop 10 (drop 7 b))) (λ cs. done (listIn b cs)))
-  unfolding readList planAs isUnder listIn
+  unfolding readList isUnder listIn
   chain = form-then 13 (eqb listVersion) b _
 
   pub not-whole : isWhole 13 b ≡ false → numbers 1 65535 255 0 ≡ told (readList (planAs x y ns) b)

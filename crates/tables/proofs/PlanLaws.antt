@@ -124,7 +124,7 @@ module _ (b : List ℕ) (a : Answer) (e : a ≡ told (tableCall b)) where
 
   pub outline-good : told (tableCall b) .code ≡ 0 → (n : ℕ) → n ≡ countIn b → (ks : List ℕ) → ks ≡ layoutsIn (tableCall b)
       → Outlined b (record { answer = a; x = getD b 5 0; y = getD b 6 0; count = n; kinds = ks })
-  unfolding outlineOf layoutsIn planOf planAs
+  unfolding outlineOf layoutsIn planOf
   outline-good z n n-is ks ks-is =
       let t = table-of b z in
       let acc = accepted b (t .1) in

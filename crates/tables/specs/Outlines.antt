@@ -17,7 +17,7 @@ unfoldable pub kindsOf : List ℕ → List Kind
 kindsOf ns = map kindNumbered ns
 
 -- X, Y and layout numbers, as what the other forms go by
-unfoldable pub planAs : ℕ → ℕ → List ℕ → Plan
+abbrev pub planAs : ℕ → ℕ → List ℕ → Plan
 planAs x y ns = record { x = x; y = y; kinds = kindsOf ns }
 
 -- the numbers in the first places of 1,024, zeros behind them

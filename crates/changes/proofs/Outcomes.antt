@@ -1,0 +1,149 @@
+-- What the calls under a plan come to, test by test, where the forms are accepted.
+-- Assumes nothing.
+use Prim.Native.Nat.{ℕ, zero, suc, _+_, _≤_, _<_}
+use native.Mathlib.Omega.{arith}
+use mathlib.Core.Path.{_≡_, refl, sym, ap, ap₂, _∙_}
+use mathlib.Core.Bool.{Bool, true, false}
+use mathlib.Core.List.{List, [], _∷_, _++_, map}
+use lib.Dec.{eqb, leb}
+use lib.ListN.{length, take, drop, length-append}
+use borrow.Author.Tests.{eq-eqb, ne-eqb, le-leb, lt-leb}
+use Rattle.octets.specs.Octets.{bytes, number}
+use Rattle.kinds.specs.declared.Kind.{Kind}
+use Rattle.history.specs.declared.Answer.{Answer}
+use Rattle.history.specs.declared.Change.{Change}
+use Rattle.history.specs.Verdict.{Verdict, refused, done, then, refusal, refusalAt, numbers, Outcome, settled}
+use Rattle.history.specs.Form.{formBytes}
+use Rattle.history.specs.Table.{Plan}
+use Rattle.history.specs.Image.{Image, widths, wordsBytes, imageBytes, readImage}
+use Rattle.history.specs.Changes.{Changes, entriesBytes, listBytes, readList}
+use Rattle.history.specs.Operations.{differ, fits, meets, joined, back, after, zip, lowest, difference, applied, join, turned}
+use Rattle.history.proofs.CallLaws.{AcceptedImage, AcceptedList}
+use Rattle.octets.proofs.NumberLaws.{length-bytes}
+use Rattle.history.proofs.ImageLaws.{length-words}
+use Rattle.steps.specs.declared.Walk.{Walk}
+use Rattle.tables.specs.Outlines.{kindsOf, planAs}
+use Rattle.walks.specs.Walks.{walked, misfit, renewal}
+use Rattle.walks.proofs.Bridges.{difference-walk, join-walk, turn-walk, join-misfit, apply-misfit, foundAt, renewal-is}
+use Rattle.forms.proofs.KindLaws.{length-kinds}
+use Rattle.walks.proofs.Turns.{length-renewal}
+use Rattle.outputs.specs.Outputs.{walkList, imageAfter}
+use Rattle.changes.specs.Under.{differenceUnder, applyUnder, joinUnder, turnUnder}
+use Rattle.changes.proofs.Parts.{position-at, words-at, image-again, from-at, to-at, entries-at}
+
+-- the answer and the output are those of a verdict
+abbrev pub Settles : Verdict (List ℕ) → List ℕ → Answer → List ℕ → Type 0
+Settles v out r m = (r ≡ settled v out .answer) × (m ≡ settled v out .output)
+
+-- a refusal writes no output
+pub refuses : (v : Verdict (List ℕ)) (out : List ℕ) {code object bit : ℕ} {r : Answer} → v ≡ refused code object bit → r ≡ numbers code object bit 0 → Settles v out r out
+unfolding settled
+refuses v out e q = rw e (q, refl)
+
+pub settles : {v w : Verdict (List ℕ)} (out : List ℕ) {r : Answer} {m : List ℕ} → v ≡ w → Settles v out r m → Settles w out r m
+settles out e q = rw e at q
+
+module _ (x y : ℕ) (ns : List ℕ) (few : length ns ≤ 1024) where
+  plan : Plan
+  plan = planAs x y ns
+
+  bound : 0 + length (kindsOf ns) ≤ 65536
+  bound = omega (arith, length-kinds ns)
+
+  -- ---- difference
+
+  pub difference-is : {A B : List ℕ} → AcceptedImage (planAs x y ns) A → AcceptedImage (planAs x y ns) B → {from to : ℕ} {f s : List ℕ}
+      → from ≡ number (take 4 (drop 7 A)) → to ≡ number (take 4 (drop 7 B)) → f ≡ drop 11 A → s ≡ drop 11 B
+      → done (walkList Walk.Difference x y ns from to f s) ≡ differenceUnder (planAs x y ns) A B
+  unfolding differenceUnder walkList difference
+  difference-is a b ef et e₁ e₂ =
+      rw (ef, et, e₁, e₂, words-at a, words-at b, position-at a, position-at b, difference-walk 0 (a .legal .words) (b .legal .words), a .reads, b .reads)
+
+  -- ---- turning back
+
+  pub turn-is : {L : List ℕ} → AcceptedList (planAs x y ns) L → {from to : ℕ} {f : List ℕ} (s : List ℕ)
+      → from ≡ number (take 4 (drop 11 L)) → to ≡ number (take 4 (drop 7 L)) → f ≡ drop 17 L
+      → done (walkList Walk.Turn x y ns from to f s) ≡ turnUnder (planAs x y ns) L
+  unfolding turnUnder walkList turned
+  turn-is l s ef et e = rw (ef, et, e, entries-at l, to-at l, from-at l, turn-walk 0 s bound (l .legal .each), l .reads)
+
+  -- ---- joining
+
+  module _ {L M : List ℕ} (l : AcceptedList (planAs x y ns) L) (m : AcceptedList (planAs x y ns) M) where
+    join-reads : joinUnder (planAs x y ns) L M ≡ then (join (l .list) (m .list)) (λ k. done (listBytes (planAs x y ns) k))
+    unfolding joinUnder
+    join-reads = rw (l .reads, m .reads)
+
+    joined-list : Changes
+    joined-list = record { from = l .list .from; to = m .list .to; each = zip joined (l .list .each) (m .list .each) }
+
+    module _ {to from : ℕ} (et : to ≡ number (take 4 (drop 11 L))) (ef : from ≡ number (take 4 (drop 7 M))) where
+      pub join-apart : (to ≡ from → ⊥) → joinUnder (planAs x y ns) L M ≡ refusal 19
+      unfolding join
+      join-apart h =
+          let t : eqb (l .list .to) (m .list .from) ≡ false = ne-eqb _ _ (λ e. h (et ∙ to-at l ∙ e ∙ sym (ef ∙ from-at m))) in
+          join-reads ∙ rw t
+
+      module _ (h : to ≡ from) {f s : List ℕ} (e₁ : f ≡ drop 17 L) (e₂ : s ≡ drop 17 M) {n : ℕ} (en : n ≡ misfit Walk.Join 0 (kindsOf ns) f s) where
+        join-found : joinUnder (planAs x y ns) L M ≡ then (foundAt 20 joined-list (length ns) n) (λ k. done (listBytes (planAs x y ns) k))
+        unfolding join joined-list
+        join-found =
+            let t : eqb (l .list .to) (m .list .from) ≡ true = eq-eqb _ _ (sym (to-at l) ∙ sym et ∙ h ∙ ef ∙ from-at m) in
+            join-reads
+            ∙ rw (t, en, e₁, e₂, entries-at l, entries-at m, join-misfit 20 joined-list 0 (length ns) (omega (arith, length-kinds ns)) (omega arith) (l .legal .each) (m .legal .each))
+
+        pub join-misfits : n < length ns → joinUnder (planAs x y ns) L M ≡ refusalAt 20 n
+        join-misfits k = join-found ∙ rw (lt-leb (length ns) n k)
+
+        pub join-is : length ns ≤ n → {from′ to′ : ℕ} → from′ ≡ number (take 4 (drop 7 L)) → to′ ≡ number (take 4 (drop 11 M))
+            → done (walkList Walk.Join x y ns from′ to′ f s) ≡ joinUnder (planAs x y ns) L M
+        unfolding walkList joined-list
+        join-is k ef′ et′ =
+            rw (ef′, et′, e₁, e₂, from-at l, to-at m, entries-at l, entries-at m, join-walk 0 bound (l .legal .each) (m .legal .each))
+            (sym (join-found ∙ rw (le-leb (length ns) n k)))
+
+  -- ---- application
+
+  module _ {A L : List ℕ} (a : AcceptedImage (planAs x y ns) A) (l : AcceptedList (planAs x y ns) L) where
+    apply-reads : applyUnder (planAs x y ns) A L ≡ then (applied (l .list) (a .image)) (λ b. done (imageBytes (planAs x y ns) b))
+    unfolding applyUnder
+    apply-reads = rw (a .reads, l .reads)
+
+    applied-image : Image
+    applied-image = record { version = a .image .version; position = l .list .to; words = zip after (l .list .each) (a .image .words) }
+
+    -- the image after the list, byte for byte
+    after-is : {e : List ℕ} {to : ℕ} → e ≡ drop 17 L → to ≡ number (take 4 (drop 11 L)) → imageAfter (kindsOf ns) A to e ≡ imageBytes (planAs x y ns) applied-image
+    unfolding applied-image imageAfter
+    after-is {e} {to} ee et =
+        let renewed-is : renewal 0 (kindsOf ns) e (drop 11 A) ≡ wordsBytes (kindsOf ns) (zip after (l .list .each) (a .image .words)) =
+        rw (ee, entries-at l, words-at a) (renewal-is 0 bound (l .legal .each) (a .legal .words)) in
+        let long : length (wordsBytes (kindsOf ns) (zip after (l .list .each) (a .image .words))) ≡ widths (kindsOf ns) =
+        ap length (sym renewed-is) ∙ length-renewal (kindsOf ns) 0 e (drop 11 A) (ap length (words-at a) ∙ length-words (a .legal .words)) in
+        rw (renewed-is, et, to-at l) (image-again a (l .list .to) (zip after (l .list .each) (a .image .words)) long)
+
+    module _ {position from : ℕ} (ep : position ≡ number (take 4 (drop 7 A))) (ef : from ≡ number (take 4 (drop 7 L))) where
+      pub apply-late : from < position → applyUnder (planAs x y ns) A L ≡ refusal 16
+      unfolding applied
+      apply-late h = apply-reads ∙ rw (lt-leb (a .image .position) (l .list .from) (omega (arith, position-at a, from-at l)))
+
+      pub apply-gap : position < from → applyUnder (planAs x y ns) A L ≡ refusal 17
+      unfolding applied
+      apply-gap h =
+          apply-reads
+          ∙ rw (le-leb (a .image .position) (l .list .from) (omega (arith, position-at a, from-at l)), lt-leb (l .list .from) (a .image .position) (omega (arith, position-at a, from-at l)))
+
+      module _ (h : position ≤ from) (k : from ≤ position) {f s : List ℕ} (e₁ : f ≡ drop 17 L) (e₂ : s ≡ drop 11 A) {n : ℕ} (en : n ≡ misfit Walk.Apply 0 (kindsOf ns) f s) where
+        apply-found : applyUnder (planAs x y ns) A L ≡ then (foundAt 18 applied-image (length ns) n) (λ b. done (imageBytes (planAs x y ns) b))
+        unfolding applied applied-image
+        apply-found =
+            let t : leb (a .image .position) (l .list .from) ≡ true = le-leb (a .image .position) (l .list .from) (omega (arith, position-at a, from-at l)) in
+            let u : leb (l .list .from) (a .image .position) ≡ true = le-leb (l .list .from) (a .image .position) (omega (arith, position-at a, from-at l)) in
+            apply-reads
+            ∙ rw (t, u, en, e₁, e₂, entries-at l, words-at a, apply-misfit 18 applied-image 0 (length ns) (omega (arith, length-kinds ns)) (omega arith) (l .legal .each) (a .legal .words))
+
+        pub apply-misfits : n < length ns → applyUnder (planAs x y ns) A L ≡ refusalAt 18 n
+        apply-misfits q = apply-found ∙ rw (lt-leb (length ns) n q)
+
+        pub apply-is : length ns ≤ n → {to : ℕ} → to ≡ number (take 4 (drop 11 L)) → done (imageAfter (kindsOf ns) A to f) ≡ applyUnder (planAs x y ns) A L
+        apply-is q et = ap done (after-is e₁ et) ∙ sym (apply-found ∙ rw (le-leb (length ns) n q))

@@ -1,0 +1,20 @@
+-- `changes::apply` meets its contract: a refused table's answer is the whole answer; under an accepted one the other forms decide.
+-- Assumes nothing.
+use borrow.Author.Needs.{needs}
+use Rattle.forms.proofs.UnderPlan.{kinds-counted, few-kinds}
+use Rattle.changes.proofs.Calls.{apply-stops, apply-goes}
+use Rattle.changes.proofs.apply.Statement.{statement}
+use Rattle.changes.proofs.apply.Tie as tie
+
+returns : tie.Need-returns
+returns c =
+    let a = c .before .before .before .before .before .before .before .before .args in
+    apply-stops (c .before .before .before .outline .ensures) (a .out .now) (c .if1 .taken) (a .image .now) (a .list .now)
+
+returns-2 : tie.Need-returns-2
+returns-2 c =
+    let a = c .before .before .before .before .before .before .before .before .before .before .before .before .before .before .args in
+    apply-goes (c .before .before .before .before .before .before .before .before .before .outline .ensures) (a .out .now) (c .before .before .before .before .before .before .if1 .left) (a .image .now) (a .list .now) (c .before .before .apply-under .ensures)
+
+pub apply-spec : {M : Type 1} → statement M
+apply-spec = tie.close (tie.spec (λ c κs. search needs) returns (λ c. search needs) (λ c. kinds-counted (c .before .before .before .before .before .outline .ensures)) (λ c κs. few-kinds (c .before .before .before .before .before .before .outline .ensures)) (λ c. search needs) returns-2)

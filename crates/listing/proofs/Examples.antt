@@ -1,0 +1,36 @@
+-- The paper's listing of its table and image A, and its refusal line, where object 1's element is 09.
+-- Assumes nothing.
+use Prim.Native.Nat.{ℕ}
+use mathlib.Core.Path.{_≡_, refl}
+use mathlib.Core.List.{List, [], _∷_, _++_}
+use lib.ListN.{set}
+use Rattle.octets.specs.Octets.{bytes}
+use Rattle.rows.specs.Table.{table, layouts}
+use Rattle.elements.specs.Elements.{carried, kindOf, datRule, elementCheck}
+use Rattle.history.specs.Form.{readForm}
+use Rattle.history.specs.Table.{versionGood, catalogueGood, labelLimit, labelGood, checkObject, readTable, planOf}
+use Rattle.history.specs.Image.{imageVersionGood, element, readImage}
+use Rattle.text.specs.Decimal.{decimalIn, decimal}
+use Rattle.text.specs.Hex.{hexDigit}
+use Rattle.listing.specs.Listing.{readBoth, readPanel, firstLine, objectLine, refusedLine, textOf, listingOf}
+
+abbrev T : List ℕ
+T = 0x00 ∷ 0x00 ∷ 0x00 ∷ 0x14 ∷ 0x01 ∷ 0x01 ∷ 0x00 ∷ 0x00 ∷ 0x02 ∷ 0x04 ∷ 0x06 ∷ 0x41 ∷ 0x41 ∷ 0x3A ∷ 0x43 ∷ 0x56 ∷ 0x31 ∷ 0x02 ∷ 0x05 ∷ 0x41 ∷ 0x41 ∷ 0x3A ∷ 0x53 ∷ 0x31 ∷ []
+
+abbrev A : List ℕ
+A = 0x00 ∷ 0x00 ∷ 0x00 ∷ 0x0A ∷ 0x01 ∷ 0x01 ∷ 0x00 ∷ 0x00 ∷ 0x00 ∷ 0x00 ∷ 0x07 ∷ 0x00 ∷ 0x01 ∷ 0x03 ∷ []
+
+-- "1.0 7 2", "0 4 AA:CV1 0001", "1 2 AA:S1 03", each with its newline
+abbrev printed : List ℕ
+printed =
+    0x31 ∷ 0x2E ∷ 0x30 ∷ 0x20 ∷ 0x37 ∷ 0x20 ∷ 0x32 ∷ 0x0A
+    ∷ 0x30 ∷ 0x20 ∷ 0x34 ∷ 0x20 ∷ 0x41 ∷ 0x41 ∷ 0x3A ∷ 0x43 ∷ 0x56 ∷ 0x31 ∷ 0x20 ∷ 0x30 ∷ 0x30 ∷ 0x30 ∷ 0x31 ∷ 0x0A
+    ∷ 0x31 ∷ 0x20 ∷ 0x32 ∷ 0x20 ∷ 0x41 ∷ 0x41 ∷ 0x3A ∷ 0x53 ∷ 0x31 ∷ 0x20 ∷ 0x30 ∷ 0x33 ∷ 0x0A ∷ []
+
+-- "refused 10 1 3" and its newline
+abbrev refusal : List ℕ
+refusal = 0x72 ∷ 0x65 ∷ 0x66 ∷ 0x75 ∷ 0x73 ∷ 0x65 ∷ 0x64 ∷ 0x20 ∷ 0x31 ∷ 0x30 ∷ 0x20 ∷ 0x31 ∷ 0x20 ∷ 0x33 ∷ 0x0A ∷ []
+
+pub listings : (listingOf (T ++ A) ≡ printed) × (listingOf (T ++ set A 13 9) ≡ refusal)
+unfolding bytes table layouts carried kindOf datRule elementCheck readForm versionGood catalogueGood labelLimit labelGood checkObject readTable planOf imageVersionGood element readImage decimalIn decimal hexDigit readBoth readPanel firstLine objectLine refusedLine textOf listingOf
+listings = (refl, refl)

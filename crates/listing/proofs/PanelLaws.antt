@@ -1,0 +1,186 @@
+-- What an accepted table and image are read as, and where it stands in their bytes; and what a refusal of either prints.
+-- Assumes nothing.
+use Prim.Native.Nat.{ℕ, _+_, _-_, _≤_}
+use native.Mathlib.Omega.{arith}
+use mathlib.Core.Path.{_≡_, refl, sym, ap, _∙_, subst}
+use mathlib.Core.List.{List, _++_}
+use lib.ListN.{length, take, drop, getD, length-map, length-append}
+use lib.Seq.{length-sets}
+use Rattle.octets.specs.Octets.{Bytes, bytes, number}
+use Rattle.octets.proofs.NumberLaws.{read-bytes}
+use Rattle.elements.specs.Elements.{kindOf}
+use Rattle.history.specs.declared.Answer.{Answer}
+use Rattle.history.specs.Verdict.{Verdict, refused, done, then, told}
+use Rattle.history.specs.Form.{formBytes}
+use Rattle.history.specs.Table.{Object, Table, Plan, objectsBytes, tableBytes, readTable, planOf}
+use Rattle.history.specs.Image.{Image, wordsBytes, imageBytes, readImage}
+use Rattle.history.specs.Calls.{tableCall, readPlan}
+use Rattle.history.specs.Legal.{LegalTable, Every, admits}
+use Rattle.history.proofs.VerdictLaws.{used}
+use Rattle.history.proofs.TableLaws.{table-is}
+use Rattle.tables.specs.Outlines.{kindsOf, planAs, Outlined}
+use Rattle.tables.specs.declared.answers.Outline.{Outline}
+use Rattle.tables.proofs.CallerLaws.{kinds-length}
+use Rattle.forms.proofs.Accepted.{image-accepted}
+use Rattle.text.specs.Wrote.{Wrote}
+use Rattle.text.proofs.Laws.{then as text-then}
+use Rattle.listing.specs.Listing.{Panel, readBoth, firstLine, refusedLine, textOf}
+use Rattle.listing.specs.Walk.{Ready, linesIn}
+use Rattle.listing.proofs.Fits.{text-fits}
+
+-- ---- a refusal's line
+
+pub refused-text : {A : Type 0} (v : Verdict A) (f : A → Verdict Panel) {a : Answer} → a ≡ told v → (a .code ≡ 0 → ⊥)
+    → refusedLine (a .code) (a .object) (a .bit) ≡ textOf (then v f)
+unfolding told textOf
+refused-text (refused code object bit) f e n = ap (λ (a : Answer). refusedLine (a .code) (a .object) (a .bit)) e
+refused-text (done x) f e n = absurd (n (ap (λ (a : Answer). a .code) e))
+
+pub wrote-as : {l : List ℕ} {at : ℕ} {xs ys m : List ℕ} {r : ℕ} → xs ≡ ys → Wrote l at xs m r → Wrote l at ys m r
+wrote-as {l} {at} {xs} {ys} {m} {r} e w = subst (λ (zs : List ℕ). Wrote l at zs m r) e w
+
+-- a refused table; an accepted table and a refused image
+pub table-refused : {b : List ℕ} {r : Outline} → Outlined b r → (r .answer .code ≡ 0 → ⊥) → (a : List ℕ) → refusedLine (r .answer .code) (r .answer .object) (r .answer .bit) ≡ textOf (readBoth b a)
+unfolding readBoth tableCall
+table-refused {b} o n a = refused-text (readTable b) (λ t. then (readImage (planOf t) a) λ i. done (record { table = t; image = i })) (o .answer) n
+
+both-under : (b a : List ℕ) {t : Table} {p : Plan} → readTable b ≡ done t → planOf t ≡ p → readBoth b a ≡ then (readImage p a) (λ i. done (record { table = t; image = i }))
+unfolding readBoth
+both-under b a e f = rw (e, f)
+
+refused-under : (b : List ℕ) {p : Plan} (a : List ℕ) {c : Answer} → readPlan b ≡ done p → c ≡ told (readImage p a) → (c .code ≡ 0 → ⊥) → refusedLine (c .code) (c .object) (c .bit) ≡ textOf (readBoth b a)
+unfolding readPlan
+refused-under b {p} a e f n =
+    let t = used (readTable b) _ e in
+    let plan : planOf (t .0) ≡ p = cc (t .2) in
+    refused-text (readImage p a) (λ i. done (record { table = t .0; image = i })) f n ∙ ap textOf (sym (both-under b a (t .1) plan))
+
+-- ---- an accepted table and image
+
+-- the table and the image, and their parts in the bytes
+pub record Read (b a ns : List ℕ) : Type 0 where
+  pub table : Table
+  pub image : Image
+  pub reads : readBoth b a ≡ done (record { table = table; image = image })
+  pub legal : LegalTable table
+  pub kinds : planOf table .kinds ≡ kindsOf ns
+  pub count : length (table .objects) ≡ length ns
+  pub nine : 9 ≤ length b
+  pub eleven : 11 ≤ length a
+  pub x : getD b 5 0 ≡ table .x
+  pub y : getD b 6 0 ≡ table .y
+  pub position : number (take 4 (drop 7 a)) ≡ image .position
+  pub entries : drop 9 b ≡ objectsBytes (table .objects)
+  pub elements : drop 11 a ≡ wordsBytes (kindsOf ns) (image .words)
+  pub each : Every admits (kindsOf ns) (image .words)
+
+-- the parts of a written form
+module _ (t : Table) where
+  table-long : 9 ≤ length (tableBytes t)
+  unfolding tableBytes formBytes bytes
+  table-long = omega arith
+
+  table-x : getD (tableBytes t) 5 0 ≡ t .x
+  unfolding tableBytes formBytes bytes
+  table-x = refl
+
+  table-y : getD (tableBytes t) 6 0 ≡ t .y
+  unfolding tableBytes formBytes bytes
+  table-y = refl
+
+  table-entries : drop 9 (tableBytes t) ≡ objectsBytes (t .objects)
+  unfolding tableBytes formBytes bytes
+  table-entries = refl
+
+module _ (p : Plan) (a : Image) where
+  image-long : 11 ≤ length (imageBytes p a)
+  unfolding imageBytes formBytes bytes
+  image-long = omega arith
+
+  image-contents : drop 7 (imageBytes p a) ≡ bytes 4 (a .position) ++ wordsBytes (p .kinds) (a .words)
+  unfolding imageBytes formBytes bytes
+  image-contents = refl
+
+  image-elements : drop 11 (imageBytes p a) ≡ wordsBytes (p .kinds) (a .words)
+  unfolding imageBytes formBytes bytes
+  image-elements = refl
+
+both-read : (b a : List ℕ) {t : Table} {p : Plan} {i : Image} → readTable b ≡ done t → planOf t ≡ p → readImage p a ≡ done i
+    → readBoth b a ≡ done (record { table = t; image = i })
+unfolding readBoth
+both-read b a e f g = rw (e, f, g)
+
+plan-length : (t : Table) → length (t .objects) ≡ length (planOf t .kinds)
+unfolding planOf
+plan-length t = sym (length-map (t .objects) (λ (o : Object). kindOf (t .x) (o .type)))
+
+pub read-as : {b a ns : List ℕ} → Ready b a ns → Bytes b → Bytes a → Read b a ns
+unfolding readPlan
+read-as {b} {a} {ns} r hb ha =
+    let t = used (readTable b) _ (r .plan) in
+    let plan : planOf (t .0) ≡ planAs (r .x) (r .y) ns = cc (t .2) in
+    let tab = table-is b (t .1) in
+    let b-is = tab .same hb in
+    let i = image-accepted (planAs (r .x) (r .y) ns) a ha (r .image) in
+    let a-is = i .same in
+    let kinds : planOf (t .0) .kinds ≡ kindsOf ns = ap (λ (p : Plan). p .kinds) plan in
+    record {
+      table = t .0;
+      image = i .image;
+      reads = both-read b a (t .1) plan (i .reads);
+      legal = tab .legal;
+      kinds = kinds;
+      count = plan-length (t .0) ∙ ap length kinds ∙ kinds-length ns;
+      nine = rw b-is (table-long (t .0));
+      eleven = rw a-is (image-long _ (i .image));
+      x = ap (λ (c : List ℕ). getD c 5 0) b-is ∙ table-x (t .0);
+      y = ap (λ (c : List ℕ). getD c 6 0) b-is ∙ table-y (t .0);
+      position = ap (λ (c : List ℕ). number (take 4 (drop 7 c))) a-is ∙ ap (λ (c : List ℕ). number (take 4 c)) (image-contents _ (i .image)) ∙ read-bytes 4 (i .image .position) _ (i .legal .position);
+      entries = ap (drop 9) b-is ∙ table-entries (t .0);
+      elements = ap (drop 11) a-is ∙ image-elements _ (i .image);
+      each = i .legal .words;
+    }
+
+-- ---- what the table's outline and the image's check tell
+
+module _ {b : List ℕ} {r : Outline} (o : Outlined b r) (z : r .answer .code ≡ 0) where
+  -- the layout numbers as the code lends them
+  abbrev numbers : List ℕ
+  numbers = take (r .count - 0) (r .kinds)
+
+  plan-known : readPlan b ≡ done (planAs (r .x) (r .y) numbers)
+  plan-known = let e : r .count - 0 ≡ r .count = omega arith in rw e (o .plan z)
+
+  module _ (a : List ℕ) {c : Answer} (f : c ≡ told (readImage (planAs (r .x) (r .y) numbers) a)) where
+    pub image-refused : (c .code ≡ 0 → ⊥) → refusedLine (c .code) (c .object) (c .bit) ≡ textOf (readBoth b a)
+    image-refused n = refused-under b a plan-known f n
+
+    pub ready : c .code ≡ 0 → Ready b a numbers
+    ready e = record { x = r .x; y = r .y; plan = plan-known; image = ap (λ (c : Answer). c .code) (sym f) ∙ e }
+
+-- ---- its text
+
+text-in : {b a ns : List ℕ} (r : Read b a ns) → textOf (readBoth b a) ≡ firstLine (getD b 5 0) (getD b 6 0) (number (take 4 (drop 7 a))) (length ns) ++ linesIn (readBoth b a)
+unfolding textOf linesIn
+text-in {b} {a} {ns} r =
+    ap textOf (r .reads)
+    ∙ (λ j. firstLine (sym (r .x) j) (sym (r .y) j) (sym (r .position) j) (r .count j) ++ linesIn (sym (r .reads) j))
+
+module _ {b a ns : List ℕ} (r : Read b a ns) {position : ℕ} (e : position ≡ number (take 4 (drop 7 a))) {l m : List ℕ} {p : ℕ}
+    (w : Wrote l 0 (firstLine (getD b 5 0) (getD b 6 0) position (length ns)) m p) where
+  text-from : textOf (readBoth b a) ≡ firstLine (getD b 5 0) (getD b 6 0) position (length ns) ++ linesIn (readBoth b a)
+  text-from = text-in r ∙ ap (λ (n : ℕ). firstLine (getD b 5 0) (getD b 6 0) n (length ns) ++ linesIn (readBoth b a)) (sym e)
+
+  pub lines-room : 65536 ≤ length l → p + length (linesIn (readBoth b a)) ≤ length m
+  lines-room h =
+      omega (
+        arith,
+        w .next,
+        ap length (w .text) ∙ length-sets l 0 (firstLine (getD b 5 0) (getD b 6 0) position (length ns)),
+        text-fits b a,
+        ap length text-from,
+        length-append (firstLine (getD b 5 0) (getD b 6 0) position (length ns)) (linesIn (readBoth b a)),
+      )
+
+  pub lines-after : {n : List ℕ} {q : ℕ} → Wrote m p (linesIn (readBoth b a)) n q → Wrote l 0 (textOf (readBoth b a)) n q
+  lines-after v = wrote-as (sym text-from) (text-then w v)

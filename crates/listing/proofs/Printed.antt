@@ -1,0 +1,87 @@
+-- The listing by the calls: of a table and an image that are accepted it prints both, and a refusal is printed with the numbers that the
+-- image's check gives.
+-- Assumes nothing.
+use Prim.Native.Nat.{ℕ, _+_, _≤_}
+use native.Mathlib.Omega.{arith}
+use mathlib.Core.Path.{_≡_, refl, sym, ap, _∙_}
+use mathlib.Core.Bool.{Bool}
+use mathlib.Core.List.{List, _++_}
+use lib.Dec.{eqb, leb}
+use lib.ListN.{length, take, length-append}
+use lib.Seq.{take-append-le, take-at, drop-at}
+use borrow.Author.Tests.{le-leb, leb-true, eqb-true}
+use Rattle.octets.specs.Octets.{number}
+use Rattle.history.specs.declared.Answer.{Answer}
+use Rattle.history.specs.Verdict.{Verdict, refused, done, then, told}
+use Rattle.history.specs.Form.{Form, readForm}
+use Rattle.history.specs.Table.{Table, Plan, versionGood, readTable, planOf}
+use Rattle.history.specs.Image.{Image, readImage}
+use Rattle.history.specs.Calls.{tableCall, readPlan, imageCall}
+use Rattle.history.proofs.VerdictLaws.{held, used}
+use Rattle.tables.proofs.AnswerLaws.{told-then}
+use Rattle.listing.specs.Listing.{Panel, readBoth, tableSize, readPanel, refusedLine, panelText, textOf, listingOf}
+
+-- ---- table and image, one behind the other
+
+-- a form that is read fills its slice
+form-fills : (least : ℕ) (good : ℕ → Bool) (b : List ℕ) {f : Form} → readForm least good b ≡ done f → (4 ≤ length b) × (length b ≡ 4 + number (take 4 b))
+unfolding readForm
+form-fills least good b e =
+    let four = held (leb 4 (length b)) _ _ _ _ e in
+    let fills = held (eqb (length b) (4 + number (take 4 b))) _ _ _ _ (four .1) in
+    (leb-true 4 (length b) (four .0), eqb-true (length b) (4 + number (take 4 b)) (fills .0))
+
+table-fills : (t : List ℕ) {table : Table} → tableCall t ≡ done table → (4 ≤ length t) × (length t ≡ 4 + number (take 4 t))
+unfolding tableCall readTable
+table-fills t e = form-fills 5 versionGood t (used (readForm 5 versionGood t) _ e .1)
+
+module _ (t a : List ℕ) (four : 4 ≤ length t) (fills : length t ≡ 4 + number (take 4 t)) (few : length t + length a ≤ 65536) where
+  size : tableSize (t ++ a) ≡ length t
+  size = ap (λ (b : List ℕ). 4 + number b) (take-append-le 4 t a four) ∙ sym fills
+
+  -- it is split where the table ends
+  parted : listingOf (t ++ a) ≡ textOf (readBoth t a)
+  unfolding listingOf readPanel
+  parted =
+      let all = length-append t a in
+      rw (
+        le-leb (length (t ++ a)) 65536 (omega arith),
+        le-leb 4 (length (t ++ a)) (omega arith),
+        size,
+        le-leb (length t) (length (t ++ a)) (omega arith),
+        take-at t a (length t) refl,
+        drop-at t a (length t) refl,
+      )
+
+-- ---- by the calls
+
+both-told : (v : Verdict Table) (f : Plan → Verdict Image)
+    → told {A = Panel} (then v (λ t. then (f (planOf t)) λ a. done (record { table = t; image = a }))) ≡ told (then (then v (λ t. done (planOf t))) f)
+unfolding told
+both-told (refused code object bit) f = refl
+both-told (done t) f = told-then (f (planOf t)) (λ (a : Image). record { table = t; image = a })
+
+answer-is : (t a : List ℕ) → told (readBoth t a) ≡ told (imageCall t a)
+unfolding readBoth imageCall readPlan
+answer-is t a = both-told (readTable t) (λ p. readImage p a)
+
+line-is : (v : Verdict Panel) → (told v .code ≡ 0 → ⊥) → textOf v ≡ refusedLine (told v .code) (told v .object) (told v .bit)
+unfolding told textOf
+line-is (refused code object bit) n = refl
+line-is (done p) n = absurd (n refl)
+
+both-read : (t a : List ℕ) {table : Table} {image : Image} → tableCall t ≡ done table → imageCall t a ≡ done image → textOf (readBoth t a) ≡ panelText table image
+unfolding tableCall imageCall readPlan readBoth textOf
+both-read t a e f = let g = rw e at f in rw (e, g)
+
+-- an accepted table and image, one behind the other
+pub panel-printed : (t a : List ℕ) {table : Table} {image : Image} → length t + length a ≤ 65536 → tableCall t ≡ done table → imageCall t a ≡ done image
+    → listingOf (t ++ a) ≡ panelText table image
+panel-printed t a few e f = let w = table-fills t e in parted t a (w .0) (w .1) few ∙ both-read t a e f
+
+-- a refusal, of either: the numbers are those of the image's check
+pub refusal-printed : (t a : List ℕ) → 4 ≤ length t → length t ≡ 4 + number (take 4 t) → length t + length a ≤ 65536
+    → {c : Answer} → c ≡ told (imageCall t a) → (c .code ≡ 0 → ⊥) → listingOf (t ++ a) ≡ refusedLine (c .code) (c .object) (c .bit)
+refusal-printed t a four fills few e n =
+    let same = e ∙ sym (answer-is t a) in
+    parted t a four fills few ∙ line-is (readBoth t a) (λ z. n (ap (λ (c : Answer). c .code) same ∙ z)) ∙ ap (λ (c : Answer). refusedLine (c .code) (c .object) (c .bit)) (sym same)

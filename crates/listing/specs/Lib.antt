@@ -1,0 +1,3 @@
+pub mod Listing
+pub mod Output
+pub mod Walk

@@ -1,0 +1,27 @@
+-- The listing in a lent buffer. Every listing fits 65,536 bytes: a shorter buffer stays as it was, and 0 is given back, which no listing's
+-- length is (proofs/Fits).
+-- Assumes nothing.
+use Prim.Native.Nat.{ℕ, _≤_}
+use mathlib.Core.Path.{_≡_}
+use mathlib.Core.Bool.{cond}
+use mathlib.Core.List.{List, _++_}
+use lib.Dec.{leb}
+use lib.ListN.{length, drop}
+use Rattle.listing.specs.Listing.{listingOf}
+
+pub record Listed : Type 0 where
+  pub size : ℕ
+  pub output : List ℕ
+
+-- the text in front, the rest as it was, and how long the text is
+abbrev pub inFront : List ℕ → List ℕ → Listed
+inFront text out = record { size = length text; output = text ++ drop (length text) out }
+
+unfoldable pub listed : List ℕ → List ℕ → Listed
+listed input out = cond (leb 65536 (length out)) (inFront (listingOf input) out) (record { size = 0; output = out })
+
+-- the whole outcome, and what callers go by
+pub record ListedInto (input out₀ out : List ℕ) (r : ℕ) : Type 0 where
+  pub size : r ≡ listed input out₀ .size
+  pub output : out ≡ listed input out₀ .output
+  pub inside : r ≤ length out

@@ -1,0 +1,83 @@
+// A table and its image as text: both are checked, then walked once, object by object.
+use super::lines::put_first_line;
+use super::lines::put_object_line;
+use super::lines::put_refusal;
+use forms::check_image_under;
+use forms::kind_at;
+use tables::outline;
+ghost use mathlib.Core.Path.{_≡_};
+ghost use Prim.Native.Nat.{_+_, _≤_, _<_};
+ghost use lib.ListN.{length, getD};
+ghost use Rattle.text.specs.Wrote.{Wrote};
+ghost use Rattle.listing.specs.Listing.{readBoth, textOf};
+ghost use Rattle.listing.specs.Walk.{Ready, linesIn};
+
+// The lines of both, or the line of the first refusal.
+pub fn put_panel(table: &[u8], image: &[u8], out: &mut [u8]) -> usize
+    requires { ⌜ 65536 ≤ length (now out) ⌝ }
+    ensures { λ r. ⌜ Wrote (now (out .entry)) 0 (textOf (readBoth (now (table .entry)) (now (image .entry)))) (now (out .exit)) r ⌝ }
+{
+    let known = outline(table);
+    let answer = known.answer;
+    if answer.code != 0 {
+        return put_refusal(out, answer);
+    }
+    let x = known.x;
+    let y = known.y;
+    let count = known.count;
+    let kinds = known.kinds;
+    let checked = check_image_under(x, y, &kinds[0..count], image);
+    if checked.code != 0 {
+        return put_refusal(out, checked);
+    }
+    put_accepted(table, image, &kinds[0..count], out)
+}
+
+// The first line, then a line for each object.
+fn put_accepted(table: &[u8], image: &[u8], kinds: &[u8], out: &mut [u8]) -> usize
+    requires { ⌜ Ready (now table) (now image) (now kinds) ⌝ }
+    requires { ⌜ 65536 ≤ length (now out) ⌝ }
+    ensures { λ r. ⌜ Wrote (now (out .entry)) 0 (textOf (readBoth (now (table .entry)) (now (image .entry)))) (now (out .exit)) r ⌝ }
+{
+    let position = octets::get_at(image, 7, 4);
+    let count = kinds.len() as u32;
+    let at = put_first_line(out, table[5], table[6], position, count);
+    put_objects(table, image, kinds, out, at)
+}
+
+// A line for each object: one place goes along the table's entries, one along the image's elements.
+fn put_objects(table: &[u8], image: &[u8], kinds: &[u8], out: &mut [u8], at: usize) -> usize
+    requires { ⌜ Ready (now table) (now image) (now kinds) ⌝ }
+    requires { ⌜ at + length (linesIn (readBoth (now table) (now image))) ≤ length (now out) ⌝ }
+    ensures { λ r. ⌜ Wrote (now (out .entry)) at (linesIn (readBoth (now (table .entry)) (now (image .entry)))) (now (out .exit)) r ⌝ }
+{
+    let mut to = at;
+    let mut entry = 9;
+    let mut place = 11;
+    let mut i = 0;
+    while i < kinds.len() {
+        let label = entry + 2;
+        let next = label_end(table, entry);
+        let end = place + elements::width(kind_at(kinds, i));
+        to = put_object_line(
+            out,
+            to,
+            i as u32,
+            table[entry],
+            &table[label..next],
+            &image[place..end],
+        );
+        entry = next;
+        place = end;
+        i += 1;
+    }
+    to
+}
+
+// Where a label ends that begins after its entry's two bytes.
+fn label_end(table: &[u8], entry: usize) -> usize
+    requires { ⌜ entry + 2 + getD (now table) (entry + 1) 0 ≤ length (now table) ⌝ }
+    ensures { λ r. ⌜ r ≡ entry + 2 + getD (now (table .entry)) (entry + 1) 0 ⌝ }
+{
+    entry + 2 + table[entry + 1] as usize
+}

@@ -1,0 +1,36 @@
+-- `outputs::write_list` meets its contract: the room is tested before the head and the entries are written.
+-- Assumes nothing.
+use mathlib.Core.Path.{_≡_, refl, sym, _∙_}
+use Prim.Native.Nat.{_+_, _≤_}
+use native.Mathlib.Omega.{arith}
+use lib.ListN.{length}
+use borrow.Author.Needs.{needs}
+use Rattle.octets.proofs.Writing.{start, append-at, as-done}
+use Rattle.outputs.specs.Outputs.{walkList}
+use Rattle.outputs.proofs.Heads.{length-head, list-is, length-list, short-is, short-stays, written-is, written-out}
+use Rattle.outputs.proofs.write_list.Statement.{statement}
+use Rattle.outputs.proofs.write_list.Tie as tie
+
+returns : tie.Need-returns
+returns c =
+    let a = c .before .before .before .before .before .before .before .before .args in
+    let l = walkList (a .walk) (a .x) (a .y) (a .kinds .now) (a .from) (a .to) (a .first .now) (a .second .now) in
+    let long = length-list (a .walk) (a .x) (a .y) (a .kinds .now) (a .from) (a .to) (a .first .now) (a .second .now) (c .before .before .before .measure .ensures) in
+    (short-is l (a .out .now) long (c .before .if1 .taken) (c .short .ensures), short-stays l (a .out .now) long (c .before .if1 .taken))
+
+returns-2 : tie.Need-returns-2
+returns-2 c =
+    let a = c .before .before .before .before .before .before .before .before .before .before .before .before .before .before .before .before .args in
+    let m = c .before .before .before .before .before .before .before .before .before .before .before .measure in
+    let size = m .result .bytes in
+    let count = m .result .count in
+    let l = walkList (a .walk) (a .x) (a .y) (a .kinds .now) (a .from) (a .to) (a .first .now) (a .second .now) in
+    let long = length-list (a .walk) (a .x) (a .y) (a .kinds .now) (a .from) (a .to) (a .first .now) (a .second .now) (m .ensures) in
+    let is = list-is (a .walk) (a .x) (a .y) (a .kinds .now) (a .from) (a .to) (a .first .now) (a .second .now) (m .ensures) in
+    let room : 17 + size ≤ length (a .out .now) = c .before .before .before .before .before .before .before .before .before .if1 .left in
+    let w₁ = append-at (start (a .out .now)) (c .before .before .before .before .before .before .before .put-head .ensures) 17 (omega (arith, length-head (13 + size) (a .x) (a .y) (a .from) (a .to) count)) (omega arith) in
+    let w₂ = append-at w₁ (c .before .before .before .put-changes .ensures) (17 + size) (omega (arith, m .ensures .bytes)) room in
+    (written-is l (a .out .now) long room (c .written .ensures), written-out l (a .out .now) long room (as-done w₂ (sym is)))
+
+pub write-list-spec : {M : Type 1} → statement M
+write-list-spec = tie.close (tie.spec (λ c κs. search needs) (λ c. search needs) (λ c. search needs) (λ c. search needs) (λ c κs. search needs) returns (λ c. search needs) (λ c. search needs) (λ c. search needs) (λ c. search needs) (λ c. search needs) (λ c κs. search needs) (λ c. search needs) (λ c. search needs) (λ c. search needs) (λ c κs. search needs) (λ c. search needs) (λ c κs. search needs) (λ c. search needs) returns-2)

@@ -1,0 +1,126 @@
+-- What the functions of one object answer: an entry and an element read at a cursor, and the step made of them.
+-- Assumes nothing.
+use Prim.Native.Nat.{ℕ, zero, suc, _+_, _-_, _≤_, _<_}
+use native.Mathlib.Omega.{arith}
+use mathlib.Core.Path.{_≡_, refl, sym, ap, ap₂, _∙_}
+use mathlib.Core.Bool.{Bool, true, false, cond}
+use mathlib.Core.List.{List, [], _∷_, _++_, append-assoc}
+use lib.Dec.{eqb, leb}
+use lib.ListN.{length, take, drop, getD, length-drop}
+use lib.Seq.{drop-drop}
+use borrow.Author.Tests.{eq-eqb, ne-eqb, le-leb, lt-leb, leb-true}
+use Rattle.octets.specs.Octets.{bytes, number}
+use Rattle.history.specs.declared.Change.{Change}
+use Rattle.history.specs.declared.Change.the-variants.{Keep as keep, Swap as swap}
+use Rattle.history.specs.Operations.{differ, fits, meets, joined, back}
+use Rattle.steps.specs.declared.Walk.{Walk}
+use Rattle.steps.specs.declared.Step.{Step}
+use Rattle.steps.specs.Steps.{span, entryBytes, changeAt, reach, wordAt, stepOf, Stepped}
+
+-- ---- an element at a cursor
+
+module _ (l : List ℕ) (at w : ℕ) where
+  pub reach-cut : length l - at < w → 0 ≡ reach w (drop at l)
+  unfolding reach
+  reach-cut h = rw (length-drop, lt-leb w (length l - at) h)
+
+  pub reach-whole : w ≤ length l - at → w ≡ reach w (drop at l)
+  unfolding reach
+  reach-whole h = rw (length-drop, le-leb w (length l - at) h)
+
+pub reach-room : (w : ℕ) (b : List ℕ) → reach w b ≤ length b
+unfolding reach
+reach-room w b = go (leb w (length b)) refl
+  where
+    go : (t : Bool) → leb w (length b) ≡ t → cond t w 0 ≤ length b
+    go true e = leb-true _ _ e
+    go false e = omega arith
+
+-- ---- an entry at a cursor
+
+module _ (l : List ℕ) (at i w : ℕ) where
+  pub entry-cut : length l - at < 2 + (w + w) → keep ≡ changeAt i w (drop at l)
+  unfolding changeAt
+  entry-cut h = rw (length-drop, lt-leb (2 + (w + w)) (length l - at) h)
+
+  module _ (h : 2 + (w + w) ≤ length l - at) (n : ℕ) (e : n ≡ number (take 2 (drop at l))) where
+    pub entry-other : (n ≡ i → ⊥) → keep ≡ changeAt i w (drop at l)
+    unfolding changeAt
+    entry-other g = rw (length-drop, le-leb (2 + (w + w)) (length l - at) h, ← e, ne-eqb n i g)
+
+    pub entry-named : n ≡ i → (old new : ℕ) → old ≡ number (take w (drop (at + 2) l)) → new ≡ number (take w (drop (at + 2 + w) l))
+        → swap old new ≡ changeAt i w (drop at l)
+    unfolding changeAt
+    entry-named g old new o m =
+        let s : at + (2 + w) ≡ at + 2 + w = omega arith in
+        rw (length-drop, le-leb (2 + (w + w)) (length l - at) h, ← e, eq-eqb n i g, drop-drop 2 at l, drop-drop (2 + w) at l, s, ← o, ← m)
+
+pub span-room : (i w : ℕ) (b : List ℕ) → span w (changeAt i w b) ≤ length b
+unfolding changeAt
+span-room i w b = go (leb (2 + (w + w)) (length b)) (eqb (number (take 2 b)) i) refl
+  where
+    go : (t u : Bool) → leb (2 + (w + w)) (length b) ≡ t
+        → span w (cond t (cond u (swap (number (take w (drop 2 b))) (number (take w (drop (2 + w) b)))) keep) keep) ≤ length b
+    go true true e = leb-true _ _ e
+    go true false e = omega arith
+    go false u e = omega arith
+
+-- ---- the step
+
+near-room : (walk : Walk) (i w : ℕ) (f s : List ℕ) → stepOf walk i w f s .first ≤ length f
+unfolding stepOf
+near-room Walk.Difference i w f s = reach-room w f
+near-room Walk.Join i w f s = span-room i w f
+near-room Walk.Turn i w f s = span-room i w f
+near-room Walk.Apply i w f s = span-room i w f
+
+far-room : (walk : Walk) (i w : ℕ) (f s : List ℕ) → stepOf walk i w f s .second ≤ length s
+unfolding stepOf
+far-room Walk.Difference i w f s = reach-room w s
+far-room Walk.Join i w f s = span-room i w s
+far-room Walk.Turn i w f s = omega arith
+far-room Walk.Apply i w f s = reach-room w s
+
+-- a step as defined leaves neither form
+pub stepped : {walk : Walk} {i w : ℕ} {f : List ℕ} {p : ℕ} {s : List ℕ} {q : ℕ} {r : Step} → p ≤ length f → q ≤ length s
+    → r ≡ stepOf walk i w (drop p f) (drop q s) → Stepped walk i w f p s q r
+stepped {walk} {i} {w} {f} {p} {s} {q} {r} h k e = record {
+  is = e;
+  near = omega (arith, near-room walk i w (drop p f) (drop q s), length-drop p f, ap (λ (r : Step). r .first) e);
+  far = omega (arith, far-room walk i w (drop p f) (drop q s), length-drop q s, ap (λ (r : Step). r .second) e);
+}
+
+-- each walk's step, from what its functions ensure
+module _ (walk : Walk) (i w : ℕ) (f s : List ℕ) where
+  pub difference-step : walk ≡ Walk.Difference → {m n a b : ℕ} {c : Change} → m ≡ reach w f → n ≡ reach w s → a ≡ number (take m f) → b ≡ number (take n s) → c ≡ differ a b
+      → _≡_ {A = Step} (record { change = c; agrees = true; first = m; second = n }) (stepOf walk i w f s)
+  unfolding stepOf
+  difference-step t em en ea eb ec = rw (t, ec, ea, eb, em, en)
+
+  module _ {c : Change} (ec : c ≡ changeAt i w f) where
+    pub join-step : walk ≡ Walk.Join → {d e : Change} {t : Bool} {m n : ℕ} → d ≡ changeAt i w s → e ≡ joined c d → t ≡ meets c d → m ≡ span w c → n ≡ span w d
+        → _≡_ {A = Step} (record { change = e; agrees = t; first = m; second = n }) (stepOf walk i w f s)
+    unfolding stepOf
+    join-step t ed ee et em en = rw (t, ee, et, em, en, ec, ed)
+
+    pub turn-step : walk ≡ Walk.Turn → {d : Change} {m : ℕ} → d ≡ back c → m ≡ span w c
+        → _≡_ {A = Step} (record { change = d; agrees = true; first = m; second = 0 }) (stepOf walk i w f s)
+    unfolding stepOf
+    turn-step t ed em = rw (t, ed, em, ec)
+
+    pub apply-step : walk ≡ Walk.Apply → {t : Bool} {m n a : ℕ} → n ≡ reach w s → a ≡ number (take n s) → t ≡ fits c a → m ≡ span w c
+        → _≡_ {A = Step} (record { change = c; agrees = t; first = m; second = n }) (stepOf walk i w f s)
+    unfolding stepOf
+    apply-step t en ea et em = rw (t, et, em, ea, en, ec)
+
+-- ---- an entry as it is written
+
+pub none : (xs : List ℕ) → length xs ≡ 0 → xs ≡ []
+none [] h = refl
+none (x ∷ xs) h = absurd (omega arith)
+
+pub entry-done : (i w old new : ℕ) → (([] ++ bytes 2 i) ++ bytes (2 + w - 2) old) ++ bytes (2 + w + w - (2 + w)) new ≡ entryBytes i w (swap old new)
+entry-done i w old new =
+    let m : 2 + w - 2 ≡ w = omega arith in
+    let n : 2 + w + w - (2 + w) ≡ w = omega arith in
+    rw (m, n) (simp append-assoc)

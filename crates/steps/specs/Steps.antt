@@ -1,0 +1,66 @@
+-- One object's step over two forms, on any bytes. A device between the code and the meaning, which is history's: the laws of the walks
+-- tie it to the meaning where the bytes are those of accepted forms.
+-- Assumes nothing.
+use Prim.Native.Nat.{ℕ, _+_, _≤_}
+use mathlib.Core.Path.{_≡_}
+use mathlib.Core.Bool.{Bool, true, false, cond}
+use mathlib.Core.List.{List, [], _++_}
+use lib.Dec.{eqb, leb}
+use lib.ListN.{length, take, drop}
+use Rattle.octets.specs.Octets.{bytes, number}
+use Rattle.history.specs.declared.Change.{Change}
+use Rattle.history.specs.declared.Change.the-variants.{Keep as keep, Swap as swap}
+use Rattle.history.specs.Operations.{differ, fits, meets, joined, back}
+use Rattle.steps.specs.declared.Walk.{Walk}
+use Rattle.steps.specs.declared.Step.{Step}
+
+-- the bytes that an object's entry takes, and the entry itself
+abbrev pub span : ℕ → Change → ℕ
+span w keep = 0
+span w (swap old new) = 2 + (w + w)
+
+abbrev pub entryBytes : ℕ → ℕ → Change → List ℕ
+entryBytes i w keep = []
+entryBytes i w (swap old new) = bytes 2 i ++ (bytes w old ++ bytes w new)
+
+-- what the entries b say of object i: their first entry, where it is whole and names the object
+unfoldable pub changeAt : ℕ → ℕ → List ℕ → Change
+changeAt i w b =
+    cond (leb (2 + (w + w)) (length b))
+    (cond (eqb (number (take 2 b)) i) (swap (number (take w (drop 2 b))) (number (take w (drop (2 + w) b)))) keep)
+    keep
+
+-- the first element of b, and the bytes that it takes: none where it is cut
+unfoldable pub reach : ℕ → List ℕ → ℕ
+reach w b = cond (leb w (length b)) w 0
+
+abbrev pub wordAt : ℕ → List ℕ → ℕ
+wordAt w b = number (take (reach w b) b)
+
+-- the element b after a change
+abbrev pub renewed : Change → List ℕ → List ℕ
+renewed keep b = b
+renewed (swap old new) b = bytes (length b) new
+
+-- the step at object i, of width w, where f and s are left of the two forms
+unfoldable pub stepOf : Walk → ℕ → ℕ → List ℕ → List ℕ → Step
+stepOf Walk.Difference i w f s = record { change = differ (wordAt w f) (wordAt w s); agrees = true; first = reach w f; second = reach w s }
+stepOf Walk.Join i w f s = record {
+  change = joined (changeAt i w f) (changeAt i w s);
+  agrees = meets (changeAt i w f) (changeAt i w s);
+  first = span w (changeAt i w f);
+  second = span w (changeAt i w s);
+}
+stepOf Walk.Turn i w f s = record { change = back (changeAt i w f); agrees = true; first = span w (changeAt i w f); second = 0 }
+stepOf Walk.Apply i w f s = record {
+  change = changeAt i w f;
+  agrees = fits (changeAt i w f) (wordAt w s);
+  first = span w (changeAt i w f);
+  second = reach w s;
+}
+
+-- a step of the code, where the cursors stand at p and q: neither leaves its form
+pub record Stepped (walk : Walk) (i w : ℕ) (f : List ℕ) (p : ℕ) (s : List ℕ) (q : ℕ) (r : Step) : Type 0 where
+  pub is : r ≡ stepOf walk i w (drop p f) (drop q s)
+  pub near : p + r .first ≤ length f
+  pub far : q + r .second ≤ length s

@@ -1,0 +1,2 @@
+pub mod Bridges
+pub mod Turns

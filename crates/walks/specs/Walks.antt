@@ -1,0 +1,46 @@
+-- The walk over two forms, object by object, on any bytes. A device between the code and the meaning, which is history's: the laws
+-- (proofs/Bridges) tie it to the meaning where the bytes are those of accepted forms.
+-- Assumes nothing.
+use Prim.Native.Nat.{ℕ, suc, _≤_}
+use mathlib.Core.Path.{_≡_}
+use mathlib.Core.Bool.{cond}
+use mathlib.Core.List.{List, [], _∷_, _++_}
+use lib.ListN.{length, take, drop}
+use Rattle.kinds.specs.Kinds.{widthOf}
+use Rattle.kinds.specs.declared.Kind.{Kind}
+use Rattle.history.specs.declared.Change.{Change}
+use Rattle.history.specs.Changes.{entriesBytes, entries}
+use Rattle.steps.specs.declared.Walk.{Walk}
+use Rattle.steps.specs.Steps.{span, changeAt, stepOf, renewed}
+
+-- the changes of the objects from i on, and the entries of these
+unfoldable pub walked : Walk → ℕ → List Kind → List ℕ → List ℕ → List Change
+walked walk i [] f s = []
+walked walk i (k ∷ ks) f s =
+    stepOf walk i (widthOf k) f s .change
+    ∷ walked walk (suc i) ks (drop (stepOf walk i (widthOf k) f s .first) f) (drop (stepOf walk i (widthOf k) f s .second) s)
+
+abbrev pub walkBytes : Walk → ℕ → List Kind → List ℕ → List ℕ → List ℕ
+walkBytes walk i ks f s = entriesBytes i ks (walked walk i ks f s)
+
+-- their size
+pub record Measured (walk : Walk) (ks : List Kind) (f s : List ℕ) (count size : ℕ) : Type 0 where
+  pub entries : count ≡ entries (walked walk 0 ks f s)
+  pub bytes : size ≡ length (walkBytes walk 0 ks f s)
+  pub few : count ≤ 1024
+  pub short : size ≤ 10240
+
+-- the lowest object on which the forms do not agree, or the first past the last
+unfoldable pub misfit : Walk → ℕ → List Kind → List ℕ → List ℕ → ℕ
+misfit walk i [] f s = i
+misfit walk i (k ∷ ks) f s =
+    cond (stepOf walk i (widthOf k) f s .agrees)
+    (misfit walk (suc i) ks (drop (stepOf walk i (widthOf k) f s .first) f) (drop (stepOf walk i (widthOf k) f s .second) s))
+    i
+
+-- the elements b after the entries e
+unfoldable pub renewal : ℕ → List Kind → List ℕ → List ℕ → List ℕ
+renewal i [] e b = []
+renewal i (k ∷ ks) e b =
+    renewed (changeAt i (widthOf k) e) (take (widthOf k) b)
+    ++ renewal (suc i) ks (drop (span (widthOf k) (changeAt i (widthOf k) e)) e) (drop (widthOf k) b)
