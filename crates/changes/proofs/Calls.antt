@@ -1,7 +1,7 @@
 -- The calls: a refused table's answer is the whole answer, then that of each form as given; of accepted forms the calls under a plan decide.
 -- Assumes nothing.
 use Prim.Native.Nat.{ℕ}
-use mathlib.Core.Path.{_≡_, refl, sym, ap, _∙_}
+use mathlib.Core.Path.{_≡_, sym, ap, _∙_}
 use mathlib.Core.List.{List}
 use lib.ListN.{take}
 use Rattle.octets.specs.Octets.{Bytes}

@@ -1,29 +1,24 @@
 -- What the calls under a plan come to, test by test, where the forms are accepted.
 -- Assumes nothing.
-use Prim.Native.Nat.{ℕ, zero, suc, _+_, _≤_, _<_}
+use Prim.Native.Nat.{ℕ, _+_, _≤_, _<_}
 use native.Mathlib.Omega.{arith}
-use mathlib.Core.Path.{_≡_, refl, sym, ap, ap₂, _∙_}
-use mathlib.Core.Bool.{Bool, true, false}
-use mathlib.Core.List.{List, [], _∷_, _++_, map}
+use mathlib.Core.Path.{_≡_, refl, sym, ap, _∙_}
+use mathlib.Core.Bool.{true, false}
+use mathlib.Core.List.{List}
 use lib.Dec.{eqb, leb}
-use lib.ListN.{length, take, drop, length-append}
+use lib.ListN.{length, take, drop}
 use borrow.Author.Tests.{eq-eqb, ne-eqb, le-leb, lt-leb}
-use Rattle.octets.specs.Octets.{bytes, number}
-use Rattle.kinds.specs.declared.Kind.{Kind}
+use Rattle.octets.specs.Octets.{number}
 use Rattle.history.specs.declared.Answer.{Answer}
-use Rattle.history.specs.declared.Change.{Change}
-use Rattle.history.specs.Verdict.{Verdict, refused, done, then, refusal, refusalAt, numbers, Outcome, settled}
-use Rattle.history.specs.Form.{formBytes}
-use Rattle.history.specs.Table.{Plan}
-use Rattle.history.specs.Image.{Image, widths, wordsBytes, imageBytes, readImage}
-use Rattle.history.specs.Changes.{Changes, entriesBytes, listBytes, readList}
-use Rattle.history.specs.Operations.{differ, fits, meets, joined, back, after, zip, lowest, difference, applied, join, turned}
+use Rattle.history.specs.Verdict.{Verdict, refused, done, then, refusal, refusalAt, numbers, settled}
+use Rattle.history.specs.Image.{Image, widths, wordsBytes, imageBytes}
+use Rattle.history.specs.Changes.{Changes, listBytes}
+use Rattle.history.specs.Operations.{joined, after, zip, difference, applied, join, turned}
 use Rattle.history.proofs.CallLaws.{AcceptedImage, AcceptedList}
-use Rattle.octets.proofs.NumberLaws.{length-bytes}
 use Rattle.history.proofs.ImageLaws.{length-words}
 use Rattle.steps.specs.declared.Walk.{Walk}
 use Rattle.tables.specs.Outlines.{kindsOf, planAs}
-use Rattle.walks.specs.Walks.{walked, misfit, renewal}
+use Rattle.walks.specs.Walks.{misfit, renewal}
 use Rattle.walks.proofs.Bridges.{difference-walk, join-walk, turn-walk, join-misfit, apply-misfit, foundAt, renewal-is}
 use Rattle.forms.proofs.KindLaws.{length-kinds}
 use Rattle.walks.proofs.Turns.{length-renewal}
@@ -44,9 +39,6 @@ pub settles : {v w : Verdict (List ℕ)} (out : List ℕ) {r : Answer} {m : List
 settles out e q = rw e at q
 
 module _ (x y : ℕ) (ns : List ℕ) (few : length ns ≤ 1024) where
-  plan : Plan
-  plan = planAs x y ns
-
   bound : 0 + length (kindsOf ns) ≤ 65536
   bound = omega (arith, length-kinds ns)
 

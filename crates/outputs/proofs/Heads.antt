@@ -2,9 +2,9 @@
 -- Assumes nothing.
 use Prim.Native.Nat.{ℕ, _+_, _-_, _≤_, _<_}
 use native.Mathlib.Omega.{arith}
-use mathlib.Core.Path.{_≡_, refl, sym, ap, ap₂, _∙_}
-use mathlib.Core.List.{List, [], _∷_, _++_, append-assoc}
-use lib.ListN.{length, take, drop, length-append, length-take, length-drop}
+use mathlib.Core.Path.{_≡_, sym, ap, ap₂, _∙_}
+use mathlib.Core.List.{List, _++_, append-assoc}
+use lib.ListN.{length, take, drop, length-append, length-drop}
 use lib.Seq.{take-all, length-take-le}
 use Rattle.octets.specs.Octets.{bytes}
 use Rattle.kinds.specs.declared.Kind.{Kind}
@@ -12,13 +12,13 @@ use Rattle.history.specs.declared.Change.{Change}
 use Rattle.history.specs.Verdict.{done, Outcome, numbers, settled}
 use Rattle.history.specs.Form.{formBytes}
 use Rattle.history.specs.Image.{widths}
-use Rattle.history.specs.Changes.{listVersion, entries, entriesBytes, listBytes}
+use Rattle.history.specs.Changes.{entries, entriesBytes, listBytes}
 use Rattle.octets.proofs.NumberLaws.{length-bytes}
 use Rattle.octets.proofs.Writing.{Written, front}
 use Rattle.history.proofs.ImageLaws.{widths-few}
 use Rattle.history.proofs.OutputLaws.{settled-room, settled-short}
 use Rattle.steps.specs.declared.Walk.{Walk}
-use Rattle.tables.specs.Outlines.{kindsOf, planAs}
+use Rattle.tables.specs.Outlines.{kindsOf}
 use Rattle.walks.specs.Walks.{walked, walkBytes, Measured, renewal}
 use Rattle.forms.proofs.KindLaws.{length-kinds}
 use Rattle.walks.proofs.Turns.{length-renewal}

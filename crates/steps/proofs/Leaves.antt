@@ -1,12 +1,12 @@
 -- What the functions of one object answer: an entry and an element read at a cursor, and the step made of them.
 -- Assumes nothing.
-use Prim.Native.Nat.{ℕ, zero, suc, _+_, _-_, _≤_, _<_}
+use Prim.Native.Nat.{ℕ, _+_, _-_, _≤_, _<_}
 use native.Mathlib.Omega.{arith}
-use mathlib.Core.Path.{_≡_, refl, sym, ap, ap₂, _∙_}
+use mathlib.Core.Path.{_≡_, refl, ap}
 use mathlib.Core.Bool.{Bool, true, false, cond}
 use mathlib.Core.List.{List, [], _∷_, _++_, append-assoc}
 use lib.Dec.{eqb, leb}
-use lib.ListN.{length, take, drop, getD, length-drop}
+use lib.ListN.{length, take, drop, length-drop}
 use lib.Seq.{drop-drop}
 use borrow.Author.Tests.{eq-eqb, ne-eqb, le-leb, lt-leb, leb-true}
 use Rattle.octets.specs.Octets.{bytes, number}
@@ -15,7 +15,7 @@ use Rattle.history.specs.declared.Change.the-variants.{Keep as keep, Swap as sw
 use Rattle.history.specs.Operations.{differ, fits, meets, joined, back}
 use Rattle.steps.specs.declared.Walk.{Walk}
 use Rattle.steps.specs.declared.Step.{Step}
-use Rattle.steps.specs.Steps.{span, entryBytes, changeAt, reach, wordAt, stepOf, Stepped}
+use Rattle.steps.specs.Steps.{span, entryBytes, changeAt, reach, stepOf, Stepped}
 
 -- ---- an element at a cursor
 

@@ -1,6 +1,7 @@
 // What is done at one object, for the four operations on change lists: its change is found in two forms, and written. A difference
 // compares the elements of two images; a join, the entries of two lists; turning back takes the entry of one list; application
 // takes an entry and an element. It takes any bytes, refuses nothing and knows no form's head.
+use forms::kind_at;
 use history::Change;
 ghost use mathlib.Core.Path.{_≡_};
 ghost use Prim.Native.Nat.{_+_, _≤_, _<_};
@@ -29,27 +30,27 @@ pub struct Step {
     pub second: usize,
 }
 
-// Its step, where the cursors stand at p and q.
+// An object's step, where the cursors stand at near in the first form and at far in the second.
 pub fn step_at(
     walk: Walk,
     object: usize,
     width: usize,
     first: &[u8],
-    p: usize,
+    near: usize,
     second: &[u8],
-    q: usize,
+    far: usize,
 ) -> Step
-    requires { ⌜ (p ≤ length (now first)) × (q ≤ length (now second)) × (width ≤ 4) ⌝ }
-    ensures { λ r. ⌜ Stepped walk object width (now (first .entry)) p (now (second .entry)) q r ⌝ }
+    requires { ⌜ (near ≤ length (now first)) × (far ≤ length (now second)) × (width ≤ 4) ⌝ }
+    ensures { λ r. ⌜ Stepped walk object width (now (first .entry)) near (now (second .entry)) far r ⌝ }
 {
     match walk {
         Walk::Difference => {
-            let old = reach(first, p, width);
-            let new = reach(second, q, width);
+            let old = reach(first, near, width);
+            let new = reach(second, far, width);
             Step {
                 change: differ(
-                    octets::get_at(first, p, old),
-                    octets::get_at(second, q, new),
+                    octets::get_at(first, near, old),
+                    octets::get_at(second, far, new),
                 ),
                 agrees: true,
                 first: old,
@@ -57,8 +58,8 @@ pub fn step_at(
             }
         }
         Walk::Join => {
-            let one = change_at(first, p, object, width);
-            let other = change_at(second, q, object, width);
+            let one = change_at(first, near, object, width);
+            let other = change_at(second, far, object, width);
             Step {
                 change: joined(one, other),
                 agrees: meets(one, other),
@@ -67,7 +68,7 @@ pub fn step_at(
             }
         }
         Walk::Turn => {
-            let one = change_at(first, p, object, width);
+            let one = change_at(first, near, object, width);
             Step {
                 change: back(one),
                 agrees: true,
@@ -76,11 +77,11 @@ pub fn step_at(
             }
         }
         Walk::Apply => {
-            let one = change_at(first, p, object, width);
-            let old = reach(second, q, width);
+            let one = change_at(first, near, object, width);
+            let old = reach(second, far, width);
             Step {
                 change: one,
-                agrees: fits(one, octets::get_at(second, q, old)),
+                agrees: fits(one, octets::get_at(second, far, old)),
                 first: span(width, one),
                 second: old,
             }
@@ -123,7 +124,7 @@ pub fn width_at(kinds: &[u8], object: usize) -> usize
     requires { ⌜ object < length (now kinds) ⌝ }
     ensures { λ r. ⌜ (r ≡ widthOf (kindAt (kindsOf (now (kinds .entry))) object)) × (r ≤ 4) ⌝ }
 {
-    elements::width(elements::kind_numbered(kinds[object]))
+    elements::width(kind_at(kinds, object))
 }
 
 // Fills the part with the object's entry; old and new through parts of it.

@@ -1,15 +1,15 @@
 -- The walk finds the meaning: over the bytes of admitted words and lawful changes, each walk gives what its operation gives.
 -- Assumes nothing.
-use Prim.Native.Nat.{ℕ, zero, suc, _+_, _^_, _≤_, _<_}
+use Prim.Native.Nat.{ℕ, suc, _+_, _^_, _≤_, _<_}
 use native.Mathlib.Omega.{arith}
-use mathlib.Core.Path.{_≡_, refl, sym, ap, ap₂, _∙_}
+use mathlib.Core.Path.{_≡_, refl, sym, _∙_}
 use mathlib.Core.Bool.{Bool, true, false, cond}
-use mathlib.Core.List.{List, [], _∷_, _++_, map, append-assoc}
-use lib.Dec.{eqb, leb}
-use lib.ListN.{length, take, drop, length-append}
+use mathlib.Core.List.{List, _∷_, _++_, map, append-assoc}
+use lib.Dec.{leb}
+use lib.ListN.{length, drop, length-append}
 use lib.Seq.{drop-drop, drop-at}
 use borrow.Author.Tests.{eq-eqb, ne-eqb, le-leb, lt-leb}
-use Rattle.octets.specs.Octets.{bytes, number}
+use Rattle.octets.specs.Octets.{bytes}
 use Rattle.kinds.specs.Kinds.{widthOf}
 use Rattle.kinds.specs.declared.Kind.{Kind}
 use Rattle.history.specs.declared.Change.{Change}
@@ -23,7 +23,7 @@ use Rattle.octets.proofs.NumberLaws.{length-bytes, take-bytes, drop-bytes, read
 use Rattle.history.proofs.ChangeLaws.{lawful-swap}
 use Rattle.history.proofs.ElementLaws.{admits-fits}
 use Rattle.steps.specs.declared.Walk.{Walk}
-use Rattle.steps.specs.Steps.{span, entryBytes, changeAt, reach, wordAt, stepOf, renewed}
+use Rattle.steps.specs.Steps.{span, entryBytes, changeAt, reach, stepOf, renewed}
 use Rattle.walks.specs.Walks.{walked, misfit, renewal}
 
 -- ---- one object's entry

@@ -1,13 +1,13 @@
 -- The turns of the loops: at object i, with the cursors p and q, what is done and what the walk still gives make up the whole.
 -- Assumes nothing.
-use Prim.Native.Nat.{ℕ, zero, suc, _+_, _-_, _*_, _≤_, _<_}
+use Prim.Native.Nat.{ℕ, suc, _+_, _-_, _*_, _≤_, _<_}
 use native.Mathlib.Omega.{arith}
 use native.Mathlib.Numerals.{add-one}
 use mathlib.Core.Path.{_≡_, refl, sym, ap, ap₂, _∙_}
-use mathlib.Core.Bool.{Bool, true, false, cond}
+use mathlib.Core.Bool.{true, false, cond}
 use mathlib.Core.List.{List, [], _∷_, _++_}
 use lib.ListN.{length, take, drop, length-append, length-drop}
-use lib.Seq.{drop-drop, drop-cons, length-take-le}
+use lib.Seq.{drop-drop, length-take-le}
 use borrow.Rule.Slice.PartMut.{putMid, midOf}
 use Rattle.octets.specs.Octets.{bytes}
 use Rattle.kinds.specs.Kinds.{widthOf}
@@ -22,11 +22,11 @@ use Rattle.octets.proofs.Writing.{Filling, begin, along, keeps, has-room, write
 use Rattle.steps.specs.declared.Walk.{Walk}
 use Rattle.steps.specs.declared.Step.{Step}
 use Rattle.tables.specs.Outlines.{kindsOf}
-use Rattle.steps.specs.Steps.{span, entryBytes, changeAt, stepOf, Stepped, renewed}
+use Rattle.steps.specs.Steps.{span, entryBytes, changeAt, Stepped, renewed}
 use Rattle.walks.specs.Walks.{walked, walkBytes, Measured, misfit, renewal}
 use Rattle.walks.proofs.Bridges.{entries-cons, length-entry}
 use Rattle.steps.proofs.Leaves.{span-room}
-use Rattle.forms.proofs.KindLaws.{length-kinds, kinds-next, kinds-end}
+use Rattle.forms.proofs.KindLaws.{kinds-next, kinds-end}
 
 -- ---- one turn of the walk
 

@@ -21,17 +21,17 @@ pub fn measure(walk: Walk, kinds: &[u8], first: &[u8], second: &[u8]) -> Size
 {
     let mut count: usize = 0;
     let mut bytes: usize = 0;
-    let mut p: usize = 0;
-    let mut q: usize = 0;
+    let mut near: usize = 0;
+    let mut far: usize = 0;
     let mut i: usize = 0;
     while i < kinds.len() {
         let width = steps::width_at(kinds, i);
-        let step = steps::step_at(walk, i, width, first, p, second, q);
+        let step = steps::step_at(walk, i, width, first, near, second, far);
         let change = step.change;
         count += steps::count_of(change);
         bytes += steps::span(width, change);
-        p += step.first;
-        q += step.second;
+        near += step.first;
+        far += step.second;
         i += 1;
     }
     Size { count, bytes }
@@ -44,18 +44,18 @@ pub fn put_changes(part: &mut [u8], walk: Walk, kinds: &[u8], first: &[u8], seco
     ensures { λ _. ⌜ now (part .exit) ≡ walkBytes walk 0 (kindsOf (now (kinds .entry))) (now (first .entry)) (now (second .entry)) ⌝ }
 {
     let mut at: usize = 0;
-    let mut p: usize = 0;
-    let mut q: usize = 0;
+    let mut near: usize = 0;
+    let mut far: usize = 0;
     let mut i: usize = 0;
     while i < kinds.len() {
         let width = steps::width_at(kinds, i);
-        let step = steps::step_at(walk, i, width, first, p, second, q);
+        let step = steps::step_at(walk, i, width, first, near, second, far);
         let change = step.change;
         let end = at + steps::span(width, change);
         steps::put_change(&mut part[at..end], i as u32, width, change);
         at = end;
-        p += step.first;
-        q += step.second;
+        near += step.first;
+        far += step.second;
         i += 1;
     }
 }
@@ -65,17 +65,17 @@ pub fn find_misfit(walk: Walk, kinds: &[u8], first: &[u8], second: &[u8]) -> usi
     requires { ⌜ length (now kinds) ≤ 1024 ⌝ }
     ensures { λ r. ⌜ (r ≡ misfit walk 0 (kindsOf (now (kinds .entry))) (now (first .entry)) (now (second .entry))) × (r ≤ length (now (kinds .entry))) ⌝ }
 {
-    let mut p: usize = 0;
-    let mut q: usize = 0;
+    let mut near: usize = 0;
+    let mut far: usize = 0;
     let mut i: usize = 0;
     while i < kinds.len() {
         let width = steps::width_at(kinds, i);
-        let step = steps::step_at(walk, i, width, first, p, second, q);
+        let step = steps::step_at(walk, i, width, first, near, second, far);
         if !step.agrees {
             return i;
         }
-        p += step.first;
-        q += step.second;
+        near += step.first;
+        far += step.second;
         i += 1;
     }
     i
@@ -88,15 +88,15 @@ pub fn renew(part: &mut [u8], kinds: &[u8], entries: &[u8])
     ensures { λ _. ⌜ now (part .exit) ≡ renewal 0 (kindsOf (now (kinds .entry))) (now (entries .entry)) (now (part .entry)) ⌝ }
 {
     let mut at: usize = 0;
-    let mut p: usize = 0;
+    let mut entry_at: usize = 0;
     let mut i: usize = 0;
     while i < kinds.len() {
         let width = steps::width_at(kinds, i);
         let end = at + width;
-        let change = steps::change_at(entries, p, i, width);
+        let change = steps::change_at(entries, entry_at, i, width);
         steps::put_new(&mut part[at..end], change);
         at = end;
-        p += steps::span(width, change);
+        entry_at += steps::span(width, change);
         i += 1;
     }
 }

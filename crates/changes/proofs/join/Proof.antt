@@ -8,13 +8,28 @@ use Rattle.changes.proofs.join.Tie as tie
 
 returns : tie.Need-returns
 returns c =
-    let a = c .before .before .before .before .before .before .before .before .args in
-    join-stops (c .before .before .before .outline .ensures) (a .out .now) (c .if1 .taken) (a .first .now) (a .second .now)
+    let c₁ = c .before .before .before in
+    let c₂ = c₁ .before .before .before .before .before in
+    let a = c₂ .args in
+    join-stops (c₁ .outline .ensures) (a .out .now) (c .if1 .taken) (a .first .now) (a .second .now)
 
 returns-2 : tie.Need-returns-2
 returns-2 c =
-    let a = c .before .before .before .before .before .before .before .before .before .before .before .before .before .before .args in
-    join-goes (c .before .before .before .before .before .before .before .before .before .outline .ensures) (a .out .now) (c .before .before .before .before .before .before .if1 .left) (a .first .now) (a .second .now) (c .before .before .join-under .ensures)
+    let c₁ = c .before .before in
+    let c₂ = c₁ .before .before .before .before in
+    let c₃ = c₂ .before .before .before in
+    let c₄ = c₃ .before .before .before .before .before in
+    let a = c₄ .args in
+    join-goes (c₃ .outline .ensures) (a .out .now) (c₂ .if1 .left) (a .first .now) (a .second .now) (c₁ .join-under .ensures)
 
 pub join-spec : {M : Type 1} → statement M
-join-spec = tie.close (tie.spec (λ c κs. search needs) returns (λ c. search needs) (λ c. kinds-counted (c .before .before .before .before .before .outline .ensures)) (λ c κs. few-kinds (c .before .before .before .before .before .before .outline .ensures)) (λ c. search needs) returns-2)
+join-spec =
+    tie.close
+    (tie.spec
+    (λ c κs. search needs)
+    returns
+    (λ c. search needs)
+    (λ c. kinds-counted (c .before .before .before .before .before .outline .ensures))
+    (λ c κs. few-kinds (c .before .before .before .before .before .before .outline .ensures))
+    (λ c. search needs)
+    returns-2)

@@ -14,12 +14,25 @@ use Rattle.outputs.proofs.put_opening.Tie as tie
 returns : tie.Need-returns
 unfolding opening listVersion
 returns c =
-    let a = c .before .before .before .before .before .args in
-    let w₁ = append-put (start (a .part .now)) (a .after) 4 (c .before .before .put .ensures) (omega arith) (omega arith) in
+    let c₁ = c .before .before in
+    let c₂ = c₁ .before .before .before in
+    let a = c₂ .args in
+    let w₁ = append-put (start (a .part .now)) (a .after) 4 (c₁ .put .ensures) (omega arith) (omega arith) in
     let w₂ = append-store w₁ 1 (omega arith) in
     let w₃ = append-store w₂ (a .x) (omega arith) in
     let w₄ = append-store w₃ (a .y) (omega arith) in
     filled w₄ (omega arith) ∙ simp append-assoc
 
 pub put-opening-spec : {M : Type 1} → statement M
-put-opening-spec = tie.close (tie.spec (λ c. search needs) (λ c. search needs) (λ c. search needs) (λ c κs. search needs) (λ c. search needs) (λ c. simp length-set (search needs)) (λ c. simp length-set (search needs)) (λ c. search needs) returns)
+put-opening-spec =
+    tie.close
+    (tie.spec
+    (λ c. search needs)
+    (λ c. search needs)
+    (λ c. search needs)
+    (λ c κs. search needs)
+    (λ c. search needs)
+    (λ c. simp length-set (search needs))
+    (λ c. simp length-set (search needs))
+    (λ c. search needs)
+    returns)

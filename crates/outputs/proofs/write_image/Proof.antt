@@ -1,13 +1,9 @@
 -- `outputs::write_image` meets its contract: the room is tested before the image's front, the new position and the elements are written.
 -- Assumes nothing.
-use mathlib.Core.Path.{_≡_, refl, sym, ap, _∙_}
-use mathlib.Core.List.{append-assoc}
-use Prim.Native.Nat.{_+_, _*_, _≤_}
+use Prim.Native.Nat.{_≤_}
 use native.Mathlib.Omega.{arith}
 use lib.ListN.{length}
 use borrow.Author.Needs.{needs}
-use Rattle.history.specs.Image.{widths}
-use Rattle.history.proofs.ImageLaws.{widths-few}
 use Rattle.tables.specs.Outlines.{kindsOf}
 use Rattle.octets.proofs.Writing.{start, append-at, append-put, as-done}
 use Rattle.outputs.specs.Outputs.{imageAfter}
@@ -20,26 +16,58 @@ cast-short c = let s = c .before .before .before .before .before in omega (arith
 
 returns : tie.Need-returns
 returns c =
-    let s = c .before .before .before .before .before .before in
+    let c₁ = c .before in
+    let s = c₁ .before .before .before .before .before in
     let a = s .args in
     let l = imageAfter (kindsOf (a .kinds .now)) (a .image .now) (a .to) (a .entries .now) in
     let long = length-after (kindsOf (a .kinds .now)) (a .image .now) (a .to) (a .entries .now) (s .pre .1) in
-    (short-is l (a .out .now) long (c .before .if1 .taken) (c .short .ensures), short-stays l (a .out .now) long (c .before .if1 .taken))
+    (short-is l (a .out .now) long (c₁ .if1 .taken) (c .short .ensures), short-stays l (a .out .now) long (c₁ .if1 .taken))
 
 cast-written : tie.Need-cast-written
 cast-written c = let s = c .before .before .before .before .before .before .before .before .before .before .before .before .before .before .before .before .before .before .before in omega (arith, few-bytes (s .args .kinds .now) (s .args .image .now) (s .pre .0) (s .pre .1))
 
 returns-2 : tie.Need-returns-2
 returns-2 c =
-    let s = c .before .before .before .before .before .before .before .before .before .before .before .before .before .before .before .before .before .before .before .before in
+    let c₁ = c .before .before .before in
+    let c₂ = c₁ .before .before .before .before .before in
+    let c₃ = c₂ .before .before .before .before in
+    let c₄ = c₃ .before .before .before in
+    let s = c₄ .before .before .before .before .before in
     let a = s .args in
     let l = imageAfter (kindsOf (a .kinds .now)) (a .image .now) (a .to) (a .entries .now) in
     let long = length-after (kindsOf (a .kinds .now)) (a .image .now) (a .to) (a .entries .now) (s .pre .1) in
-    let room : length (a .image .now) ≤ length (a .out .now) = c .before .before .before .before .before .before .before .before .before .before .before .before .before .before .before .if1 .left in
-    let w₁ = append-at (start (a .out .now)) (c .before .before .before .before .before .before .before .before .before .before .before .before .copy .ensures) 7 (omega (arith, length-front (kindsOf (a .kinds .now)) (a .image .now) (a .to) (a .entries .now) (s .pre .1))) (omega arith) in
-    let w₂ = append-put w₁ (a .to) 11 (c .before .before .before .before .before .before .before .before .put .ensures) (omega arith) (omega arith) in
-    let w₃ = append-at w₂ (c .before .before .before .put-elements .ensures) (length (a .image .now)) (omega (arith, length-rest (kindsOf (a .kinds .now)) (a .image .now) (a .to) (a .entries .now) (s .pre .1))) room in
+    let room : length (a .image .now) ≤ length (a .out .now) = c₄ .if1 .left in
+    let w₁ = append-at (start (a .out .now)) (c₃ .copy .ensures) 7 (omega (arith, length-front (kindsOf (a .kinds .now)) (a .image .now) (a .to) (a .entries .now) (s .pre .1))) (omega arith) in
+    let w₂ = append-put w₁ (a .to) 11 (c₂ .put .ensures) (omega arith) (omega arith) in
+    let w₃ = append-at w₂ (c₁ .put-elements .ensures) (length (a .image .now)) (omega (arith, length-rest (kindsOf (a .kinds .now)) (a .image .now) (a .to) (a .entries .now) (s .pre .1))) room in
     (written-is l (a .out .now) long room (c .written .ensures), written-out l (a .out .now) long room (as-done w₃ (after-is (kindsOf (a .kinds .now)) (a .image .now) (a .to) (a .entries .now) (s .pre .1))))
 
 pub write-image-spec : {M : Type 1} → statement M
-write-image-spec = tie.close (tie.spec cast-short (λ c κs. search needs) returns (λ c. search needs) (λ c. search needs) (λ c. search needs) (λ c. search needs) (λ c. search needs) (λ c. search needs) (λ c κs. search needs) (λ c. search needs) (λ c. search needs) (λ c. search needs) (λ c κs. search needs) (λ c. search needs) (λ c. search needs) (λ c. search needs) (λ c. search needs) (λ c. search needs) (λ c. search needs) (λ c κs. search needs) cast-written (λ c κs. search needs) (λ c. search needs) returns-2)
+write-image-spec =
+    tie.close
+    (tie.spec
+    cast-short
+    (λ c κs. search needs)
+    returns
+    (λ c. search needs)
+    (λ c. search needs)
+    (λ c. search needs)
+    (λ c. search needs)
+    (λ c. search needs)
+    (λ c. search needs)
+    (λ c κs. search needs)
+    (λ c. search needs)
+    (λ c. search needs)
+    (λ c. search needs)
+    (λ c κs. search needs)
+    (λ c. search needs)
+    (λ c. search needs)
+    (λ c. search needs)
+    (λ c. search needs)
+    (λ c. search needs)
+    (λ c. search needs)
+    (λ c κs. search needs)
+    cast-written
+    (λ c κs. search needs)
+    (λ c. search needs)
+    returns-2)

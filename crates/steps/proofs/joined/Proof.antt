@@ -10,7 +10,20 @@ returns-2 : tie.Need-returns-2
 returns-2 c = sym (ap₂ joined (c .before .before .before .first .given .1) (c .enum-told2 .given .1))
 
 returns-3 : tie.Need-returns-3
-returns-3 c = c .differ .ensures ∙ sym (ap₂ joined (c .before .before .before .before .before .first .given .1) (c .before .before .second .given .1))
+returns-3 c =
+    let c₁ = c .before .before in
+    let c₂ = c₁ .before .before .before in
+    c .differ .ensures ∙ sym (ap₂ joined (c₂ .first .given .1) (c₁ .second .given .1))
 
 pub joined-spec : {M : Type 1} → statement M
-joined-spec = tie.close (tie.spec (λ c. search needs) (λ c. search needs) (λ c. search needs) (λ c. search needs) (λ c. search needs) returns-2 (λ c κs. search needs) returns-3)
+joined-spec =
+    tie.close
+    (tie.spec
+    (λ c. search needs)
+    (λ c. search needs)
+    (λ c. search needs)
+    (λ c. search needs)
+    (λ c. search needs)
+    returns-2
+    (λ c κs. search needs)
+    returns-3)

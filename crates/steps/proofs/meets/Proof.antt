@@ -7,7 +7,19 @@ use Rattle.steps.proofs.meets.Statement.{statement}
 use Rattle.steps.proofs.meets.Tie as tie
 
 returns-3 : tie.Need-returns-3
-returns-3 c = sym (ap₂ meets (c .before .before .before .before .first .given .1) (c .before .second .given .1))
+returns-3 c =
+    let c₁ = c .before in
+    let c₂ = c₁ .before .before .before in
+    sym (ap₂ meets (c₂ .first .given .1) (c₁ .second .given .1))
 
 pub meets-spec : {M : Type 1} → statement M
-meets-spec = tie.close (tie.spec (λ c. search needs) (λ c. search needs) (λ c. search needs) (λ c. search needs) (λ c. search needs) (λ c. search needs) returns-3)
+meets-spec =
+    tie.close
+    (tie.spec
+    (λ c. search needs)
+    (λ c. search needs)
+    (λ c. search needs)
+    (λ c. search needs)
+    (λ c. search needs)
+    (λ c. search needs)
+    returns-3)

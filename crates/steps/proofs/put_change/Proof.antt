@@ -5,7 +5,6 @@ use Prim.Native.Nat.{_+_}
 use native.Mathlib.Omega.{arith}
 use lib.ListN.{length}
 use borrow.Author.Needs.{needs}
-use Rattle.history.specs.declared.Change.{Change}
 use Rattle.octets.proofs.Writing.{start, append-put, filled}
 use Rattle.steps.specs.Steps.{span, entryBytes}
 use Rattle.steps.proofs.Leaves.{entry-done, none}
@@ -14,7 +13,10 @@ use Rattle.steps.proofs.put_change.Tie as tie
 
 -- where there is an entry, the part has its length
 long : (c : tie.After-known-told) → length (c .before .before .before .before .args .part .now) ≡ 2 + (c .before .before .before .before .args .width + c .before .before .before .before .args .width)
-long c = c .before .before .before .before .pre .0 ∙ ap (span (c .before .before .before .before .args .width)) (c .before .change .given .1)
+long c =
+    let c₁ = c .before in
+    let c₂ = c₁ .before .before .before in
+    c₂ .pre .0 ∙ ap (span (c₂ .args .width)) (c₁ .change .given .1)
 
 part-put-end : tie.Need-part-put-end
 part-put-end c = omega (arith, long c)
@@ -27,14 +29,17 @@ part-put-end-3 c = omega (arith, long (c .before .before .before .before .before
 
 returns : tie.Need-returns
 returns c =
-    let k = c .before .before .before .before .before .before .before .before .before .before .before .before in
+    let c₁ = c .before .before in
+    let c₂ = c₁ .before .before .before .before in
+    let c₃ = c₂ .before .before .before .before in
+    let k = c₃ .before .before in
     let a = k .before .before .before .before .args in
     let l = long k in
     let w = a .width in
     let g = k .before .change .given in
-    let w₁ = append-put (start (a .part .now)) (a .object) 2 (c .before .before .before .before .before .before .before .before .before .before .put .ensures) (omega arith) (omega arith) in
-    let w₂ = append-put w₁ (g .0 .0) (2 + w) (c .before .before .before .before .before .before .put2 .ensures) (omega arith) (omega arith) in
-    let w₃ = append-put w₂ (g .0 .1 .0) (2 + w + w) (c .before .before .put3 .ensures) (omega arith) (omega arith) in
+    let w₁ = append-put (start (a .part .now)) (a .object) 2 (c₃ .put .ensures) (omega arith) (omega arith) in
+    let w₂ = append-put w₁ (g .0 .0) (2 + w) (c₂ .put2 .ensures) (omega arith) (omega arith) in
+    let w₃ = append-put w₂ (g .0 .1 .0) (2 + w + w) (c₁ .put3 .ensures) (omega arith) (omega arith) in
     filled w₃ (omega arith) ∙ entry-done (a .object) w (g .0 .0) (g .0 .1 .0) ∙ sym (ap (entryBytes (a .object) w) (g .1))
 
 returns-2 : tie.Need-returns-2
@@ -44,4 +49,25 @@ returns-2 c =
     none (s .args .part .now) (s .pre .0 ∙ ap (span (s .args .width)) e) ∙ sym (ap (entryBytes (s .args .object) (s .args .width)) e)
 
 pub put-change-spec : {M : Type 1} → statement M
-put-change-spec = tie.close (tie.spec (λ c. search needs) (λ c. search needs) (λ c. search needs) (λ c. search needs) (λ c. search needs) part-put-end (λ c κs. search needs) (λ c. search needs) (λ c. search needs) part-put-end-2 (λ c κs. search needs) (λ c. search needs) (λ c. search needs) part-put-end-3 (λ c κs. search needs) (λ c. search needs) (λ c. search needs) returns returns-2)
+put-change-spec =
+    tie.close
+    (tie.spec
+    (λ c. search needs)
+    (λ c. search needs)
+    (λ c. search needs)
+    (λ c. search needs)
+    (λ c. search needs)
+    part-put-end
+    (λ c κs. search needs)
+    (λ c. search needs)
+    (λ c. search needs)
+    part-put-end-2
+    (λ c κs. search needs)
+    (λ c. search needs)
+    (λ c. search needs)
+    part-put-end-3
+    (λ c κs. search needs)
+    (λ c. search needs)
+    (λ c. search needs)
+    returns
+    returns-2)

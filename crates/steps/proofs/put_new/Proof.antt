@@ -9,8 +9,9 @@ use Rattle.steps.proofs.put_new.Tie as tie
 
 returns : tie.Need-returns
 returns c =
-    let m = c .before .before .before .before .before in
-    c .before .before .put .ensures ∙ sym (ap (λ (d : Change). renewed d (m .before .before .before .args .part .now)) (m .change .given .1))
+    let c₁ = c .before .before in
+    let m = c₁ .before .before .before in
+    c₁ .put .ensures ∙ sym (ap (λ (d : Change). renewed d (m .before .before .before .args .part .now)) (m .change .given .1))
 
 pub put-new-spec : {M : Type 1} → statement M
 put-new-spec = tie.close (tie.spec (λ c. search needs) (λ c κs. search needs) (λ c. search needs) (λ c. search needs) returns (λ c. search needs))

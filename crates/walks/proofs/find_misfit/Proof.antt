@@ -25,13 +25,16 @@ step-at-requires c κs = let z = c .before .before .loop .inv in (z .near, z .fa
 
 returns : tie.Need-returns Inv-loop μ-loop
 returns c =
-    (misfit-here (c .before .before .before .before .before .loop .inv) (omega arith) (c .before .before .before .width-at .ensures .0) (c .before .before .step-at .ensures) (not-true _ (c .if1 .taken)), omega arith)
+    let c₁ = c .before .before in
+    let c₂ = c₁ .before in
+    let c₃ = c₂ .before .before in
+    (misfit-here (c₃ .loop .inv) (omega arith) (c₂ .width-at .ensures .0) (c₁ .step-at .ensures) (not-true _ (c .if1 .taken)), omega arith)
 
-add-p : tie.Need-add-p Inv-loop μ-loop
-add-p c = omega arith
+add-near : tie.Need-add-near Inv-loop μ-loop
+add-near c = omega arith
 
-add-q : tie.Need-add-q Inv-loop μ-loop
-add-q c = omega arith
+add-far : tie.Need-add-far Inv-loop μ-loop
+add-far c = omega arith
 
 add-i : tie.Need-add-i Inv-loop μ-loop
 add-i c = omega arith
@@ -41,10 +44,28 @@ loop-less c = omega arith
 
 loop-again : tie.Need-loop-again Inv-loop μ-loop
 loop-again c =
-    one-sought (c .before .before .before .before .before .before .before .loop .inv) (omega arith) (c .before .before .before .before .before .width-at .ensures .0) (c .before .before .before .before .step-at .ensures) (not-false _ (c .before .before .if1 .left))
+    let c₁ = c .before .before in
+    let c₂ = c₁ .before .before in
+    let c₃ = c₂ .before in
+    let c₄ = c₃ .before .before in
+    one-sought (c₄ .loop .inv) (omega arith) (c₃ .width-at .ensures .0) (c₂ .step-at .ensures) (not-false _ (c₁ .if1 .left))
 
 returns-2 : tie.Need-returns-2 Inv-loop μ-loop
 returns-2 c = (all-sought (c .before .loop .inv) (omega arith), omega arith)
 
 pub find-misfit-spec : {M : Type 1} → statement M
-find-misfit-spec = tie.close (tie.spec Inv-loop μ-loop loop-holds width-at-requires step-at-requires returns add-p add-q add-i loop-less loop-again returns-2)
+find-misfit-spec =
+    tie.close
+    (tie.spec
+    Inv-loop
+    μ-loop
+    loop-holds
+    width-at-requires
+    step-at-requires
+    returns
+    add-near
+    add-far
+    add-i
+    loop-less
+    loop-again
+    returns-2)

@@ -31,11 +31,11 @@ span-requires c κs = c .before .before .width-at .ensures .1
 add-bytes : tie.Need-add-bytes Inv-loop μ-loop
 add-bytes c = omega arith
 
-add-p : tie.Need-add-p Inv-loop μ-loop
-add-p c = omega arith
+add-near : tie.Need-add-near Inv-loop μ-loop
+add-near c = omega arith
 
-add-q : tie.Need-add-q Inv-loop μ-loop
-add-q c = omega arith
+add-far : tie.Need-add-far Inv-loop μ-loop
+add-far c = omega arith
 
 add-i : tie.Need-add-i Inv-loop μ-loop
 add-i c = omega arith
@@ -45,10 +45,35 @@ loop-less c = omega arith
 
 loop-again : tie.Need-loop-again Inv-loop μ-loop
 loop-again c =
-    one-sized (c .before .before .before .before .before .before .before .loop .inv) (omega arith) (c .before .before .before .before .before .width-at .ensures .0) (c .before .before .before .before .step-at .ensures) (c .before .before .before .count-of .ensures) (c .before .before .span .ensures)
+    let c₁ = c .before .before in
+    let c₂ = c₁ .before in
+    let c₃ = c₂ .before in
+    let c₄ = c₃ .before in
+    let c₅ = c₄ .before .before in
+    one-sized (c₅ .loop .inv) (omega arith) (c₄ .width-at .ensures .0) (c₃ .step-at .ensures) (c₂ .count-of .ensures) (c₁ .span .ensures)
 
 returns : tie.Need-returns Inv-loop μ-loop
-returns c = all-sized (c .before .loop .inv) (omega arith) (c .before .before .before .before .before .pre)
+returns c =
+    let c₁ = c .before in
+    let c₂ = c₁ .before .before .before .before in
+    all-sized (c₁ .loop .inv) (omega arith) (c₂ .pre)
 
 pub measure-spec : {M : Type 1} → statement M
-measure-spec = tie.close (tie.spec Inv-loop μ-loop loop-holds width-at-requires step-at-requires (λ c κs. tt) add-count span-requires add-bytes add-p add-q add-i loop-less loop-again returns)
+measure-spec =
+    tie.close
+    (tie.spec
+    Inv-loop
+    μ-loop
+    loop-holds
+    width-at-requires
+    step-at-requires
+    (λ c κs. tt)
+    add-count
+    span-requires
+    add-bytes
+    add-near
+    add-far
+    add-i
+    loop-less
+    loop-again
+    returns)

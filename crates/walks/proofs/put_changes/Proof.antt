@@ -17,7 +17,11 @@ abbrev μ-loop : tie.MeasureT-loop
 -- the object's entry has room
 room : (c : tie.After-span Inv-loop μ-loop)
     → (c .before .before .before .before .loop .at + c .span .result ≤ length (c .before .before .before .before .before .before .before .before .before .args .part .now)) × (length (c .before .before .before .before .loop .part) ≡ length (c .before .before .before .before .before .before .before .before .before .args .part .now))
-room c = put-room (c .before .before .before .before .loop .inv) (omega arith) (c .before .before .width-at .ensures .0) (c .before .step-at .ensures) (c .span .ensures .0)
+room c =
+    let c₁ = c .before in
+    let c₂ = c₁ .before in
+    let c₃ = c₂ .before .before in
+    put-room (c₃ .loop .inv) (omega arith) (c₂ .width-at .ensures .0) (c₁ .step-at .ensures) (c .span .ensures .0)
 
 loop-holds : tie.Need-loop-holds Inv-loop μ-loop
 loop-holds c = let s = c .before .before .before .before in none-put (s .args .walk) (s .args .kinds .now) (s .args .first .now) (s .args .second .now) _ (s .pre .1)
@@ -49,11 +53,14 @@ cast-put-change c = omega (arith, c .before .before .before .before .before .bef
 put-change-requires : tie.Need-put-change-requires Inv-loop μ-loop
 put-change-requires c κs = (omega (arith, room (c .before), c .before .span .ensures .0), c .before .before .before .width-at .ensures .1)
 
-add-p : tie.Need-add-p Inv-loop μ-loop
-add-p c = omega (arith, c .before .before .before .before .before .before .step-at .ensures .near)
+add-near : tie.Need-add-near Inv-loop μ-loop
+add-near c = omega (arith, c .before .before .before .before .before .before .step-at .ensures .near)
 
-add-q : tie.Need-add-q Inv-loop μ-loop
-add-q c = omega (arith, c .before .before .before .before .before .before .before .step-at .ensures .far, c .before .before .before .before .before .before .before .before .before .before .before .before .before .before .before .good)
+add-far : tie.Need-add-far Inv-loop μ-loop
+add-far c =
+    let c₁ = c .before .before .before .before .before .before .before in
+    let c₂ = c₁ .before .before .before .before .before .before .before .before in
+    omega (arith, c₁ .step-at .ensures .far, c₂ .good)
 
 add-i : tie.Need-add-i Inv-loop μ-loop
 add-i c = omega arith
@@ -63,7 +70,12 @@ loop-less c = omega arith
 
 loop-again : tie.Need-loop-again Inv-loop μ-loop
 loop-again c =
-    one-put (c .before .before .before .before .before .before .before .before .before .before .loop .inv) (omega arith) (c .before .before .before .before .before .before .before .before .width-at .ensures .0) (c .before .before .before .before .before .before .before .step-at .ensures) (c .before .before .before .before .before .before .span .ensures .0) (c .before .before .before .before .put-change .ensures)
+    let c₁ = c .before .before .before .before in
+    let c₂ = c₁ .before .before in
+    let c₃ = c₂ .before in
+    let c₄ = c₃ .before in
+    let c₅ = c₄ .before .before in
+    one-put (c₅ .loop .inv) (omega arith) (c₄ .width-at .ensures .0) (c₃ .step-at .ensures) (c₂ .span .ensures .0) (c₁ .put-change .ensures)
 
 same-length : tie.Need-same-length Inv-loop μ-loop
 same-length c = put-keeps (c .before .loop .inv)
@@ -72,4 +84,25 @@ returns : tie.Need-returns Inv-loop μ-loop
 returns c = all-put (c .before .loop .inv) (omega arith)
 
 pub put-changes-spec : {M : Type 1} → statement M
-put-changes-spec = tie.close (tie.spec Inv-loop μ-loop loop-holds width-at-requires step-at-requires span-requires add-end sub-put-change part-put-change-start part-put-change-end cast-put-change put-change-requires add-p add-q add-i loop-less loop-again same-length returns)
+put-changes-spec =
+    tie.close
+    (tie.spec
+    Inv-loop
+    μ-loop
+    loop-holds
+    width-at-requires
+    step-at-requires
+    span-requires
+    add-end
+    sub-put-change
+    part-put-change-start
+    part-put-change-end
+    cast-put-change
+    put-change-requires
+    add-near
+    add-far
+    add-i
+    loop-less
+    loop-again
+    same-length
+    returns)

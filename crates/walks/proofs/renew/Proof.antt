@@ -43,8 +43,8 @@ part-put-new-end c = omega (arith, room (c .before))
 span-requires : tie.Need-span-requires Inv-loop μ-loop
 span-requires c κs = c .before .before .before .before .before .width-at .ensures .1
 
-add-p : tie.Need-add-p Inv-loop μ-loop
-add-p c = omega arith
+add-entry-at : tie.Need-add-entry-at Inv-loop μ-loop
+add-entry-at c = omega arith
 
 add-i : tie.Need-add-i Inv-loop μ-loop
 add-i c = omega arith
@@ -54,7 +54,11 @@ loop-less c = omega arith
 
 loop-again : tie.Need-loop-again Inv-loop μ-loop
 loop-again c =
-    one-renewed (c .before .before .before .before .before .before .before .before .loop .inv) (omega arith) (c .before .before .before .before .before .before .width-at .ensures .0) (c .before .before .before .before .before .change-at .ensures) (c .span .ensures .0) (c .before .before .before .put-new .ensures)
+    let c₁ = c .before .before .before in
+    let c₂ = c₁ .before .before in
+    let c₃ = c₂ .before in
+    let c₄ = c₃ .before .before in
+    one-renewed (c₄ .loop .inv) (omega arith) (c₃ .width-at .ensures .0) (c₂ .change-at .ensures) (c .span .ensures .0) (c₁ .put-new .ensures)
 
 same-length : tie.Need-same-length Inv-loop μ-loop
 same-length c = renew-keeps (c .before .loop .inv)
@@ -63,4 +67,23 @@ returns : tie.Need-returns Inv-loop μ-loop
 returns c = all-renewed (c .before .loop .inv) (omega arith)
 
 pub renew-spec : {M : Type 1} → statement M
-renew-spec = tie.close (tie.spec Inv-loop μ-loop loop-holds width-at-requires add-end change-at-requires sub-put-new part-put-new-start part-put-new-end (λ c κs. tt) span-requires add-p add-i loop-less loop-again same-length returns)
+renew-spec =
+    tie.close
+    (tie.spec
+    Inv-loop
+    μ-loop
+    loop-holds
+    width-at-requires
+    add-end
+    change-at-requires
+    sub-put-new
+    part-put-new-start
+    part-put-new-end
+    (λ c κs. tt)
+    span-requires
+    add-entry-at
+    add-i
+    loop-less
+    loop-again
+    same-length
+    returns)

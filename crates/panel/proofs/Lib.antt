@@ -1,0 +1,4 @@
+pub mod ElementPlaces
+pub mod ReadLaws
+pub mod WriteLaws
+pub mod Demands

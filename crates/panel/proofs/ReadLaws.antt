@@ -1,0 +1,122 @@
+-- Reading a state, at each place where its answer is made: a refusal's numbers are those of the call, and the state that the code
+-- reads from an element's place is the call's.
+-- Assumes nothing.
+use Prim.Native.Nat.{ℕ, zero, suc, _≤_, _<_}
+use native.Mathlib.Omega.{arith}
+use mathlib.Core.Path.{_≡_, refl, sym, ap, ap₂, _∙_}
+use mathlib.Core.Bool.{true}
+use mathlib.Core.List.{List}
+use lib.Dec.{ltb}
+use lib.ListN.{length, take, drop, getD}
+use borrow.Author.Tests.{lt-ltb, le-ltb}
+use Rattle.octets.specs.Octets.{Bytes, number}
+use Rattle.rows.specs.declared.Finding.{Finding}
+use Rattle.rows.specs.declared.Refusal.{Refusal}
+use Rattle.kinds.specs.Kinds.{widthOf}
+use Rattle.kinds.specs.declared.Kind.{Kind}
+use Rattle.kinds.specs.declared.Element.{Element}
+use Rattle.elements.specs.Elements.{elementCheck, stateRead, stateOf}
+use Rattle.elements.specs.declared.State.{State}
+use Rattle.elements.proofs.Laws.{read-read, read-refused}
+use Rattle.history.specs.declared.Answer.{Answer}
+use Rattle.history.specs.Verdict.{Verdict, refused, done, then, refusalAt, _unless_⨾_, numbers, told}
+use Rattle.history.specs.Table.{kindAt}
+use Rattle.history.specs.Image.{element, readImage}
+use Rattle.history.specs.Calls.{readPlan, readStateCall, stateAt}
+use Rattle.history.specs.Legal.{admits, Every, nil, and}
+use Rattle.history.proofs.CallLaws.{AcceptedImage}
+use Rattle.history.proofs.ElementLaws.{admits-accepted}
+use Rattle.tables.specs.Outlines.{kindsOf, planAs, Outlined}
+use Rattle.tables.specs.declared.answers.Outline.{Outline}
+use Rattle.tables.proofs.AnswerLaws.{told-first}
+use Rattle.forms.proofs.Accepted.{image-accepted}
+use Rattle.forms.proofs.KindLaws.{length-kinds}
+use Rattle.forms.proofs.UnderPlan.{table-refused, under-plan}
+use Rattle.panel.specs.declared.read.Reading.{Reading}
+use Rattle.panel.specs.Readings.{readingOf, answerIn, readUnder}
+use Rattle.panel.specs.Places.{placeIn, Sized}
+use Rattle.panel.proofs.ElementPlaces.{image-long, image-number}
+
+-- an answer that refuses is the reading
+pub refusal-read : {r : Answer} (v : Verdict Element) → r ≡ told v → (r .code ≡ 0 → ⊥) → Reading.Refused r ≡ readingOf v
+unfolding told readingOf
+refusal-read (refused code object bit) e n = ap Reading.Refused e
+refusal-read (done s) e n = absurd (n (ap (λ (r : Answer). r .code) e))
+
+-- a reading's numbers are the call's
+pub reading-told : (v : Verdict Element) → answerIn (readingOf v) ≡ told v
+unfolding told readingOf
+reading-told (refused code object bit) = refl
+reading-told (done s) = refl
+
+-- ---- the table
+
+by-plan : (T A : List ℕ) (i : ℕ) → readStateCall T A i ≡ then (readPlan T) (λ p. readUnder p A i)
+unfolding readStateCall readUnder
+by-plan T A i = refl
+
+module _ {T : List ℕ} {r : Outline} (o : Outlined T r) (A : List ℕ) (i : ℕ) where
+  pub table-read : (r .answer .code ≡ 0 → ⊥) → Reading.Refused (r .answer) ≡ readingOf (readStateCall T A i)
+  table-read bad = refusal-read _ (table-refused o bad (λ p. readUnder p A i)) bad ∙ ap readingOf (sym (by-plan T A i))
+
+  pub read-by-plan : r .answer .code ≡ 0 → readingOf (readUnder (planAs (r .x) (r .y) (take (r .count) (r .kinds))) A i) ≡ readingOf (readStateCall T A i)
+  read-by-plan good = ap readingOf (sym (by-plan T A i ∙ under-plan o good (λ p. readUnder p A i)))
+
+-- ---- the image
+
+admitted-at : {ks : List Kind} {ws : List ℕ} → Every admits ks ws → (i : ℕ) → i < length ks → admits (kindAt ks i) (getD ws i 0) ≡ true
+admitted-at nil i l = absurd (omega arith)
+admitted-at (and h r) zero l = h
+admitted-at (and h r) (suc i) l = admitted-at r i (omega arith)
+
+never-refused : (k : Kind) (w : ℕ) (r : Refusal) → admits k w ≡ true → elementCheck k w ≡ Finding.Refused r → ⊥
+unfolding element
+never-refused k w r h e =
+    let z : _≡_ {A = ℕ} 0 1 = cc (admits-accepted k w h) in
+    omega arith
+
+module _ (x y : ℕ) (ns A : List ℕ) (i : ℕ) {r : Answer} (r-is : r ≡ told (readImage (planAs x y ns) A)) where
+  pub image-read : (r .code ≡ 0 → ⊥) → Reading.Refused r ≡ readingOf (readUnder (planAs x y ns) A i)
+  unfolding readUnder
+  image-read bad =
+      refusal-read _ (r-is ∙ told-first (readImage (planAs x y ns) A) _ (λ z. bad (ap (λ (a : Answer). a .code) r-is ∙ z))) bad
+
+  module _ (h : Bytes A) (good : r .code ≡ 0) where
+    pub taken : AcceptedImage (planAs x y ns) A
+    taken = image-accepted (planAs x y ns) A h (ap (λ (a : Answer). a .code) (sym r-is) ∙ good)
+
+    under : readUnder (planAs x y ns) A i ≡ (refusalAt 13 i unless ltb i (length (kindsOf ns)) ⨾ done (stateAt (planAs x y ns) (taken .image) i))
+    unfolding readUnder
+    under = rw (taken .reads)
+
+    -- 13
+    pub other-object : length ns ≤ i → {s : Answer} → s ≡ numbers 13 i 255 0 → Reading.Refused s ≡ readingOf (readUnder (planAs x y ns) A i)
+    unfolding readingOf
+    other-object l {s} e =
+        let none : readUnder (planAs x y ns) A i ≡ refusalAt 13 i = under ∙ rw (le-ltb i (length (kindsOf ns)) (omega (arith, length-kinds ns))) in
+        ap Reading.Refused e ∙ sym (ap readingOf none)
+
+    module _ (l : i < length ns) where
+      pub image-sized : length ns ≤ 1024 → Sized ns A i
+      image-sized few = record { below = l; few = few; long = ap length (taken .same) ∙ image-long (taken .legal) }
+
+      inside-kinds : i < length (kindsOf ns)
+      inside-kinds = omega (arith, length-kinds ns)
+
+      module _ {kind : Kind} (kind-is : kind ≡ kindAt (kindsOf ns) i) {word : ℕ} (word-is : word ≡ number (take (widthOf (kindAt (kindsOf ns) i)) (drop (placeIn (kindsOf ns) i) A))) where
+        own-word : word ≡ getD (taken .image .words) i 0
+        own-word =
+            word-is ∙ ap (λ (b : List ℕ). number (take (widthOf (kindAt (kindsOf ns) i)) (drop (placeIn (kindsOf ns) i) b))) (taken .same)
+            ∙ image-number (taken .legal) i inside-kinds
+
+        admitted : admits kind word ≡ true
+        admitted = rw (kind-is, own-word) (admitted-at (taken .legal .words) i inside-kinds)
+
+        pub state-is : (e : Element) → State.Read e ≡ stateRead kind word → Reading.State e ≡ readingOf (readUnder (planAs x y ns) A i)
+        unfolding readingOf
+        state-is e s =
+            let own : readUnder (planAs x y ns) A i ≡ done (stateAt (planAs x y ns) (taken .image) i) = under ∙ rw (lt-ltb i (length (kindsOf ns)) inside-kinds) in
+            ap Reading.State (read-read kind word e s .1 ∙ ap₂ stateOf kind-is own-word) ∙ sym (ap readingOf own)
+
+        pub no-refusal : (f : Refusal) → State.Refused f ≡ stateRead kind word → ⊥
+        no-refusal f s = never-refused kind word f admitted (read-refused kind word f s)

@@ -1,0 +1,70 @@
+// Reading an object's state: table, image, 13.
+use super::place::word_at;
+use forms::check_image_under;
+use forms::kind_at;
+use history::Answer;
+use kinds::Element;
+use tables::accepted;
+use tables::outline;
+use tables::refused_at;
+use tables::refused_bit;
+ghost use mathlib.Core.Path.{_≡_};
+ghost use Prim.Native.Nat.{_≤_};
+ghost use lib.ListN.{length};
+ghost use Rattle.history.specs.Calls.{readStateCall};
+ghost use Rattle.tables.specs.Outlines.{planAs};
+ghost use Rattle.panel.specs.Readings.{readingOf, answerIn, readUnder};
+
+// What reading a state gives: the state, or a refusal's numbers and no state.
+pub enum Reading {
+    State(Element),
+    Refused(Answer),
+}
+
+// A reading's four numbers.
+pub fn answer_of(reading: Reading) -> Answer
+    ensures { λ r. ⌜ r ≡ answerIn reading ⌝ }
+{
+    match reading {
+        Reading::State(_) => accepted(),
+        Reading::Refused(answer) => answer,
+    }
+}
+
+// The state of an object in an image, under its table.
+pub fn read_state(table: &[u8], image: &[u8], object: u16) -> Reading
+    ensures { λ r. ⌜ r ≡ readingOf (readStateCall (now (table .entry)) (now (image .entry)) object) ⌝ }
+{
+    let known = outline(table);
+    let answer = known.answer;
+    if answer.code != 0 {
+        return Reading::Refused(answer);
+    }
+    let x = known.x;
+    let y = known.y;
+    let count = known.count;
+    let kinds = known.kinds;
+    read_under(x, y, &kinds[..count], image, object)
+}
+
+// The same, under what is known of the table.
+fn read_under(x: u8, y: u8, kinds: &[u8], image: &[u8], object: u16) -> Reading
+    requires { ⌜ length (now kinds) ≤ 1024 ⌝ }
+    ensures { λ r. ⌜ r ≡ readingOf (readUnder (planAs x y (now (kinds .entry))) (now (image .entry)) object) ⌝ }
+{
+    let answer = check_image_under(x, y, kinds, image);
+    if answer.code != 0 {
+        return Reading::Refused(answer);
+    }
+    let index = object as usize;
+    if kinds.len() <= index {
+        return Reading::Refused(refused_at(13, object));
+    }
+    let kind = kind_at(kinds, index);
+    let word = word_at(kinds, image, index);
+    let state = elements::read_state(word, kind);
+    match state {
+        elements::State::Read(element) => Reading::State(element),
+        elements::State::Refused(r) => Reading::Refused(refused_bit(r.code, object, r.bit)),
+    }
+}

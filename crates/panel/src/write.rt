@@ -1,0 +1,164 @@
+// Writing an object's state, with the image's new position: table, image, 13, 22, 12, 21.
+use super::place::element_place;
+use forms::check_image_under;
+use forms::kind_at;
+use history::Answer;
+use kinds::Element;
+use kinds::kind_in;
+use rows::Finding;
+use tables::accepted;
+use tables::outline;
+use tables::refused_at;
+use tables::refused_bit;
+ghost use mathlib.Core.Path.{_≡_};
+ghost use Prim.Native.Nat.{_≤_, _-_};
+ghost use lib.ListN.{length};
+ghost use Rattle.history.specs.Verdict.{done, numbers, told, settled};
+ghost use Rattle.history.specs.Calls.{writeStateCall};
+ghost use Rattle.tables.specs.Outlines.{kindsOf, planAs};
+ghost use Rattle.panel.specs.Places.{Sized};
+ghost use Rattle.panel.specs.Writings.{checkState, writeUnder, elementAnew, renewed};
+
+// The image with an object's state and the position anew, at the front of the output.
+pub fn write_state(
+    table: &[u8],
+    image: &[u8],
+    object: u16,
+    state: Element,
+    position: u32,
+    out: &mut [u8],
+) -> Answer
+    ensures { λ r. ⌜ r ≡ settled (writeStateCall (now (table .entry)) (now (image .entry)) object state position) (now (out .entry)) .answer ⌝ }
+    ensures { λ _. ⌜ now (out .exit) ≡ settled (writeStateCall (now (table .entry)) (now (image .entry)) object state position) (now (out .entry)) .output ⌝ }
+{
+    let known = outline(table);
+    let answer = known.answer;
+    if answer.code != 0 {
+        return answer;
+    }
+    let x = known.x;
+    let y = known.y;
+    let count = known.count;
+    let kinds = known.kinds;
+    write_under(x, y, &kinds[..count], image, object, state, position, out)
+}
+
+// The same, under what is known of the table.
+fn write_under(
+    x: u8,
+    y: u8,
+    kinds: &[u8],
+    image: &[u8],
+    object: u16,
+    state: Element,
+    position: u32,
+    out: &mut [u8],
+) -> Answer
+    requires { ⌜ length (now kinds) ≤ 1024 ⌝ }
+    ensures { λ r. ⌜ r ≡ settled (writeUnder (planAs x y (now (kinds .entry))) (now (image .entry)) object state position) (now (out .entry)) .answer ⌝ }
+    ensures { λ _. ⌜ now (out .exit) ≡ settled (writeUnder (planAs x y (now (kinds .entry))) (now (image .entry)) object state position) (now (out .entry)) .output ⌝ }
+{
+    let answer = check_image_under(x, y, kinds, image);
+    if answer.code != 0 {
+        return answer;
+    }
+    let found = check_state(kinds, object, state);
+    if found.code != 0 {
+        return found;
+    }
+    let word = elements::word_of(state);
+    put_element(kinds, image, object as usize, position, word, out)
+}
+
+// A state handed in for an object: 13, 22, 12.
+fn check_state(kinds: &[u8], object: u16, state: Element) -> Answer
+    ensures { λ r. ⌜ r ≡ told (checkState (kindsOf (now (kinds .entry))) object state) ⌝ }
+{
+    let index = object as usize;
+    if kinds.len() <= index {
+        return refused_at(13, object);
+    }
+    let kind = kind_at(kinds, index);
+    if !elements::same_kind(kind_in(state), kind) {
+        return refused_at(22, object);
+    }
+    let finding = elements::check_element(elements::word_of(state), kind);
+    if let Finding::Refused(r) = finding {
+        return refused_bit(r.code, object, r.bit);
+    }
+    accepted()
+}
+
+// The image with the position and the object's element anew, where the output has room; else 21.
+fn put_element(
+    kinds: &[u8],
+    image: &[u8],
+    object: usize,
+    position: u32,
+    word: u32,
+    out: &mut [u8],
+) -> Answer
+    requires { ⌜ Sized (now kinds) (now image) object ⌝ }
+    ensures { λ r. ⌜ r ≡ settled (done (elementAnew (kindsOf (now (kinds .entry))) (now (image .entry)) object position word)) (now (out .entry)) .answer ⌝ }
+    ensures { λ _. ⌜ now (out .exit) ≡ settled (done (elementAnew (kindsOf (now (kinds .entry))) (now (image .entry)) object position word)) (now (out .entry)) .output ⌝ }
+{
+    let at = element_place(kinds, object);
+    let kind = kind_at(kinds, object);
+    let end = at + elements::width(kind);
+    put_image(image, position, at, end, word, out)
+}
+
+// The same, with the element's bytes from one place to another.
+fn put_image(
+    image: &[u8],
+    position: u32,
+    at: usize,
+    end: usize,
+    word: u32,
+    out: &mut [u8],
+) -> Answer
+    requires { ⌜ (11 ≤ at) × (at ≤ end) × (end ≤ length (now image)) × (length (now image) ≤ 4107) ⌝ }
+    ensures { λ r. ⌜ r ≡ settled (done (renewed (now (image .entry)) position at (end - at) word)) (now (out .entry)) .answer ⌝ }
+    ensures { λ _. ⌜ now (out .exit) ≡ settled (done (renewed (now (image .entry)) position at (end - at) word)) (now (out .entry)) .output ⌝ }
+{
+    let size = image.len();
+    if out.len() < size {
+        return short(size as u32);
+    }
+    renew(&mut out[0..size], image, position, at, end, word);
+    written(size as u32)
+}
+
+// Fills the part with the image, then with the new position, then with the new element.
+fn renew(part: &mut [u8], image: &[u8], position: u32, at: usize, end: usize, word: u32)
+    requires { ⌜ (11 ≤ at) × (at ≤ end) × (end ≤ length (now image)) × (length (now part) ≡ length (now image)) ⌝ }
+    ensures { λ _. ⌜ now (part .exit) ≡ renewed (now (image .entry)) position at (end - at) word ⌝ }
+{
+    octets::copy(part, image);
+    octets::put(&mut part[7..11], position);
+    octets::put(&mut part[at..end], word);
+}
+
+// Success: so many bytes are written.
+fn written(bytes: u32) -> Answer
+    ensures { λ r. ⌜ r ≡ numbers 0 65535 255 bytes ⌝ }
+{
+    Answer {
+        code: 0,
+        object: 65535,
+        bit: 255,
+        length: bytes,
+    }
+}
+
+// 21: so many bytes are needed.
+fn short(bytes: u32) -> Answer
+    ensures { λ r. ⌜ r ≡ numbers 21 65535 255 bytes ⌝ }
+{
+    Answer {
+        code: 21,
+        object: 65535,
+        bit: 255,
+        length: bytes,
+    }
+}
