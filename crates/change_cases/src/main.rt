@@ -2,7 +2,6 @@
 // output's bytes as they are afterwards.
 use history::Answer;
 use libc::STDIN_FILENO;
-use libc::STDOUT_FILENO;
 
 fn main() {
     let mut text = [0u8; 300000];
@@ -63,8 +62,10 @@ fn ask(
     if out.len() < o {
         return;
     }
-    print(take(call, &table[0..n], &one[0..m], &two[0..k], &mut out[0..o]));
-    print_bytes(&out[0..o]);
+    script::print_answer(take(call, &table[0..n], &one[0..m], &two[0..k], &mut out[0..o]));
+    script::print(b" out=");
+    script::print_hex(&out[0..o]);
+    script::print(b"\n");
 }
 
 fn take(call: u8, table: &[u8], one: &[u8], two: &[u8], out: &mut [u8]) -> Answer {
@@ -78,27 +79,4 @@ fn take(call: u8, table: &[u8], one: &[u8], two: &[u8], out: &mut [u8]) -> Answe
         return changes::join(table, one, two, out);
     }
     changes::turn_back(table, one, out)
-}
-
-fn print(answer: Answer) {
-    io::print_decimal(STDOUT_FILENO, answer.code as u64);
-    io::write_all(STDOUT_FILENO, b" ");
-    io::print_decimal(STDOUT_FILENO, answer.object as u64);
-    io::write_all(STDOUT_FILENO, b" ");
-    io::print_decimal(STDOUT_FILENO, answer.bit as u64);
-    io::write_all(STDOUT_FILENO, b" ");
-    io::print_decimal(STDOUT_FILENO, answer.length as u64);
-}
-
-fn print_bytes(bytes: &[u8]) {
-    io::write_all(STDOUT_FILENO, b" out=");
-    if bytes.len() == 0 {
-        io::write_all(STDOUT_FILENO, b"-");
-    }
-    let mut i = 0;
-    while i < bytes.len() {
-        io::print_hex(STDOUT_FILENO, bytes[i] as u64, 2);
-        i += 1;
-    }
-    io::write_all(STDOUT_FILENO, b"\n");
 }

@@ -1,3 +1,4 @@
 pub mod Parts
 pub mod Outcomes
 pub mod Calls
+pub mod Demands

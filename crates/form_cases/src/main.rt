@@ -1,7 +1,6 @@
 // Runs stored requests to the checks of the three forms, a line each, and prints the four numbers of each answer.
 use history::Answer;
 use libc::STDIN_FILENO;
-use libc::STDOUT_FILENO;
 
 fn main() {
     let mut text = [0u8; 200000];
@@ -50,12 +49,6 @@ fn ask(call: u8, table: &[u8], n: usize, form: &[u8], m: usize) {
 }
 
 fn print(answer: Answer) {
-    io::print_decimal(STDOUT_FILENO, answer.code as u64);
-    io::write_all(STDOUT_FILENO, b" ");
-    io::print_decimal(STDOUT_FILENO, answer.object as u64);
-    io::write_all(STDOUT_FILENO, b" ");
-    io::print_decimal(STDOUT_FILENO, answer.bit as u64);
-    io::write_all(STDOUT_FILENO, b" ");
-    io::print_decimal(STDOUT_FILENO, answer.length as u64);
-    io::write_all(STDOUT_FILENO, b"\n");
+    script::print_answer(answer);
+    script::print(b"\n");
 }

@@ -1,9 +1,7 @@
 // Runs stored requests, a line each: states read and written, and labels. It prints the four numbers, and the state, the whole output
 // or the label.
-use history::Answer;
 use kinds::Element;
 use libc::STDIN_FILENO;
-use libc::STDOUT_FILENO;
 use panel::Reading;
 use rows::Field;
 
@@ -64,17 +62,17 @@ fn ask_read(table: &[u8], n: usize, image: &[u8], m: usize, object: u16) {
         return;
     }
     let reading = panel::read_state(&table[0..n], &image[0..m], object);
-    print(panel::answer_of(reading));
-    io::write_all(STDOUT_FILENO, b" state=");
+    script::print_answer(panel::answer_of(reading));
+    script::print(b" state=");
     match reading {
         Reading::State(state) => {
             print_state(state);
         }
         Reading::Refused(_) => {
-            io::write_all(STDOUT_FILENO, b"none");
+            script::print(b"none");
         }
     }
-    io::write_all(STDOUT_FILENO, b"\n");
+    script::print(b"\n");
 }
 
 // `write_state table=HEX image=HEX number=N state=TYPE:V,V,.. position=N out=HEX`
@@ -138,7 +136,7 @@ fn ask_write(
     if out.len() < k {
         return;
     }
-    print(panel::write_state(
+    script::print_answer(panel::write_state(
         &table[0..n],
         &image[0..m],
         object,
@@ -146,9 +144,9 @@ fn ask_write(
         position,
         &mut out[0..k],
     ));
-    io::write_all(STDOUT_FILENO, b" out=");
-    print_bytes(&out[0..k]);
-    io::write_all(STDOUT_FILENO, b"\n");
+    script::print(b" out=");
+    script::print_hex(&out[0..k]);
+    script::print(b"\n");
 }
 
 // `label table=HEX number=N`
@@ -165,10 +163,10 @@ fn ask_label(table: &[u8], n: usize, object: u16) {
     if table.len() < n {
         return;
     }
-    print(view::label_answer(&table[0..n], object));
-    io::write_all(STDOUT_FILENO, b" label=");
-    print_bytes(view::table_label(&table[0..n], object));
-    io::write_all(STDOUT_FILENO, b"\n");
+    script::print_answer(view::label_answer(&table[0..n], object));
+    script::print(b" label=");
+    script::print_hex(view::table_label(&table[0..n], object));
+    script::print(b"\n");
 }
 
 // The state that stands from a place on.
@@ -230,8 +228,8 @@ fn print_state(state: Element) {
     let values = kinds::values_of(state);
     let first = layout.first;
     let count = layout.count;
-    print_number(layout.number as u32);
-    io::write_all(STDOUT_FILENO, b":");
+    script::print_number(layout.number as u32);
+    script::print(b":");
     let mut k: usize = 0;
     while k < 24 {
         if count <= k {
@@ -239,40 +237,10 @@ fn print_state(state: Element) {
         }
         if !is_reserved(first, k) {
             if 0 < k {
-                io::write_all(STDOUT_FILENO, b",");
+                script::print(b",");
             }
-            print_number(values[k]);
+            script::print_number(values[k]);
         }
         k += 1;
     }
-}
-
-// Bytes in hex, `-` where there are none.
-fn print_bytes(bytes: &[u8]) {
-    if bytes.len() == 0 {
-        io::write_all(STDOUT_FILENO, b"-");
-    }
-    let mut i: usize = 0;
-    while i < bytes.len() {
-        print_byte(bytes[i]);
-        i += 1;
-    }
-}
-
-fn print_byte(byte: u8) {
-    io::print_hex(STDOUT_FILENO, byte as u64, 2);
-}
-
-fn print_number(number: u32) {
-    io::print_decimal(STDOUT_FILENO, number as u64);
-}
-
-fn print(answer: Answer) {
-    print_number(answer.code as u32);
-    io::write_all(STDOUT_FILENO, b" ");
-    print_number(answer.object as u32);
-    io::write_all(STDOUT_FILENO, b" ");
-    print_number(answer.bit as u32);
-    io::write_all(STDOUT_FILENO, b" ");
-    print_number(answer.length);
 }

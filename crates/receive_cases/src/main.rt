@@ -1,9 +1,7 @@
 // Receives a stored history: the first line has a table and an image, each further line a list. The image is replaced by what a list
 // leads to where it is applied. After each list it prints the four numbers, the standing and the image held.
-use history::Answer;
 use history::Standing;
 use libc::STDIN_FILENO;
-use libc::STDOUT_FILENO;
 use receiver::Taken;
 
 fn main() {
@@ -94,9 +92,11 @@ fn keep(table: &[u8], image: &mut [u8], list: &[u8], out: &mut [u8], standing: S
     let taken = receiver::received(table, image, list, out, standing);
     let answer = taken.answer;
     renew(answer.code, image, out);
-    print(answer);
+    script::print_answer(answer);
     print_standing(taken.standing);
-    print_bytes(image);
+    script::print(b" image=");
+    script::print_hex(image);
+    script::print(b"\n");
     taken
 }
 
@@ -110,33 +110,13 @@ fn renew(code: u8, image: &mut [u8], out: &[u8]) {
     octets::copy(image, out);
 }
 
-fn print(answer: Answer) {
-    io::print_decimal(STDOUT_FILENO, answer.code as u64);
-    io::write_all(STDOUT_FILENO, b" ");
-    io::print_decimal(STDOUT_FILENO, answer.object as u64);
-    io::write_all(STDOUT_FILENO, b" ");
-    io::print_decimal(STDOUT_FILENO, answer.bit as u64);
-    io::write_all(STDOUT_FILENO, b" ");
-    io::print_decimal(STDOUT_FILENO, answer.length as u64);
-}
-
 fn print_standing(standing: Standing) {
-    io::write_all(STDOUT_FILENO, b" standing=");
-    io::print_decimal(STDOUT_FILENO, standing.applied as u64);
-    io::write_all(STDOUT_FILENO, b",");
-    io::print_decimal(STDOUT_FILENO, standing.late as u64);
-    io::write_all(STDOUT_FILENO, b",");
-    io::print_decimal(STDOUT_FILENO, standing.gap as u64);
-    io::write_all(STDOUT_FILENO, b",");
-    io::print_decimal(STDOUT_FILENO, standing.other as u64);
-}
-
-fn print_bytes(bytes: &[u8]) {
-    io::write_all(STDOUT_FILENO, b" image=");
-    let mut i = 0;
-    while i < bytes.len() {
-        io::print_hex(STDOUT_FILENO, bytes[i] as u64, 2);
-        i += 1;
-    }
-    io::write_all(STDOUT_FILENO, b"\n");
+    script::print(b" standing=");
+    script::print_number(standing.applied);
+    script::print(b",");
+    script::print_number(standing.late);
+    script::print(b",");
+    script::print_number(standing.gap);
+    script::print(b",");
+    script::print_number(standing.other);
 }

@@ -1,5 +1,7 @@
-// Requests as text, for the programs that run stored requests: where a byte stands, bytes in hex, decimal numbers. It is proved
-// safe and says no more; it knows no call of the product.
+// Requests and answers as text, for the programs that run stored requests: where a byte stands, bytes in hex and decimal numbers read,
+// and an answer's numbers and bytes printed. It is proved safe and says no more; it knows no call of the product.
+use history::Answer;
+use libc::STDOUT_FILENO;
 ghost use Prim.Native.Nat.{_≤_};
 ghost use lib.ListN.{length};
 
@@ -80,4 +82,41 @@ pub fn decimal(text: &[u8], from: usize) -> u32 {
         i += 1;
     }
     (value % 4294967296) as u32
+}
+
+// Prints the four numbers of an answer, with a space between.
+pub fn print_answer(answer: Answer) {
+    print_number(answer.code as u32);
+    print(b" ");
+    print_number(answer.object as u32);
+    print(b" ");
+    print_number(answer.bit as u32);
+    print(b" ");
+    print_number(answer.length);
+}
+
+// Prints bytes in hex, `-` where there are none.
+pub fn print_hex(bytes: &[u8]) {
+    if bytes.len() == 0 {
+        print(b"-");
+    }
+    let mut i = 0;
+    while i < bytes.len() {
+        print_byte(bytes[i]);
+        i += 1;
+    }
+}
+
+fn print_byte(byte: u8) {
+    io::print_hex(STDOUT_FILENO, byte as u64, 2);
+}
+
+// Prints a number in decimal.
+pub fn print_number(number: u32) {
+    io::print_decimal(STDOUT_FILENO, number as u64);
+}
+
+// Prints text.
+pub fn print(text: &[u8]) {
+    io::write_all(STDOUT_FILENO, text);
 }

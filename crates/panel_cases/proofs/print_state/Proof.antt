@@ -28,11 +28,11 @@ cast-print-number c = search needs
 print-number-requires : tie.Need-print-number-requires Inv-loop μ-loop
 print-number-requires c κs = search needs
 
-slice-aggregate-write-all : tie.Need-slice-aggregate-write-all Inv-loop μ-loop
-slice-aggregate-write-all c = search needs
+slice-aggregate-print : tie.Need-slice-aggregate-print Inv-loop μ-loop
+slice-aggregate-print c = search needs
 
-write-all-requires : tie.Need-write-all-requires Inv-loop μ-loop
-write-all-requires c κs = search needs
+print-requires : tie.Need-print-requires Inv-loop μ-loop
+print-requires c κs = search needs
 
 loop-holds : tie.Need-loop-holds Inv-loop μ-loop
 loop-holds c = search needs
@@ -43,11 +43,11 @@ returns c = search needs
 is-reserved-requires : tie.Need-is-reserved-requires Inv-loop μ-loop
 is-reserved-requires c κs = search needs
 
-slice-aggregate-write-all-2 : tie.Need-slice-aggregate-write-all-2 Inv-loop μ-loop
-slice-aggregate-write-all-2 c = search needs
+slice-aggregate-print-2 : tie.Need-slice-aggregate-print-2 Inv-loop μ-loop
+slice-aggregate-print-2 c = search needs
 
-write-all-requires-2 : tie.Need-write-all-requires-2 Inv-loop μ-loop
-write-all-requires-2 c κs = search needs
+print-requires-2 : tie.Need-print-requires-2 Inv-loop μ-loop
+print-requires-2 c κs = search needs
 
 mul-print-number : tie.Need-mul-print-number Inv-loop μ-loop
 mul-print-number c = search needs
@@ -81,13 +81,13 @@ print-state-spec =
     values-of-requires
     cast-print-number
     print-number-requires
-    slice-aggregate-write-all
-    write-all-requires
+    slice-aggregate-print
+    print-requires
     loop-holds
     returns
     is-reserved-requires
-    slice-aggregate-write-all-2
-    write-all-requires-2
+    slice-aggregate-print-2
+    print-requires-2
     mul-print-number
     array-read-print-number
     print-number-requires-2

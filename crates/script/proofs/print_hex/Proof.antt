@@ -1,10 +1,10 @@
--- `panel_cases::print_bytes` is safe and ends: the bytes are counted up.
+-- `script::print_hex` is safe and ends: the bytes are counted up.
 -- Assumes nothing.
 use Prim.Native.Nat.{_-_}
 use lib.ListN.{length}
 use borrow.Author.Needs.{needs}
-use Rattle.panel_cases.proofs.print_bytes.Statement.{statement}
-use Rattle.panel_cases.proofs.print_bytes.Tie as tie
+use Rattle.script.proofs.print_hex.Statement.{statement}
+use Rattle.script.proofs.print_hex.Tie as tie
 
 abbrev Inv-loop : tie.InvT-loop
 Inv-loop bytes i₀ i = Unit {0}
@@ -12,11 +12,11 @@ Inv-loop bytes i₀ i = Unit {0}
 abbrev μ-loop : tie.MeasureT-loop
 μ-loop bytes i₀ i = length bytes - i
 
-slice-aggregate-write-all : tie.Need-slice-aggregate-write-all Inv-loop μ-loop
-slice-aggregate-write-all c = search needs
+slice-aggregate-print : tie.Need-slice-aggregate-print Inv-loop μ-loop
+slice-aggregate-print c = search needs
 
-write-all-requires : tie.Need-write-all-requires Inv-loop μ-loop
-write-all-requires c κs = search needs
+print-requires : tie.Need-print-requires Inv-loop μ-loop
+print-requires c κs = search needs
 
 loop-holds : tie.Need-loop-holds Inv-loop μ-loop
 loop-holds c = search needs
@@ -39,14 +39,14 @@ loop-again c = search needs
 returns : tie.Need-returns Inv-loop μ-loop
 returns c = search needs
 
-pub print-bytes-spec : {M : Type 1} → statement M
-print-bytes-spec =
+pub print-hex-spec : {M : Type 1} → statement M
+print-hex-spec =
     tie.close
     (tie.spec
     Inv-loop
     μ-loop
-    slice-aggregate-write-all
-    write-all-requires
+    slice-aggregate-print
+    print-requires
     loop-holds
     shared-slice-read-print-byte
     print-byte-requires
