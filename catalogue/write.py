@@ -74,6 +74,7 @@ def read():
 LAYOUTS, ENUMS = read()
 TOTAL = sum(len(l.rows) for l in LAYOUTS)
 STRUCTS = [l.struct for l in LAYOUTS]
+BITS = sorted({r.place for l in LAYOUTS for r in l.fields if r.bit})
 
 
 def names(words):
@@ -96,7 +97,18 @@ def spec_end(name, answers):
     return f'pub {name}-spec : {{M : Type 1}} → statement M\n{name}-spec = tie.close (tie.spec {" ".join(answers)})\n'
 
 
-SEARCH, CALL = '(λ c. search needs)', '(λ c κs. search needs)'
+SEARCH, CALL = '(λ c. search needs)', '(λ c κs. tt)'
+LISTED = '(λ c κs. lit< tt)'
+
+
+def told(n):
+    """In which arm of a match on an enum the code is: of each of the n arms, by its key."""
+    return [f'(λ c. c .match .keys{i})' for i in range(1, n + 1)]
+
+
+def each(*answers):
+    """The answers of a match, arm by arm."""
+    return [a for arm in zip(*answers) for a in arm]
 
 
 def ties(crate, path):
@@ -175,7 +187,7 @@ def cases_source():
     uses = names(low(e) + x for e in ENUMS for x in ('Of', 'No'))
     text = f'''// The floor of cases: the named cases of every field that is wider than one bit, each enum with its reading of a value and the
 // value of a case. Written by catalogue/write.py from catalogue/cases.tsv. It checks nothing: a value that has no case
-// is read as the first.
+// is read as the first. Each arm of a match returns, which spares its check a local and a step.
 ghost use mathlib.Core.Path.{{_≡_}};
 ghost use Rattle.cases.specs.Cases.{{{uses}}};
 '''
@@ -187,7 +199,7 @@ impl {e} {{
         ensures {{ λ r. ⌜ r ≡ {low(e)}Of value ⌝ }}
     {{
         match value {{
-{''.join(f"            {i} => {e}::{c},{chr(10)}" for i, (c, _) in enumerate(cases))}            _ => {e}::{cases[0][0]},
+{''.join(f"            {i} => return {e}::{c},{chr(10)}" for i, (c, _) in enumerate(cases))}            _ => return {e}::{cases[0][0]},
         }}
     }}
 
@@ -195,7 +207,7 @@ impl {e} {{
         ensures {{ λ r. ⌜ r ≡ {low(e)}No self ⌝ }}
     {{
         match self {{
-{''.join(f"            {e}::{c} => {i},{chr(10)}" for i, (c, _) in enumerate(cases))}        }}
+{''.join(f"            {e}::{c} => return {i},{chr(10)}" for i, (c, _) in enumerate(cases))}        }}
     }}
 }}
 '''
@@ -238,19 +250,30 @@ use Rattle.rows.proofs.Listed.{listed, named}
 
 
 def case_of_proof(e):
-    n = len(ENUMS[e])
-    return f'''-- `cases::{e}::of` meets its contract: a value that has no case is read as the first.
+    n, l = len(ENUMS[e]), low(e)
+    keys = [f'(λ c. sym (ap {l}Of (c .match .keys{i})))' for i in range(1, n + 1)]
+    return f'''-- `cases::{e}::of` meets its contract, arm by arm: a value that has no case is read as the first.
 -- Written by catalogue/write.py. Assumes nothing.
-use mathlib.Core.Path.{{sym}}
+use mathlib.Core.Path.{{sym, ap}}
 use lib.ListN.{{List·getD-eq-default}}
-use borrow.Author.Needs.{{needs}}
-use Rattle.cases.specs.Cases.{{{low(e)}Cases}}
+use Rattle.cases.specs.Cases.{{{l}Cases, {l}Of}}
 use Rattle.rows.proofs.Tests.{{past}}
 {ties('cases', e + '.of')}
 unlisted : tie.Need-{returns(n + 1)}
-unlisted c = sym (List·getD-eq-default {low(e)}Cases _ (past _ {n} (c .match .rest)))
+unlisted c = sym (List·getD-eq-default {l}Cases _ (past _ {n} (c .match .rest)))
 
-{spec_end('of', [SEARCH] * n + ['unlisted'])}'''
+{spec_end('of', keys + ['unlisted'])}'''
+
+
+def case_number_proof(e):
+    n, l = len(ENUMS[e]), low(e)
+    arms = [f'(λ c. sym (ap {l}No (c .{nth("enum-told", i)} .given .1)))' for i in range(1, n + 1)]
+    return f'''-- `cases::{e}::number` meets its contract, arm by arm.
+-- Written by catalogue/write.py. Assumes nothing.
+use mathlib.Core.Path.{{sym, ap}}
+use Rattle.cases.specs.Cases.{{{l}No}}
+{ties('cases', e + '.number')}
+{spec_end('number', each(told(n), arms))}'''
 
 
 # ---- states: a struct for each layout
@@ -258,13 +281,17 @@ unlisted c = sym (List·getD-eq-default {low(e)}Cases _ (past _ {n} (c .match .r
 def states_source():
     text = '// The floor of states: a struct for each layout with its named fields, its width in bytes and its state without data, and the\n'
     text += '// way between a state and its fields\' values in the rows\' order. Written by catalogue/write.py from catalogue/fields.tsv.\n'
-    text += '// It checks nothing; the annex\'s mnemonic stands beside each field.\n'
+    text += '// It checks nothing; the annex\'s mnemonic stands beside each field. All bits are read in one place, `bits_of`: the check of a\n'
+    text += '// function costs its steps times its locals, and a field that is copied from there costs neither.\n'
     text += ''.join(f'use cases::{e};\n' for e in ENUMS)
     text += f'''
 ghost use mathlib.Core.Path.{{_≡_}};
 ghost use mathlib.Core.List.{{[]}};
+ghost use Prim.Native.Nat.{{_<_}};
+ghost use lib.Dec.{{eqb}};
+ghost use lib.ListN.{{getD}};
 ghost use Rattle.rows.specs.Fields.{{padded}};
-ghost use Rattle.states.specs.States.{{{names(l.key + x for l in LAYOUTS for x in ('Of', 'Values'))}}};
+ghost use Rattle.states.specs.States.{{bitsOf, {names(l.key + x for l in LAYOUTS for x in ('Of', 'Values'))}}};
 '''
     for l in LAYOUTS:
         text += f'\n// Layout {l.number}: {l.mnemonic}.\npub struct {l.struct} {{\n'
@@ -282,9 +309,10 @@ ghost use Rattle.states.specs.States.{{{names(l.key + x for l in LAYOUTS
     }}
 '''
         text += f'\n    pub fn of_values(values: [u32; 24]) -> {l.struct}\n        ensures {{ λ r. ⌜ r ≡ {l.key}Of values ⌝ }}\n    {{\n'
-        text += ''.join(f'        let {r.name} = {r.type}::of(values[{r.place}]);\n' for r in l.named)
+        text += '        let bits = bits_of(values);\n'
+        text += ''.join(f'        let {r.name} = {r.type}::of(value(values, {r.place}));\n' for r in l.named)
         text += f'        {l.struct} {{\n'
-        text += ''.join(f'            {r.name}: values[{r.place}] == 1,\n' if r.bit else f'            {r.name},\n' for r in l.fields)
+        text += ''.join(f'            {r.name}: bits.b{r.place},\n' if r.bit else f'            {r.name},\n' for r in l.fields)
         text += f'        }}\n    }}\n\n    pub fn values(self) -> [u32; 24]\n        ensures {{ λ r. ⌜ r ≡ padded ({l.key}Values self) ⌝ }}\n    {{\n'
         text += ''.join(f'        let {r.name} = self.{r.name};\n' for r in l.named)
         text += '        [\n'
@@ -292,6 +320,34 @@ ghost use Rattle.states.specs.States.{{{names(l.key + x for l in LAYOUTS
             value = '0' if r.reserved else f'self.{r.name} as u32' if r.bit else f'{r.name}.number()'
             text += f'            {value},\n'
         text += '            0,\n' * (24 - len(l.rows)) + '        ]\n    }\n}\n'
+    text += f'''
+// The value at a place.
+fn value(values: [u32; 24], place: usize) -> u32
+    requires {{ ⌜ place < 24 ⌝ }}
+    ensures {{ λ r. ⌜ r ≡ getD values place 0 ⌝ }}
+{{
+    values[place]
+}}
+
+// The bit at a place.
+fn bit(values: [u32; 24], place: usize) -> bool
+    requires {{ ⌜ place < 24 ⌝ }}
+    ensures {{ λ r. ⌜ r ≡ eqb (getD values place 0) 1 ⌝ }}
+{{
+    values[place] == 1
+}}
+
+// The bits at the places where a type has one.
+struct Bits {{
+{''.join(f"    b{k}: bool,{chr(10)}" for k in BITS)}}}
+
+fn bits_of(values: [u32; 24]) -> Bits
+    ensures {{ λ r. ⌜ r ≡ bitsOf values ⌝ }}
+{{
+    Bits {{
+{''.join(f"        b{k}: bit(values, {k}),{chr(10)}" for k in BITS)}    }}
+}}
+'''
     return text
 
 
@@ -305,8 +361,10 @@ use lib.Dec.{eqb}
 use Rattle.rows.specs.Fields.{bitNo}
 '''
     text += f'use Rattle.cases.specs.Cases.{{{names(low(e) + x for e in ENUMS for x in ("Of", "No"))}}}\n'
-    for s in STRUCTS:
+    for s in STRUCTS + ['Bits']:
         text += f'use Rattle.states.specs.declared.{s}.{{{s}}}\n'
+    text += '\n-- the bits at the places where a type has one\nabbrev pub bitsOf : List ℕ → Bits\nbitsOf vs = record {\n'
+    text += ''.join(f'  b{k} = eqb (getD vs {k} 0) 1;\n' for k in BITS) + '}\n'
     for l in LAYOUTS:
         text += f'\nabbrev pub {l.key}Of : List ℕ → {l.struct}\n{l.key}Of vs = record {{\n'
         for r in l.fields:
@@ -349,27 +407,42 @@ use Rattle.rows.proofs.Listed.{listedFrom, bit-listed, bit-back, reserved-liste
 
 
 def of_values_proof(l):
-    n, done = len(l.named), 0
-    text = f'''-- `states::{l.struct}::of_values` meets its contract: each named field by what its reader ensures.
+    calls, named = 2 * len(l.named) + 1, 0
+    uses = f'''use mathlib.Core.Path.{{_∙_, ap}}
+use lib.Dec.{{lit<}}
+use Rattle.cases.specs.Cases.{{{names(dict.fromkeys(low(r.type) + 'Of' for r in l.named))}}}
+''' if l.named else ''
+    text = f'''-- `states::{l.struct}::of_values` meets its contract: each field by what its reader ensures.
 -- Written by catalogue/write.py. Assumes nothing.
-use lib.ListN.{{getD}}
-use lib.Dec.{{eqb}}
-use borrow.Author.Needs.{{needs}}
-{ties('states', l.struct + '.of_values')}
+{uses}{ties('states', l.struct + '.of_values')}
 returns : tie.Need-returns
-returns c =
-    let vs = c{before(n)} .args .t1 in
-    λ i. record {{
+returns c = λ i.
+    let bits = (c{before(calls - 1)} .bits-of .ensures) i in
+    record {{
 '''
     for r in l.fields:
         if r.bit:
-            value = f'eqb (getD vs {r.place} 0) 1'
+            value = f'bits .b{r.place}'
         else:
-            done += 1
-            value = f'(c{before(n - done)} .{nth("of", done)} .ensures) i'
+            named += 1
+            back = calls - 1 - 2 * named
+            value = (f'(c{before(back)} .{nth("of", named)} .ensures '
+                     f'∙ ap {low(r.type)}Of (c{before(back + 1)} .{nth("value", named)} .ensures)) i')
         text += f'      {r.key} = {value};\n'
-    answers = [SEARCH, CALL] * n + [SEARCH] * (len(l.fields) - n) + ['returns']
-    return text + '    }\n\n' + spec_end('of-values', answers)
+    return text + '    }\n\n' + spec_end('of-values', [CALL] + [LISTED, CALL] * len(l.named) + ['returns'])
+
+
+def bits_of_proof():
+    text = f'''-- `states::bits_of` meets its contract: each bit by what its reader ensures.
+-- Written by catalogue/write.py. Assumes nothing.
+use lib.Dec.{{lit<}}
+{ties('states', 'bits_of')}
+returns : tie.Need-returns
+returns c = λ i. record {{
+'''
+    for i, k in enumerate(BITS, 1):
+        text += f'  b{k} = (c{before(len(BITS) - i)} .{nth("bit", i)} .ensures) i;\n'
+    return text + '}\n\n' + spec_end('bits-of', [LISTED] * len(BITS) + ['returns'])
 
 
 def values_proof(l):
@@ -407,7 +480,7 @@ returns c =
 
 def kinds_source():
     def match(on, value, arm):
-        return f'    match {on} {{\n' + ''.join(f'        {arm(l)} => {value(l)},\n' for l in LAYOUTS) + '    }\n}\n'
+        return f'    match {on} {{\n' + ''.join(f'        {arm(l)} => return {value(l)},\n' for l in LAYOUTS) + '    }\n}\n'
 
     kind = lambda l: f'Kind::{l.struct}'
     text = f'''// The floor of kinds: the kinds of element, one for each layout, the state of any kind, and every function that goes by the kind.
@@ -451,7 +524,7 @@ pub fn sort_numbered(number: u8) -> Sort
     ensures { λ r. ⌜ r ≡ sortNumbered number ⌝ }
 {
     match number {
-''' + ''.join(f'        {l.number} => Sort::Carried(Kind::{l.struct}),\n' for l in LAYOUTS) + '''        _ => Sort::Other,
+''' + ''.join(f'        {l.number} => return Sort::Carried(Kind::{l.struct}),\n' for l in LAYOUTS) + '''        _ => return Sort::Other,
     }
 }
 
@@ -586,18 +659,16 @@ unfolding table layouts
     return text
 
 
-def by_kind_proof(fn, spec, value, opens, fields):
-    told = lambda i: f'c .before .{nth("element", i)}' if fields else f'c .{nth("enum-told", i)}'
-    arms = [f'(λ c. sym (ap {spec} ({told(i)} .given .1)))' for i in range(1, len(LAYOUTS) + 1)]
+def by_kind_proof(fn, spec, value, opens):
+    arms = [f'(λ c. sym (ap {spec} (c .{nth("enum-told", i)} .given .1)))' for i in range(1, len(LAYOUTS) + 1)]
     spec_name = fn.replace('_', '-')
     text = f'''-- `kinds::{fn}` meets its contract, arm by arm.
 -- Written by catalogue/write.py. Assumes nothing.
 use mathlib.Core.Path.{{sym, ap}}
-use borrow.Author.Needs.{{needs}}
 {value}use Rattle.kinds.specs.Kinds.{{{spec}}}
 {ties('kinds', fn)}
 '''
-    end = spec_end(spec_name, [SEARCH] * len(LAYOUTS) + arms)
+    end = spec_end(spec_name, each(told(len(LAYOUTS)), arms))
     return text + (end.replace('statement M\n', f'statement M\nunfolding {opens}\n') if opens else end)
 
 
@@ -627,12 +698,11 @@ def per_kind_proof(fn, uses, answer):
     text = f'''-- `kinds::{fn}` meets its contract: each kind by what its own function ensures.
 -- Written by catalogue/write.py. Assumes nothing.
 use mathlib.Core.Path.{{_∙_, sym, ap}}
-use borrow.Author.Needs.{{needs}}
 {uses}use Rattle.kinds.specs.declared.Element.{{Element}}
 {ties('kinds', fn)}'''
     for i, l in enumerate(LAYOUTS, 1):
         text += f'\n{returns(i)} : tie.Need-{returns(i)}\n{returns(i)} c = {answer(i, l)}\n'
-    return text + '\n' + spec_end(fn.replace('_', '-'), [SEARCH, CALL] * n + [returns(i) for i in range(1, n + 1)])
+    return text + '\n' + spec_end(fn.replace('_', '-'), each(told(n), [CALL] * n, [returns(i) for i in range(1, n + 1)]))
 
 
 def element_of_answer(i, l):
@@ -666,8 +736,8 @@ def files(source):
         'kinds/proofs/Lib.antt': 'pub mod Lookup\npub mod KindLaws\n',
         'kinds/proofs/Lookup.antt': lookup_law(),
         'kinds/proofs/KindLaws.antt': kinds_laws(),
-        'kinds/proofs/layout/Proof.antt': by_kind_proof('layout', 'layoutOf', 'use Rattle.rows.specs.Table.{layouts}\n', 'layouts', False),
-        'kinds/proofs/kind_in/Proof.antt': by_kind_proof('kind_in', 'kindIn', '', '', False),
+        'kinds/proofs/layout/Proof.antt': by_kind_proof('layout', 'layoutOf', 'use Rattle.rows.specs.Table.{layouts}\n', 'layouts'),
+        'kinds/proofs/kind_in/Proof.antt': by_kind_proof('kind_in', 'kindIn', '', ''),
         'kinds/proofs/sort_numbered/Proof.antt': sort_proof(),
         'kinds/proofs/element_of/Proof.antt': per_kind_proof(
             'element_of',
@@ -676,11 +746,13 @@ def files(source):
             'values_of',
             'use Rattle.rows.specs.Fields.{padded}\nuse Rattle.kinds.specs.Kinds.{elementValues}\n', values_of_answer),
     }
+    out['states/proofs/bits_of/Proof.antt'] = bits_of_proof()
     for e in ENUMS:
         out[f'cases/proofs/{e}/of/Proof.antt'] = case_of_proof(e)
+        out[f'cases/proofs/{e}/number/Proof.antt'] = case_number_proof(e)
     for l in LAYOUTS:
+        out[f'states/proofs/{l.struct}/of_values/Proof.antt'] = of_values_proof(l)
         if l.named:
-            out[f'states/proofs/{l.struct}/of_values/Proof.antt'] = of_values_proof(l)
             out[f'states/proofs/{l.struct}/values/Proof.antt'] = values_proof(l)
     return out
 

@@ -1,6 +1,6 @@
 // The floor of cases: the named cases of every field that is wider than one bit, each enum with its reading of a value and the
 // value of a case. Written by catalogue/write.py from catalogue/cases.tsv. It checks nothing: a value that has no case
-// is read as the first.
+// is read as the first. Each arm of a match returns, which spares its check a local and a step.
 ghost use mathlib.Core.Path.{_≡_};
 ghost use Rattle.cases.specs.Cases.{signalKindOf, signalKindNo, signalAspectOf, signalAspectNo, mixedGaugeIndicationOf, mixedGaugeIndicationNo, autoRouteIndicationOf, autoRouteIndicationNo, changerAspectOf, changerAspectNo, boardAspectOf, boardAspectNo, sectionOccupancyOf, sectionOccupancyNo, overlapOf, overlapNo, gaugePresenceOf, gaugePresenceNo, pointsSectionOccupancyOf, pointsSectionOccupancyNo, legOccupancyOf, legOccupancyNo, legShownOf, legShownNo, pointsDetectionOf, pointsDetectionNo, pointsLockingOf, pointsLockingNo, heaterIndicationOf, heaterIndicationNo, earthFaultIndicationOf, earthFaultIndicationNo, boundaryMovementOf, boundaryMovementNo};
 
@@ -16,11 +16,11 @@ impl SignalKind {
         ensures { λ r. ⌜ r ≡ signalKindOf value ⌝ }
     {
         match value {
-            0 => SignalKind::Unknown,
-            1 => SignalKind::HighNoWhiteNoBlue,
-            2 => SignalKind::HighWhiteOrBlue,
-            3 => SignalKind::Low,
-            _ => SignalKind::Unknown,
+            0 => return SignalKind::Unknown,
+            1 => return SignalKind::HighNoWhiteNoBlue,
+            2 => return SignalKind::HighWhiteOrBlue,
+            3 => return SignalKind::Low,
+            _ => return SignalKind::Unknown,
         }
     }
 
@@ -28,10 +28,10 @@ impl SignalKind {
         ensures { λ r. ⌜ r ≡ signalKindNo self ⌝ }
     {
         match self {
-            SignalKind::Unknown => 0,
-            SignalKind::HighNoWhiteNoBlue => 1,
-            SignalKind::HighWhiteOrBlue => 2,
-            SignalKind::Low => 3,
+            SignalKind::Unknown => return 0,
+            SignalKind::HighNoWhiteNoBlue => return 1,
+            SignalKind::HighWhiteOrBlue => return 2,
+            SignalKind::Low => return 3,
         }
     }
 }
@@ -57,20 +57,20 @@ impl SignalAspect {
         ensures { λ r. ⌜ r ≡ signalAspectOf value ⌝ }
     {
         match value {
-            0 => SignalAspect::Dark,
-            1 => SignalAspect::Red,
-            2 => SignalAspect::RedBlue,
-            3 => SignalAspect::RedBlueFlashing,
-            4 => SignalAspect::RedWhite,
-            5 => SignalAspect::RedWhiteFlashing,
-            6 => SignalAspect::White,
-            7 => SignalAspect::WhiteFlashing,
-            8 => SignalAspect::Yellow,
-            9 => SignalAspect::YellowFlashing,
-            10 => SignalAspect::GreenYellow,
-            11 => SignalAspect::Green,
-            12 => SignalAspect::GreenFlashing,
-            _ => SignalAspect::Dark,
+            0 => return SignalAspect::Dark,
+            1 => return SignalAspect::Red,
+            2 => return SignalAspect::RedBlue,
+            3 => return SignalAspect::RedBlueFlashing,
+            4 => return SignalAspect::RedWhite,
+            5 => return SignalAspect::RedWhiteFlashing,
+            6 => return SignalAspect::White,
+            7 => return SignalAspect::WhiteFlashing,
+            8 => return SignalAspect::Yellow,
+            9 => return SignalAspect::YellowFlashing,
+            10 => return SignalAspect::GreenYellow,
+            11 => return SignalAspect::Green,
+            12 => return SignalAspect::GreenFlashing,
+            _ => return SignalAspect::Dark,
         }
     }
 
@@ -78,19 +78,19 @@ impl SignalAspect {
         ensures { λ r. ⌜ r ≡ signalAspectNo self ⌝ }
     {
         match self {
-            SignalAspect::Dark => 0,
-            SignalAspect::Red => 1,
-            SignalAspect::RedBlue => 2,
-            SignalAspect::RedBlueFlashing => 3,
-            SignalAspect::RedWhite => 4,
-            SignalAspect::RedWhiteFlashing => 5,
-            SignalAspect::White => 6,
-            SignalAspect::WhiteFlashing => 7,
-            SignalAspect::Yellow => 8,
-            SignalAspect::YellowFlashing => 9,
-            SignalAspect::GreenYellow => 10,
-            SignalAspect::Green => 11,
-            SignalAspect::GreenFlashing => 12,
+            SignalAspect::Dark => return 0,
+            SignalAspect::Red => return 1,
+            SignalAspect::RedBlue => return 2,
+            SignalAspect::RedBlueFlashing => return 3,
+            SignalAspect::RedWhite => return 4,
+            SignalAspect::RedWhiteFlashing => return 5,
+            SignalAspect::White => return 6,
+            SignalAspect::WhiteFlashing => return 7,
+            SignalAspect::Yellow => return 8,
+            SignalAspect::YellowFlashing => return 9,
+            SignalAspect::GreenYellow => return 10,
+            SignalAspect::Green => return 11,
+            SignalAspect::GreenFlashing => return 12,
         }
     }
 }
@@ -111,15 +111,15 @@ impl MixedGaugeIndication {
         ensures { λ r. ⌜ r ≡ mixedGaugeIndicationOf value ⌝ }
     {
         match value {
-            0 => MixedGaugeIndication::NoThirdRail,
-            1 => MixedGaugeIndication::AtRest,
-            2 => MixedGaugeIndication::UicMovementSet,
-            3 => MixedGaugeIndication::UicShuntSet,
-            4 => MixedGaugeIndication::UicOccupancyConflict,
-            5 => MixedGaugeIndication::ConventionalMovementSet,
-            6 => MixedGaugeIndication::ConventionalShuntSet,
-            7 => MixedGaugeIndication::ConventionalOccupancyConflict,
-            _ => MixedGaugeIndication::NoThirdRail,
+            0 => return MixedGaugeIndication::NoThirdRail,
+            1 => return MixedGaugeIndication::AtRest,
+            2 => return MixedGaugeIndication::UicMovementSet,
+            3 => return MixedGaugeIndication::UicShuntSet,
+            4 => return MixedGaugeIndication::UicOccupancyConflict,
+            5 => return MixedGaugeIndication::ConventionalMovementSet,
+            6 => return MixedGaugeIndication::ConventionalShuntSet,
+            7 => return MixedGaugeIndication::ConventionalOccupancyConflict,
+            _ => return MixedGaugeIndication::NoThirdRail,
         }
     }
 
@@ -127,14 +127,14 @@ impl MixedGaugeIndication {
         ensures { λ r. ⌜ r ≡ mixedGaugeIndicationNo self ⌝ }
     {
         match self {
-            MixedGaugeIndication::NoThirdRail => 0,
-            MixedGaugeIndication::AtRest => 1,
-            MixedGaugeIndication::UicMovementSet => 2,
-            MixedGaugeIndication::UicShuntSet => 3,
-            MixedGaugeIndication::UicOccupancyConflict => 4,
-            MixedGaugeIndication::ConventionalMovementSet => 5,
-            MixedGaugeIndication::ConventionalShuntSet => 6,
-            MixedGaugeIndication::ConventionalOccupancyConflict => 7,
+            MixedGaugeIndication::NoThirdRail => return 0,
+            MixedGaugeIndication::AtRest => return 1,
+            MixedGaugeIndication::UicMovementSet => return 2,
+            MixedGaugeIndication::UicShuntSet => return 3,
+            MixedGaugeIndication::UicOccupancyConflict => return 4,
+            MixedGaugeIndication::ConventionalMovementSet => return 5,
+            MixedGaugeIndication::ConventionalShuntSet => return 6,
+            MixedGaugeIndication::ConventionalOccupancyConflict => return 7,
         }
     }
 }
@@ -151,11 +151,11 @@ impl AutoRouteIndication {
         ensures { λ r. ⌜ r ≡ autoRouteIndicationOf value ⌝ }
     {
         match value {
-            0 => AutoRouteIndication::GreenSteady,
-            1 => AutoRouteIndication::GreenFlashing,
-            2 => AutoRouteIndication::RedSteady,
-            3 => AutoRouteIndication::RedFlashing,
-            _ => AutoRouteIndication::GreenSteady,
+            0 => return AutoRouteIndication::GreenSteady,
+            1 => return AutoRouteIndication::GreenFlashing,
+            2 => return AutoRouteIndication::RedSteady,
+            3 => return AutoRouteIndication::RedFlashing,
+            _ => return AutoRouteIndication::GreenSteady,
         }
     }
 
@@ -163,10 +163,10 @@ impl AutoRouteIndication {
         ensures { λ r. ⌜ r ≡ autoRouteIndicationNo self ⌝ }
     {
         match self {
-            AutoRouteIndication::GreenSteady => 0,
-            AutoRouteIndication::GreenFlashing => 1,
-            AutoRouteIndication::RedSteady => 2,
-            AutoRouteIndication::RedFlashing => 3,
+            AutoRouteIndication::GreenSteady => return 0,
+            AutoRouteIndication::GreenFlashing => return 1,
+            AutoRouteIndication::RedSteady => return 2,
+            AutoRouteIndication::RedFlashing => return 3,
         }
     }
 }
@@ -183,11 +183,11 @@ impl ChangerAspect {
         ensures { λ r. ⌜ r ≡ changerAspectOf value ⌝ }
     {
         match value {
-            0 => ChangerAspect::Dark,
-            1 => ChangerAspect::FixedT,
-            2 => ChangerAspect::FixedC,
-            3 => ChangerAspect::FlashingT,
-            _ => ChangerAspect::Dark,
+            0 => return ChangerAspect::Dark,
+            1 => return ChangerAspect::FixedT,
+            2 => return ChangerAspect::FixedC,
+            3 => return ChangerAspect::FlashingT,
+            _ => return ChangerAspect::Dark,
         }
     }
 
@@ -195,10 +195,10 @@ impl ChangerAspect {
         ensures { λ r. ⌜ r ≡ changerAspectNo self ⌝ }
     {
         match self {
-            ChangerAspect::Dark => 0,
-            ChangerAspect::FixedT => 1,
-            ChangerAspect::FixedC => 2,
-            ChangerAspect::FlashingT => 3,
+            ChangerAspect::Dark => return 0,
+            ChangerAspect::FixedT => return 1,
+            ChangerAspect::FixedC => return 2,
+            ChangerAspect::FlashingT => return 3,
         }
     }
 }
@@ -214,10 +214,10 @@ impl BoardAspect {
         ensures { λ r. ⌜ r ≡ boardAspectOf value ⌝ }
     {
         match value {
-            0 => BoardAspect::Red,
-            1 => BoardAspect::Blue,
-            2 => BoardAspect::White,
-            _ => BoardAspect::Red,
+            0 => return BoardAspect::Red,
+            1 => return BoardAspect::Blue,
+            2 => return BoardAspect::White,
+            _ => return BoardAspect::Red,
         }
     }
 
@@ -225,9 +225,9 @@ impl BoardAspect {
         ensures { λ r. ⌜ r ≡ boardAspectNo self ⌝ }
     {
         match self {
-            BoardAspect::Red => 0,
-            BoardAspect::Blue => 1,
-            BoardAspect::White => 2,
+            BoardAspect::Red => return 0,
+            BoardAspect::Blue => return 1,
+            BoardAspect::White => return 2,
         }
     }
 }
@@ -244,11 +244,11 @@ impl SectionOccupancy {
         ensures { λ r. ⌜ r ≡ sectionOccupancyOf value ⌝ }
     {
         match value {
-            0 => SectionOccupancy::ClearIdle,
-            1 => SectionOccupancy::ClearMovementOrBlockSet,
-            2 => SectionOccupancy::ClearShuntSet,
-            3 => SectionOccupancy::Occupied,
-            _ => SectionOccupancy::ClearIdle,
+            0 => return SectionOccupancy::ClearIdle,
+            1 => return SectionOccupancy::ClearMovementOrBlockSet,
+            2 => return SectionOccupancy::ClearShuntSet,
+            3 => return SectionOccupancy::Occupied,
+            _ => return SectionOccupancy::ClearIdle,
         }
     }
 
@@ -256,10 +256,10 @@ impl SectionOccupancy {
         ensures { λ r. ⌜ r ≡ sectionOccupancyNo self ⌝ }
     {
         match self {
-            SectionOccupancy::ClearIdle => 0,
-            SectionOccupancy::ClearMovementOrBlockSet => 1,
-            SectionOccupancy::ClearShuntSet => 2,
-            SectionOccupancy::Occupied => 3,
+            SectionOccupancy::ClearIdle => return 0,
+            SectionOccupancy::ClearMovementOrBlockSet => return 1,
+            SectionOccupancy::ClearShuntSet => return 2,
+            SectionOccupancy::Occupied => return 3,
         }
     }
 }
@@ -275,10 +275,10 @@ impl Overlap {
         ensures { λ r. ⌜ r ≡ overlapOf value ⌝ }
     {
         match value {
-            0 => Overlap::NoOverlap,
-            1 => Overlap::MovementOverlap,
-            2 => Overlap::ShuntOverlap,
-            _ => Overlap::NoOverlap,
+            0 => return Overlap::NoOverlap,
+            1 => return Overlap::MovementOverlap,
+            2 => return Overlap::ShuntOverlap,
+            _ => return Overlap::NoOverlap,
         }
     }
 
@@ -286,9 +286,9 @@ impl Overlap {
         ensures { λ r. ⌜ r ≡ overlapNo self ⌝ }
     {
         match self {
-            Overlap::NoOverlap => 0,
-            Overlap::MovementOverlap => 1,
-            Overlap::ShuntOverlap => 2,
+            Overlap::NoOverlap => return 0,
+            Overlap::MovementOverlap => return 1,
+            Overlap::ShuntOverlap => return 2,
         }
     }
 }
@@ -306,12 +306,12 @@ impl GaugePresence {
         ensures { λ r. ⌜ r ≡ gaugePresenceOf value ⌝ }
     {
         match value {
-            0 => GaugePresence::NotShown,
-            1 => GaugePresence::NoTrain,
-            2 => GaugePresence::UicTrain,
-            3 => GaugePresence::ConventionalTrain,
-            4 => GaugePresence::BothGauges,
-            _ => GaugePresence::NotShown,
+            0 => return GaugePresence::NotShown,
+            1 => return GaugePresence::NoTrain,
+            2 => return GaugePresence::UicTrain,
+            3 => return GaugePresence::ConventionalTrain,
+            4 => return GaugePresence::BothGauges,
+            _ => return GaugePresence::NotShown,
         }
     }
 
@@ -319,11 +319,11 @@ impl GaugePresence {
         ensures { λ r. ⌜ r ≡ gaugePresenceNo self ⌝ }
     {
         match self {
-            GaugePresence::NotShown => 0,
-            GaugePresence::NoTrain => 1,
-            GaugePresence::UicTrain => 2,
-            GaugePresence::ConventionalTrain => 3,
-            GaugePresence::BothGauges => 4,
+            GaugePresence::NotShown => return 0,
+            GaugePresence::NoTrain => return 1,
+            GaugePresence::UicTrain => return 2,
+            GaugePresence::ConventionalTrain => return 3,
+            GaugePresence::BothGauges => return 4,
         }
     }
 }
@@ -338,9 +338,9 @@ impl PointsSectionOccupancy {
         ensures { λ r. ⌜ r ≡ pointsSectionOccupancyOf value ⌝ }
     {
         match value {
-            0 => PointsSectionOccupancy::Clear,
-            1 => PointsSectionOccupancy::Occupied,
-            _ => PointsSectionOccupancy::Clear,
+            0 => return PointsSectionOccupancy::Clear,
+            1 => return PointsSectionOccupancy::Occupied,
+            _ => return PointsSectionOccupancy::Clear,
         }
     }
 
@@ -348,8 +348,8 @@ impl PointsSectionOccupancy {
         ensures { λ r. ⌜ r ≡ pointsSectionOccupancyNo self ⌝ }
     {
         match self {
-            PointsSectionOccupancy::Clear => 0,
-            PointsSectionOccupancy::Occupied => 1,
+            PointsSectionOccupancy::Clear => return 0,
+            PointsSectionOccupancy::Occupied => return 1,
         }
     }
 }
@@ -366,11 +366,11 @@ impl LegOccupancy {
         ensures { λ r. ⌜ r ≡ legOccupancyOf value ⌝ }
     {
         match value {
-            0 => LegOccupancy::ClearIdle,
-            1 => LegOccupancy::ClearMovementSet,
-            2 => LegOccupancy::ClearShuntSet,
-            3 => LegOccupancy::Occupied,
-            _ => LegOccupancy::ClearIdle,
+            0 => return LegOccupancy::ClearIdle,
+            1 => return LegOccupancy::ClearMovementSet,
+            2 => return LegOccupancy::ClearShuntSet,
+            3 => return LegOccupancy::Occupied,
+            _ => return LegOccupancy::ClearIdle,
         }
     }
 
@@ -378,10 +378,10 @@ impl LegOccupancy {
         ensures { λ r. ⌜ r ≡ legOccupancyNo self ⌝ }
     {
         match self {
-            LegOccupancy::ClearIdle => 0,
-            LegOccupancy::ClearMovementSet => 1,
-            LegOccupancy::ClearShuntSet => 2,
-            LegOccupancy::Occupied => 3,
+            LegOccupancy::ClearIdle => return 0,
+            LegOccupancy::ClearMovementSet => return 1,
+            LegOccupancy::ClearShuntSet => return 2,
+            LegOccupancy::Occupied => return 3,
         }
     }
 }
@@ -397,10 +397,10 @@ impl LegShown {
         ensures { λ r. ⌜ r ≡ legShownOf value ⌝ }
     {
         match value {
-            0 => LegShown::NormalAndReverse,
-            1 => LegShown::NormalOnly,
-            2 => LegShown::ReverseOnly,
-            _ => LegShown::NormalAndReverse,
+            0 => return LegShown::NormalAndReverse,
+            1 => return LegShown::NormalOnly,
+            2 => return LegShown::ReverseOnly,
+            _ => return LegShown::NormalAndReverse,
         }
     }
 
@@ -408,9 +408,9 @@ impl LegShown {
         ensures { λ r. ⌜ r ≡ legShownNo self ⌝ }
     {
         match self {
-            LegShown::NormalAndReverse => 0,
-            LegShown::NormalOnly => 1,
-            LegShown::ReverseOnly => 2,
+            LegShown::NormalAndReverse => return 0,
+            LegShown::NormalOnly => return 1,
+            LegShown::ReverseOnly => return 2,
         }
     }
 }
@@ -428,12 +428,12 @@ impl PointsDetection {
         ensures { λ r. ⌜ r ≡ pointsDetectionOf value ⌝ }
     {
         match value {
-            0 => PointsDetection::NotDetected,
-            1 => PointsDetection::CalledNormal,
-            2 => PointsDetection::CalledReverse,
-            3 => PointsDetection::DetectedNormal,
-            4 => PointsDetection::DetectedReverse,
-            _ => PointsDetection::NotDetected,
+            0 => return PointsDetection::NotDetected,
+            1 => return PointsDetection::CalledNormal,
+            2 => return PointsDetection::CalledReverse,
+            3 => return PointsDetection::DetectedNormal,
+            4 => return PointsDetection::DetectedReverse,
+            _ => return PointsDetection::NotDetected,
         }
     }
 
@@ -441,11 +441,11 @@ impl PointsDetection {
         ensures { λ r. ⌜ r ≡ pointsDetectionNo self ⌝ }
     {
         match self {
-            PointsDetection::NotDetected => 0,
-            PointsDetection::CalledNormal => 1,
-            PointsDetection::CalledReverse => 2,
-            PointsDetection::DetectedNormal => 3,
-            PointsDetection::DetectedReverse => 4,
+            PointsDetection::NotDetected => return 0,
+            PointsDetection::CalledNormal => return 1,
+            PointsDetection::CalledReverse => return 2,
+            PointsDetection::DetectedNormal => return 3,
+            PointsDetection::DetectedReverse => return 4,
         }
     }
 }
@@ -462,11 +462,11 @@ impl PointsLocking {
         ensures { λ r. ⌜ r ≡ pointsLockingOf value ⌝ }
     {
         match value {
-            0 => PointsLocking::Free,
-            1 => PointsLocking::Locked,
-            2 => PointsLocking::MovementRequired,
-            3 => PointsLocking::ReleasedForMaintenance,
-            _ => PointsLocking::Free,
+            0 => return PointsLocking::Free,
+            1 => return PointsLocking::Locked,
+            2 => return PointsLocking::MovementRequired,
+            3 => return PointsLocking::ReleasedForMaintenance,
+            _ => return PointsLocking::Free,
         }
     }
 
@@ -474,10 +474,10 @@ impl PointsLocking {
         ensures { λ r. ⌜ r ≡ pointsLockingNo self ⌝ }
     {
         match self {
-            PointsLocking::Free => 0,
-            PointsLocking::Locked => 1,
-            PointsLocking::MovementRequired => 2,
-            PointsLocking::ReleasedForMaintenance => 3,
+            PointsLocking::Free => return 0,
+            PointsLocking::Locked => return 1,
+            PointsLocking::MovementRequired => return 2,
+            PointsLocking::ReleasedForMaintenance => return 3,
         }
     }
 }
@@ -494,11 +494,11 @@ impl HeaterIndication {
         ensures { λ r. ⌜ r ≡ heaterIndicationOf value ⌝ }
     {
         match value {
-            0 => HeaterIndication::NotShown,
-            1 => HeaterIndication::Yellow,
-            2 => HeaterIndication::Green,
-            3 => HeaterIndication::RedFlashing,
-            _ => HeaterIndication::NotShown,
+            0 => return HeaterIndication::NotShown,
+            1 => return HeaterIndication::Yellow,
+            2 => return HeaterIndication::Green,
+            3 => return HeaterIndication::RedFlashing,
+            _ => return HeaterIndication::NotShown,
         }
     }
 
@@ -506,10 +506,10 @@ impl HeaterIndication {
         ensures { λ r. ⌜ r ≡ heaterIndicationNo self ⌝ }
     {
         match self {
-            HeaterIndication::NotShown => 0,
-            HeaterIndication::Yellow => 1,
-            HeaterIndication::Green => 2,
-            HeaterIndication::RedFlashing => 3,
+            HeaterIndication::NotShown => return 0,
+            HeaterIndication::Yellow => return 1,
+            HeaterIndication::Green => return 2,
+            HeaterIndication::RedFlashing => return 3,
         }
     }
 }
@@ -525,10 +525,10 @@ impl EarthFaultIndication {
         ensures { λ r. ⌜ r ≡ earthFaultIndicationOf value ⌝ }
     {
         match value {
-            0 => EarthFaultIndication::NotShown,
-            1 => EarthFaultIndication::EarthFault,
-            2 => EarthFaultIndication::TestRunning,
-            _ => EarthFaultIndication::NotShown,
+            0 => return EarthFaultIndication::NotShown,
+            1 => return EarthFaultIndication::EarthFault,
+            2 => return EarthFaultIndication::TestRunning,
+            _ => return EarthFaultIndication::NotShown,
         }
     }
 
@@ -536,9 +536,9 @@ impl EarthFaultIndication {
         ensures { λ r. ⌜ r ≡ earthFaultIndicationNo self ⌝ }
     {
         match self {
-            EarthFaultIndication::NotShown => 0,
-            EarthFaultIndication::EarthFault => 1,
-            EarthFaultIndication::TestRunning => 2,
+            EarthFaultIndication::NotShown => return 0,
+            EarthFaultIndication::EarthFault => return 1,
+            EarthFaultIndication::TestRunning => return 2,
         }
     }
 }
@@ -558,14 +558,14 @@ impl BoundaryMovement {
         ensures { λ r. ⌜ r ≡ boundaryMovementOf value ⌝ }
     {
         match value {
-            0 => BoundaryMovement::AtRest,
-            1 => BoundaryMovement::RouteSignalPending,
-            2 => BoundaryMovement::RouteSignalOpen,
-            3 => BoundaryMovement::OverrideSignalPending,
-            4 => BoundaryMovement::OverrideSignalOpen,
-            5 => BoundaryMovement::ShuntSignalPending,
-            6 => BoundaryMovement::ShuntSignalOpen,
-            _ => BoundaryMovement::AtRest,
+            0 => return BoundaryMovement::AtRest,
+            1 => return BoundaryMovement::RouteSignalPending,
+            2 => return BoundaryMovement::RouteSignalOpen,
+            3 => return BoundaryMovement::OverrideSignalPending,
+            4 => return BoundaryMovement::OverrideSignalOpen,
+            5 => return BoundaryMovement::ShuntSignalPending,
+            6 => return BoundaryMovement::ShuntSignalOpen,
+            _ => return BoundaryMovement::AtRest,
         }
     }
 
@@ -573,13 +573,13 @@ impl BoundaryMovement {
         ensures { λ r. ⌜ r ≡ boundaryMovementNo self ⌝ }
     {
         match self {
-            BoundaryMovement::AtRest => 0,
-            BoundaryMovement::RouteSignalPending => 1,
-            BoundaryMovement::RouteSignalOpen => 2,
-            BoundaryMovement::OverrideSignalPending => 3,
-            BoundaryMovement::OverrideSignalOpen => 4,
-            BoundaryMovement::ShuntSignalPending => 5,
-            BoundaryMovement::ShuntSignalOpen => 6,
+            BoundaryMovement::AtRest => return 0,
+            BoundaryMovement::RouteSignalPending => return 1,
+            BoundaryMovement::RouteSignalOpen => return 2,
+            BoundaryMovement::OverrideSignalPending => return 3,
+            BoundaryMovement::OverrideSignalOpen => return 4,
+            BoundaryMovement::ShuntSignalPending => return 5,
+            BoundaryMovement::ShuntSignalOpen => return 6,
         }
     }
 }

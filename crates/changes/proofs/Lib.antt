@@ -2,3 +2,4 @@ pub mod Parts
 pub mod Outcomes
 pub mod Calls
 pub mod Demands
+pub mod OneOutcome

@@ -47,36 +47,38 @@ module _ (k : Kind) (w : ℕ) (l : Layout) (is : l ≡ layoutOf k) where
   unfolding dat
   dat-stale e h z = tested e (ne-eqb _ _ h) (ne-eqb _ _ z)
 
+-- from what is found of the fields
+module _ (k : Kind) (w : ℕ) (f : Finding) (e : f ≡ checkRows w (rowsOf k)) where
+  pub check-refused : (x : Refusal) → f ≡ Finding.Refused x → f ≡ elementCheck k w
+  unfolding elementCheck
+  check-refused x t = t ∙ ap (λ (f : Finding). onFinding f (datRule k w) Finding.Refused) (sym t ∙ e)
+
+  pub check-rest : f ≡ Finding.Accepted → datRule k w ≡ elementCheck k w
+  unfolding elementCheck
+  check-rest t = ap (λ (f : Finding). onFinding f (datRule k w) Finding.Refused) (sym t ∙ e)
+
 -- from what `read_fields` ensures
 module _ (k : Kind) (w : ℕ) (r : Fields) (e : r ≡ fieldsRead w (rowsOf k)) where
   finding : r .finding ≡ checkRows w (rowsOf k)
   finding = ap (λ (f : Fields). f .finding) e
-
-  pub check-refused : (x : Refusal) → r .finding ≡ Finding.Refused x → r .finding ≡ elementCheck k w
-  unfolding elementCheck
-  check-refused x t = t ∙ ap (λ (f : Finding). onFinding f (datRule k w) Finding.Refused) (sym t ∙ finding)
-
-  pub check-rest : r .finding ≡ Finding.Accepted → datRule k w ≡ elementCheck k w
-  unfolding elementCheck
-  check-rest t = ap (λ (f : Finding). onFinding f (datRule k w) Finding.Refused) (sym t ∙ finding)
 
   answer : Finding → State
   answer f = onFinding f (State.Read (stateOf k w)) State.Refused
 
   pub state-refused : (x : Refusal) → r .finding ≡ Finding.Refused x → State.Refused x ≡ stateRead k w
   unfolding answer stateRead
-  state-refused x t = ap answer (sym t ∙ check-refused x t)
+  state-refused x t = ap answer (sym t ∙ check-refused k w _ finding x t)
 
   pub state-stale : (d : Finding) (x : Refusal) → r .finding ≡ Finding.Accepted → d ≡ datRule k w → d ≡ Finding.Refused x → State.Refused x ≡ stateRead k w
   unfolding answer stateRead
-  state-stale d x t p q = ap answer (sym q ∙ p ∙ check-rest t)
+  state-stale d x t p q = ap answer (sym q ∙ p ∙ check-rest k w _ finding t)
 
   pub state-read : (d : Finding) (s : Element) → r .finding ≡ Finding.Accepted → d ≡ datRule k w → d ≡ Finding.Accepted → s ≡ elementOf k (r .values) → State.Read s ≡ stateRead k w
   unfolding answer stateRead stateOf
   state-read d s t p q h =
       let all : r .values ≡ padded (valuesOf w (rowsOf k)) =
       ap (λ (f : Fields). f .values) e ∙ ap (λ (f : Finding). onFinding f (padded (valuesOf w (rowsOf k))) (λ x. replicate 24 0)) (sym finding ∙ t) in
-      ap State.Read (h ∙ ap (elementOf k) all) ∙ ap answer (sym q ∙ p ∙ check-rest t)
+      ap State.Read (h ∙ ap (elementOf k) all) ∙ ap answer (sym q ∙ p ∙ check-rest k w _ finding t)
 
 -- the rows of a kind are in the table
 pub in-table : (k : Kind) (l : Layout) → l ≡ layoutOf k → (l .first + l .count ≤ rowTotal) × (l .count ≤ 24)

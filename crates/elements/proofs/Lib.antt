@@ -2,4 +2,5 @@ pub mod Covering
 pub mod Laws
 pub mod Findings
 pub mod Answers
+pub mod Bearing
 pub mod Known

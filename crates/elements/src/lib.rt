@@ -8,7 +8,7 @@ use rows::Finding;
 use rows::Refusal;
 ghost use mathlib.Core.Path.{_≡_};
 ghost use Prim.Native.Nat.{_≤_};
-ghost use Rattle.rows.specs.Fields.{fieldsRead};
+ghost use Rattle.rows.specs.Fields.{checkRows, fieldsRead};
 ghost use Rattle.kinds.specs.Kinds.{layoutNo, widthOf, rowsOf};
 ghost use Rattle.elements.specs.Elements.{sortOf, carried, kindOf, kindNumbered, sameKind, datRule, elementCheck, stateRead, wordOf};
 
@@ -22,8 +22,7 @@ pub enum State {
 pub fn check_element(word: u32, kind: Kind) -> Finding
     ensures { λ r. ⌜ r ≡ elementCheck kind word ⌝ }
 {
-    let fields = read_fields(word, kind);
-    let finding = fields.finding;
+    let finding = check_fields(word, kind);
     let Finding::Accepted = finding else {
         return finding;
     };
@@ -110,6 +109,14 @@ pub fn width(kind: Kind) -> usize
     ensures { λ r. ⌜ (r ≡ widthOf kind) × (r ≤ 4) ⌝ }
 {
     kinds::layout(kind).bytes
+}
+
+// What is found of the fields of an element's number.
+fn check_fields(word: u32, kind: Kind) -> Finding
+    ensures { λ r. ⌜ r ≡ checkRows word (rowsOf kind) ⌝ }
+{
+    let layout = kinds::layout(kind);
+    rows::check_rows(word, layout.number, layout.first)
 }
 
 // All fields of an element's number.

@@ -6,3 +6,4 @@ pub mod ListEntryLaws
 pub mod ListAnswers
 pub mod Accepted
 pub mod UnderPlan
+pub mod OneOutcome

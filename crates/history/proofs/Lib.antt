@@ -10,6 +10,7 @@ pub mod CallLaws
 pub mod StateLaws
 pub mod SizeLaws
 pub mod OutputLaws
+pub mod OneOutcome
 pub mod LabelLaws
 pub mod AcceptedLaws
 pub mod Demands

@@ -1,4 +1,4 @@
-// The meaning of the product: definitions in specs/, laws in proofs/. The only code are the two structs that the definitions speak of.
+// The meaning of the product: definitions in specs/, laws in proofs/. The only code are the types that the definitions speak of.
 
 // The four numbers that every call gives back.
 pub struct Answer {

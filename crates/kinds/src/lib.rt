@@ -58,77 +58,77 @@ pub fn layout(kind: Kind) -> Layout
     ensures { λ r. ⌜ r ≡ layoutOf kind ⌝ }
 {
     match kind {
-        Kind::Signal => Layout {
+        Kind::Signal => return Layout {
             number: 1,
             first: 0,
             count: 24,
             bytes: Signal::WIDTH,
             dat: true,
         },
-        Kind::ChangerSignal => Layout {
+        Kind::ChangerSignal => return Layout {
             number: 2,
             first: 24,
             count: 3,
             bytes: ChangerSignal::WIDTH,
             dat: true,
         },
-        Kind::VirtualBoard => Layout {
+        Kind::VirtualBoard => return Layout {
             number: 3,
             first: 27,
             count: 4,
             bytes: VirtualBoard::WIDTH,
             dat: true,
         },
-        Kind::LineTrackCircuit => Layout {
+        Kind::LineTrackCircuit => return Layout {
             number: 4,
             first: 31,
             count: 11,
             bytes: LineTrackCircuit::WIDTH,
             dat: true,
         },
-        Kind::PointsTrackCircuit => Layout {
+        Kind::PointsTrackCircuit => return Layout {
             number: 5,
             first: 42,
             count: 11,
             bytes: PointsTrackCircuit::WIDTH,
             dat: true,
         },
-        Kind::CrossingTrackCircuit => Layout {
+        Kind::CrossingTrackCircuit => return Layout {
             number: 6,
             first: 53,
             count: 12,
             bytes: CrossingTrackCircuit::WIDTH,
             dat: true,
         },
-        Kind::DualDetection => Layout {
+        Kind::DualDetection => return Layout {
             number: 7,
             first: 65,
             count: 7,
             bytes: DualDetection::WIDTH,
             dat: true,
         },
-        Kind::Points => Layout {
+        Kind::Points => return Layout {
             number: 8,
             first: 72,
             count: 13,
             bytes: Points::WIDTH,
             dat: true,
         },
-        Kind::ElectricLock => Layout {
+        Kind::ElectricLock => return Layout {
             number: 9,
             first: 85,
             count: 5,
             bytes: ElectricLock::WIDTH,
             dat: true,
         },
-        Kind::GeneralNotices => Layout {
+        Kind::GeneralNotices => return Layout {
             number: 22,
             first: 90,
             count: 8,
             bytes: GeneralNotices::WIDTH,
             dat: false,
         },
-        Kind::ControlBoundary => Layout {
+        Kind::ControlBoundary => return Layout {
             number: 23,
             first: 98,
             count: 9,
@@ -143,18 +143,18 @@ pub fn sort_numbered(number: u8) -> Sort
     ensures { λ r. ⌜ r ≡ sortNumbered number ⌝ }
 {
     match number {
-        1 => Sort::Carried(Kind::Signal),
-        2 => Sort::Carried(Kind::ChangerSignal),
-        3 => Sort::Carried(Kind::VirtualBoard),
-        4 => Sort::Carried(Kind::LineTrackCircuit),
-        5 => Sort::Carried(Kind::PointsTrackCircuit),
-        6 => Sort::Carried(Kind::CrossingTrackCircuit),
-        7 => Sort::Carried(Kind::DualDetection),
-        8 => Sort::Carried(Kind::Points),
-        9 => Sort::Carried(Kind::ElectricLock),
-        22 => Sort::Carried(Kind::GeneralNotices),
-        23 => Sort::Carried(Kind::ControlBoundary),
-        _ => Sort::Other,
+        1 => return Sort::Carried(Kind::Signal),
+        2 => return Sort::Carried(Kind::ChangerSignal),
+        3 => return Sort::Carried(Kind::VirtualBoard),
+        4 => return Sort::Carried(Kind::LineTrackCircuit),
+        5 => return Sort::Carried(Kind::PointsTrackCircuit),
+        6 => return Sort::Carried(Kind::CrossingTrackCircuit),
+        7 => return Sort::Carried(Kind::DualDetection),
+        8 => return Sort::Carried(Kind::Points),
+        9 => return Sort::Carried(Kind::ElectricLock),
+        22 => return Sort::Carried(Kind::GeneralNotices),
+        23 => return Sort::Carried(Kind::ControlBoundary),
+        _ => return Sort::Other,
     }
 }
 
@@ -163,17 +163,17 @@ pub fn kind_in(element: Element) -> Kind
     ensures { λ r. ⌜ r ≡ kindIn element ⌝ }
 {
     match element {
-        Element::Signal(_) => Kind::Signal,
-        Element::ChangerSignal(_) => Kind::ChangerSignal,
-        Element::VirtualBoard(_) => Kind::VirtualBoard,
-        Element::LineTrackCircuit(_) => Kind::LineTrackCircuit,
-        Element::PointsTrackCircuit(_) => Kind::PointsTrackCircuit,
-        Element::CrossingTrackCircuit(_) => Kind::CrossingTrackCircuit,
-        Element::DualDetection(_) => Kind::DualDetection,
-        Element::Points(_) => Kind::Points,
-        Element::ElectricLock(_) => Kind::ElectricLock,
-        Element::GeneralNotices(_) => Kind::GeneralNotices,
-        Element::ControlBoundary(_) => Kind::ControlBoundary,
+        Element::Signal(_) => return Kind::Signal,
+        Element::ChangerSignal(_) => return Kind::ChangerSignal,
+        Element::VirtualBoard(_) => return Kind::VirtualBoard,
+        Element::LineTrackCircuit(_) => return Kind::LineTrackCircuit,
+        Element::PointsTrackCircuit(_) => return Kind::PointsTrackCircuit,
+        Element::CrossingTrackCircuit(_) => return Kind::CrossingTrackCircuit,
+        Element::DualDetection(_) => return Kind::DualDetection,
+        Element::Points(_) => return Kind::Points,
+        Element::ElectricLock(_) => return Kind::ElectricLock,
+        Element::GeneralNotices(_) => return Kind::GeneralNotices,
+        Element::ControlBoundary(_) => return Kind::ControlBoundary,
     }
 }
 
@@ -182,21 +182,23 @@ pub fn element_of(kind: Kind, values: [u32; 24]) -> Element
     ensures { λ r. ⌜ r ≡ elementOf kind values ⌝ }
 {
     match kind {
-        Kind::Signal => Element::Signal(Signal::of_values(values)),
-        Kind::ChangerSignal => Element::ChangerSignal(ChangerSignal::of_values(values)),
-        Kind::VirtualBoard => Element::VirtualBoard(VirtualBoard::of_values(values)),
-        Kind::LineTrackCircuit => Element::LineTrackCircuit(LineTrackCircuit::of_values(values)),
-        Kind::PointsTrackCircuit => Element::PointsTrackCircuit(PointsTrackCircuit::of_values(
+        Kind::Signal => return Element::Signal(Signal::of_values(values)),
+        Kind::ChangerSignal => return Element::ChangerSignal(ChangerSignal::of_values(values)),
+        Kind::VirtualBoard => return Element::VirtualBoard(VirtualBoard::of_values(values)),
+        Kind::LineTrackCircuit => return Element::LineTrackCircuit(LineTrackCircuit::of_values(
             values,
         )),
-        Kind::CrossingTrackCircuit => Element::CrossingTrackCircuit(CrossingTrackCircuit::of_values(
+        Kind::PointsTrackCircuit =>
+            return Element::PointsTrackCircuit(PointsTrackCircuit::of_values(values)),
+        Kind::CrossingTrackCircuit =>
+            return Element::CrossingTrackCircuit(CrossingTrackCircuit::of_values(values)),
+        Kind::DualDetection => return Element::DualDetection(DualDetection::of_values(values)),
+        Kind::Points => return Element::Points(Points::of_values(values)),
+        Kind::ElectricLock => return Element::ElectricLock(ElectricLock::of_values(values)),
+        Kind::GeneralNotices => return Element::GeneralNotices(GeneralNotices::of_values(values)),
+        Kind::ControlBoundary => return Element::ControlBoundary(ControlBoundary::of_values(
             values,
         )),
-        Kind::DualDetection => Element::DualDetection(DualDetection::of_values(values)),
-        Kind::Points => Element::Points(Points::of_values(values)),
-        Kind::ElectricLock => Element::ElectricLock(ElectricLock::of_values(values)),
-        Kind::GeneralNotices => Element::GeneralNotices(GeneralNotices::of_values(values)),
-        Kind::ControlBoundary => Element::ControlBoundary(ControlBoundary::of_values(values)),
     }
 }
 
@@ -205,16 +207,16 @@ pub fn values_of(element: Element) -> [u32; 24]
     ensures { λ r. ⌜ r ≡ padded (elementValues element) ⌝ }
 {
     match element {
-        Element::Signal(state) => state.values(),
-        Element::ChangerSignal(state) => state.values(),
-        Element::VirtualBoard(state) => state.values(),
-        Element::LineTrackCircuit(state) => state.values(),
-        Element::PointsTrackCircuit(state) => state.values(),
-        Element::CrossingTrackCircuit(state) => state.values(),
-        Element::DualDetection(state) => state.values(),
-        Element::Points(state) => state.values(),
-        Element::ElectricLock(state) => state.values(),
-        Element::GeneralNotices(state) => state.values(),
-        Element::ControlBoundary(state) => state.values(),
+        Element::Signal(state) => return state.values(),
+        Element::ChangerSignal(state) => return state.values(),
+        Element::VirtualBoard(state) => return state.values(),
+        Element::LineTrackCircuit(state) => return state.values(),
+        Element::PointsTrackCircuit(state) => return state.values(),
+        Element::CrossingTrackCircuit(state) => return state.values(),
+        Element::DualDetection(state) => return state.values(),
+        Element::Points(state) => return state.values(),
+        Element::ElectricLock(state) => return state.values(),
+        Element::GeneralNotices(state) => return state.values(),
+        Element::ControlBoundary(state) => return state.values(),
     }
 }

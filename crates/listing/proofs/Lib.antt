@@ -5,3 +5,4 @@ pub mod PanelLaws
 pub mod WalkLaws
 pub mod InputLaws
 pub mod Examples
+pub mod OneOutcome

@@ -2,10 +2,12 @@
 // without room (21) stays as it was. It checks no form and refuses nothing else.
 use history::Answer;
 use steps::Walk;
+use tables::short;
+use tables::written;
 ghost use mathlib.Core.Path.{_≡_};
 ghost use Prim.Native.Nat.{_+_, _≤_};
 ghost use lib.ListN.{length};
-ghost use Rattle.history.specs.Verdict.{done, numbers, settled};
+ghost use Rattle.history.specs.Verdict.{done, settled};
 ghost use Rattle.history.specs.Image.{widths};
 ghost use Rattle.tables.specs.Outlines.{kindsOf};
 ghost use Rattle.walks.specs.Walks.{renewal};
@@ -87,28 +89,4 @@ fn put_opening(part: &mut [u8], after: u32, x: u8, y: u8)
     part[4] = 1;
     part[5] = x;
     part[6] = y;
-}
-
-// Success: so many bytes are written.
-fn written(bytes: u32) -> Answer
-    ensures { λ r. ⌜ r ≡ numbers 0 65535 255 bytes ⌝ }
-{
-    Answer {
-        code: 0,
-        object: 65535,
-        bit: 255,
-        length: bytes,
-    }
-}
-
-// 21: so many bytes are needed.
-fn short(bytes: u32) -> Answer
-    ensures { λ r. ⌜ r ≡ numbers 21 65535 255 bytes ⌝ }
-{
-    Answer {
-        code: 21,
-        object: 65535,
-        bit: 255,
-        length: bytes,
-    }
 }

@@ -2,3 +2,4 @@ pub mod ElementPlaces
 pub mod ReadLaws
 pub mod WriteLaws
 pub mod Demands
+pub mod OneOutcome

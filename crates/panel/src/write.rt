@@ -10,10 +10,12 @@ use tables::accepted;
 use tables::outline;
 use tables::refused_at;
 use tables::refused_bit;
+use tables::short;
+use tables::written;
 ghost use mathlib.Core.Path.{_≡_};
 ghost use Prim.Native.Nat.{_≤_, _-_};
 ghost use lib.ListN.{length};
-ghost use Rattle.history.specs.Verdict.{done, numbers, told, settled};
+ghost use Rattle.history.specs.Verdict.{done, told, settled};
 ghost use Rattle.history.specs.Calls.{writeStateCall};
 ghost use Rattle.tables.specs.Outlines.{kindsOf, planAs};
 ghost use Rattle.panel.specs.Places.{Sized};
@@ -137,28 +139,4 @@ fn renew(part: &mut [u8], image: &[u8], position: u32, at: usize, end: usize, wo
     octets::copy(part, image);
     octets::put(&mut part[7..11], position);
     octets::put(&mut part[at..end], word);
-}
-
-// Success: so many bytes are written.
-fn written(bytes: u32) -> Answer
-    ensures { λ r. ⌜ r ≡ numbers 0 65535 255 bytes ⌝ }
-{
-    Answer {
-        code: 0,
-        object: 65535,
-        bit: 255,
-        length: bytes,
-    }
-}
-
-// 21: so many bytes are needed.
-fn short(bytes: u32) -> Answer
-    ensures { λ r. ⌜ r ≡ numbers 21 65535 255 bytes ⌝ }
-{
-    Answer {
-        code: 21,
-        object: 65535,
-        bit: 255,
-        length: bytes,
-    }
 }

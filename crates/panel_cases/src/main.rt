@@ -1,15 +1,6 @@
 // Runs stored requests, a line each: states read and written, and labels. It prints the four numbers, and the state, the whole output
 // or the label.
-use kinds::Element;
 use libc::STDIN_FILENO;
-use panel::Reading;
-use rows::Field;
-
-// A value of a state's text, and where the next one stands.
-struct Item {
-    value: u32,
-    next: usize,
-}
 
 fn main() {
     let mut text = [0u8; 200000];
@@ -61,16 +52,16 @@ fn ask_read(table: &[u8], n: usize, image: &[u8], m: usize, object: u16) {
     if image.len() < m {
         return;
     }
-    let reading = panel::read_state(&table[0..n], &image[0..m], object);
-    script::print_answer(panel::answer_of(reading));
+    let plain = fields::read_fields(&table[0..n], &image[0..m], object);
+    let kind = plain.kind;
+    let count = plain.count;
+    let values = plain.fields;
+    script::print_answer(plain.answer);
     script::print(b" state=");
-    match reading {
-        Reading::State(state) => {
-            print_state(state);
-        }
-        Reading::Refused(_) => {
-            script::print(b"none");
-        }
+    if kind == 0 {
+        script::print(b"none");
+    } else {
+        print_state(kind, count, values);
     }
     script::print(b"\n");
 }
@@ -108,12 +99,25 @@ fn write_rest(
 ) {
     let mut out = [0u8; 12000];
     let first = script::find(line, from, b'=');
-    let state = state_in(line, first + 1);
+    let kind = script::decimal(line, first + 1);
+    let colon = script::find(line, first + 1, b':');
+    let values = values_in(line, colon + 1);
     let second = script::find(line, first + 1, b'=');
     let position = script::decimal(line, second + 1);
     let third = script::find(line, second + 1, b'=');
     let k = script::decode(line, third + 1, &mut out);
-    ask_write(table, n, image, m, object, state, position, &mut out, k);
+    ask_write(
+        table,
+        n,
+        image,
+        m,
+        object,
+        kind,
+        values,
+        position,
+        &mut out,
+        k,
+    );
 }
 
 fn ask_write(
@@ -122,7 +126,8 @@ fn ask_write(
     image: &[u8],
     m: usize,
     object: u16,
-    state: Element,
+    kind: u32,
+    values: [u32; 32],
     position: u32,
     out: &mut [u8],
     k: usize,
@@ -136,11 +141,12 @@ fn ask_write(
     if out.len() < k {
         return;
     }
-    script::print_answer(panel::write_state(
+    script::print_answer(fields::write_fields(
         &table[0..n],
         &image[0..m],
         object,
-        state,
+        kind,
+        values,
         position,
         &mut out[0..k],
     ));
@@ -169,78 +175,32 @@ fn ask_label(table: &[u8], n: usize, object: u16) {
     script::print(b"\n");
 }
 
-// The state that stands from a place on.
-fn state_in(text: &[u8], from: usize) -> Element {
-    let ty = script::decimal(text, from);
-    let colon = script::find(text, from, b':');
-    let kind = elements::kind_of(1, (ty % 256) as u8);
-    let layout = kinds::layout(kind);
-    let values = values_in(text, colon + 1, layout.first, layout.count);
-    kinds::element_of(kind, values)
-}
-
-// The values of the rows that aren't reserved, 0 for those that are.
-fn values_in(text: &[u8], from: usize, first: usize, count: usize) -> [u32; 24] {
-    let mut values = [0u32; 24];
+// Values with commas between; whatever stands behind a state's own isn't looked at.
+fn values_in(text: &[u8], from: usize) -> [u32; 32] {
+    let mut values = [0u32; 32];
     let mut at = from;
     let mut k: usize = 0;
-    while k < 24 {
-        if count <= k {
-            return values;
-        }
-        let item = item_in(text, at, is_reserved(first, k));
-        values[k] = item.value;
-        at = item.next;
+    while k < 32 {
+        values[k] = script::decimal(text, at);
+        at = script::find(text, at, b',') + 1;
         k += 1;
     }
     values
 }
 
-// The value that stands at a place, and where the next one does; of a reserved row none.
-fn item_in(text: &[u8], at: usize, reserved: bool) -> Item {
-    if reserved {
-        return Item { value: 0, next: at };
-    }
-    Item {
-        value: script::decimal(text, at),
-        next: script::find(text, at, b',') + 1,
-    }
-}
-
-// A row is reserved where a field of ones alone is refused with 10.
-fn is_reserved(first: usize, k: usize) -> bool {
-    if 107 <= first {
-        return true;
-    }
-    if 107 - first <= k {
-        return true;
-    }
-    let field = rows::read_field(4294967295, first + k);
-    match field {
-        Field::Value(_) => false,
-        Field::Refused(r) => r.code == 10,
-    }
-}
-
 // A state as `TYPE:V,V,..`, the fields that aren't reserved from bit 0 up.
-fn print_state(state: Element) {
-    let layout = kinds::layout(kinds::kind_in(state));
-    let values = kinds::values_of(state);
-    let first = layout.first;
-    let count = layout.count;
-    script::print_number(layout.number as u32);
+fn print_state(kind: u32, count: usize, values: [u32; 32]) {
+    script::print_number(kind);
     script::print(b":");
     let mut k: usize = 0;
-    while k < 24 {
+    while k < 32 {
         if count <= k {
             return;
         }
-        if !is_reserved(first, k) {
-            if 0 < k {
-                script::print(b",");
-            }
-            script::print_number(values[k]);
+        if 0 < k {
+            script::print(b",");
         }
+        script::print_number(values[k]);
         k += 1;
     }
 }

@@ -9,15 +9,17 @@ use native.Mathlib.Nat.{add-zero, zero-add, add-suc, suc-add, mod-eq-of-lt}
 use native.Mathlib.Numerals.{add-one}
 use lib.Dec.{leb, eqb}
 use lib.ListN.{length, getD, set, drop, replicate, length-append}
+use borrow.Author.Tests.{eq-eqb, ne-eqb}
 use lib.Seq.{set-append-seam, append-snoc, drop-cons}
-use Rattle.rows.specs.Table.{Row, rowAt, rowsFrom, table}
+use Rattle.rows.specs.Table.{Row, rowAt, rowsFrom, numberAt, table}
+use Rattle.rows.specs.Covering.{bearing}
 use Rattle.rows.specs.Fields.{fieldOf, fieldRead, orElse, checkRows, valuesOf, composeOf, padded, onFinding, fieldsRead, refusedFields}
 use Rattle.rows.specs.declared.Fields.{Fields}
 use Rattle.rows.specs.declared.Refusal.{Refusal}
 use Rattle.rows.specs.declared.Field.{Field}
 use Rattle.rows.specs.declared.Finding.{Finding}
 
-rows-snoc : (n i : ℕ) → rowsFrom i (suc n) ≡ rowsFrom i n ++ (rowAt (i + n) ∷ [])
+pub rows-snoc : (n i : ℕ) → rowsFrom i (suc n) ≡ rowsFrom i n ++ (rowAt (i + n) ∷ [])
 rows-snoc zero i = ap (λ (k : ℕ). rowAt k ∷ []) (sym (add-zero i))
 rows-snoc (suc n) i = ap (λ (l : List Row). rowAt i ∷ l) (rows-snoc n (suc i) ∙ ap (λ (k : ℕ). rowsFrom (suc i) n ++ (rowAt k ∷ [])) (suc-add i n ∙ sym (add-suc i n)))
 
@@ -29,18 +31,20 @@ pub values-length : (w n i : ℕ) → length (valuesOf w (rowsFrom i n)) ≡ n
 values-length w zero i = refl
 values-length w (suc n) i = ap suc (values-length w n (suc i))
 
-pad-store : (vs : List ℕ) (v : ℕ) → length vs < 24 → set (padded vs) (length vs) v ≡ padded (vs ++ (v ∷ []))
-pad-store vs v h =
-    let m = 24 - suc (length vs) in
-    let e : 24 - length vs ≡ suc m = omega arith in
-    let e′ : 24 - length (vs ++ (v ∷ [])) ≡ m = omega (arith, length-append vs (v ∷ [])) in
+-- values in the first of n places, zeros behind them, and one more
+pub fill-store : (n : ℕ) (vs : List ℕ) (v : ℕ) → length vs < n
+    → set (vs ++ replicate (n - length vs) 0) (length vs) v ≡ (vs ++ (v ∷ [])) ++ replicate (n - length (vs ++ (v ∷ []))) 0
+fill-store n vs v h =
+    let m = n - suc (length vs) in
+    let e : n - length vs ≡ suc m = omega arith in
+    let e′ : n - length (vs ++ (v ∷ [])) ≡ m = omega (arith, length-append vs (v ∷ [])) in
     ap (λ (n : ℕ). set (vs ++ replicate n 0) (length vs) v) e
     ∙ set-append-seam vs 0 (replicate m 0) v
     ∙ sym (append-snoc vs v (replicate m 0))
     ∙ ap (λ (n : ℕ). (vs ++ (v ∷ [])) ++ replicate n 0) (sym e′)
 
 -- the rows that are left, with the next in front
-rows-next : (first count k : ℕ) → k < count → rowsFrom (first + k) (count - k) ≡ rowAt (first + k) ∷ rowsFrom (first + (k + 1)) (count - (k + 1))
+pub rows-next : (first count k : ℕ) → k < count → rowsFrom (first + k) (count - k) ≡ rowAt (first + k) ∷ rowsFrom (first + (k + 1)) (count - (k + 1))
 rows-next first count k h =
     let e : count - k ≡ suc (count - (k + 1)) = omega arith in
     let e′ : suc (first + k) ≡ first + (k + 1) = omega arith in
@@ -53,17 +57,55 @@ picked false x v r e = let z : _≡_ {A = ℕ} 0 1 = cc in omega arith
 pub value-is : (w : ℕ) (r : Row) (v : ℕ) → fieldRead w r ≡ Field.Value v → v ≡ fieldOf w r
 value-is w r v e = picked (leb (fieldOf w r) (r .top)) (fieldOf w r) v _ e
 
+-- what both loops over fields keep: what is found is found in the rows to come
+pub record Checking (w : ℕ) (all rest : List Row) : Type 0 where
+  pub to-come : checkRows w all ≡ checkRows w rest
+
+module _ {w : ℕ} {all rest more : List Row} {r : Row} (c : Checking w all rest) (e : rest ≡ r ∷ more) where
+  next : (f : Field) → fieldRead w r ≡ f → checkRows w all ≡ orElse f (checkRows w more)
+  next f q = c .to-come ∙ ap (checkRows w) e ∙ ap (λ (f : Field). orElse f (checkRows w more)) q
+
+  pub goes-on : (v : ℕ) → fieldRead w r ≡ Field.Value v → Checking w all more
+  goes-on v q = record { to-come = next (Field.Value v) q }
+
+  pub stops : (x : Refusal) → fieldRead w r ≡ Field.Refused x → checkRows w all ≡ Finding.Refused x
+  stops x q = next (Field.Refused x) q
+
+pub checked : {w : ℕ} {all rest : List Row} → Checking w all rest → rest ≡ [] → checkRows w all ≡ Finding.Accepted
+checked {w} c e = c .to-come ∙ ap (checkRows w) e
+
+-- the rows that bear a number, with the next in front, or none
+module _ (number i : ℕ) where
+  bears : (b : Bool) → eqb (numberAt i) number ≡ b → i < 107
+      → bearing number i (107 - i) ≡ cond b (rowAt i ∷ bearing number (i + 1) (107 - (i + 1))) []
+  bears b e h =
+      let n : 107 - i ≡ suc (107 - (i + 1)) = omega arith in
+      let i-is : suc i ≡ i + 1 = omega arith in
+      ap (bearing number i) n
+      ∙ ap₂ (λ (b : Bool) (j : ℕ). cond b (rowAt i ∷ bearing number j (107 - (i + 1))) []) e i-is
+
+  pub bears-next : i < 107 → numberAt i ≡ number → bearing number i (107 - i) ≡ rowAt i ∷ bearing number (i + 1) (107 - (i + 1))
+  bears-next h e = bears true (eq-eqb (numberAt i) number e) h
+
+  pub bears-none : i < 107 → (numberAt i ≡ number → ⊥) → bearing number i (107 - i) ≡ []
+  bears-none h e = bears false (ne-eqb (numberAt i) number e) h
+
+  pub bears-end : 107 ≤ i → bearing number i (107 - i) ≡ []
+  bears-end h =
+      let z : 107 - i ≡ 0 = omega arith in
+      ap (bearing number i) z
+
 -- what the reading loop keeps
 pub record Reading (w first count : ℕ) (values : List ℕ) (k : ℕ) : Type 0 where
   pub bound : k ≤ count
+  pub checking : Checking w (rowsFrom first count) (rowsFrom (first + k) (count - k))
   pub so-far : values ≡ padded (valuesOf w (rowsFrom first k))
-  pub to-come : checkRows w (rowsFrom first count) ≡ checkRows w (rowsFrom (first + k) (count - k))
 
 pub starts : (w first count : ℕ) → Reading w first count (replicate 24 0) 0
 starts w first count =
     let e : first + 0 ≡ first = omega arith in
     let e′ : count - 0 ≡ count = omega arith in
-    record { bound = omega arith; so-far = refl; to-come = ap₂ (λ (i n : ℕ). checkRows w (rowsFrom i n)) (sym e) (sym e′) }
+    record { bound = omega arith; checking = record { to-come = ap₂ (λ (i n : ℕ). checkRows w (rowsFrom i n)) (sym e) (sym e′) }; so-far = refl }
 
 pub turn : {w first count : ℕ} {values : List ℕ} {k : ℕ} → Reading w first count values k → k < count → count ≤ 24 → (v : ℕ)
     → fieldRead w (rowAt (first + k)) ≡ Field.Value v → Reading w first count (set values k v) (k + 1)
@@ -72,15 +114,12 @@ turn {w} {first} {count} {values} {k} r h small v e =
     let xs = valuesOf w (rowsFrom first k) in
     record {
       bound = omega arith;
+      checking = goes-on (r .checking) (rows-next first count k h) v e;
       so-far =
           ap₂ (λ (l : List ℕ) (i : ℕ). set l i v) (r .so-far) (sym n)
-          ∙ pad-store xs v (omega arith)
+          ∙ fill-store 24 xs v (omega arith)
           ∙ ap (λ (x : ℕ). padded (xs ++ (x ∷ []))) (value-is w (rowAt (first + k)) v e)
           ∙ ap padded (sym (values-snoc w (rowsFrom first k) (rowAt (first + k))) ∙ ap (valuesOf w) (sym (rows-snoc k first)) ∙ ap (λ (j : ℕ). valuesOf w (rowsFrom first j)) (sym (add-one k)));
-      to-come =
-          r .to-come
-          ∙ ap (checkRows w) (rows-next first count k h)
-          ∙ ap (λ (f : Field). orElse f (checkRows w (rowsFrom (first + (k + 1)) (count - (k + 1))))) e;
     }
 
 -- the answer by the finding
@@ -90,22 +129,16 @@ answer w rs v = record { finding = v; values = onFinding v (padded (valuesOf w r
 pub refused : {w first count : ℕ} {values : List ℕ} {k : ℕ} → Reading w first count values k → k < count → (x : Refusal)
     → fieldRead w (rowAt (first + k)) ≡ Field.Refused x → refusedFields (Field.Refused x) ≡ fieldsRead w (rowsFrom first count)
 unfolding answer
-refused {w} {first} {count} {values} {k} r h x e =
-    sym
-    (ap (answer w (rowsFrom first count))
-    (r .to-come
-    ∙ ap (checkRows w) (rows-next first count k h)
-    ∙ ap (λ (f : Field). orElse f (checkRows w (rowsFrom (first + (k + 1)) (count - (k + 1))))) e))
+refused {w} {first} {count} {values} {k} r h x e = sym (ap (answer w (rowsFrom first count)) (stops (r .checking) (rows-next first count k h) x e))
 
 pub ends : {w first count : ℕ} {values : List ℕ} {k : ℕ} → Reading w first count values k → count ≤ k
     → _≡_ {A = Fields} (record { finding = Finding.Accepted; values = values }) (fieldsRead w (rowsFrom first count))
 unfolding answer
 ends {w} {first} {count} {values} {k} r h =
-    let e : k ≡ count = omega arith in
+    let e : k ≡ count = omega (arith, r .bound) in
     let z : count - k ≡ 0 = omega arith in
     let p : values ≡ padded (valuesOf w (rowsFrom first count)) = r .so-far ∙ ap (λ (j : ℕ). padded (valuesOf w (rowsFrom first j))) e in
-    (λ i. record { finding = Finding.Accepted; values = p i })
-    ∙ sym (ap (answer w (rowsFrom first count)) (r .to-come ∙ ap (λ (n : ℕ). checkRows w (rowsFrom (first + k) n)) z))
+    (λ i. record { finding = Finding.Accepted; values = p i }) ∙ sym (ap (answer w (rowsFrom first count)) (checked (r .checking) (ap (rowsFrom (first + k)) z)))
 
 -- what the composing loop keeps: the sum so far and what is still to come make the whole
 pub record Composing (vs : List ℕ) (first count word k : ℕ) : Type 0 where

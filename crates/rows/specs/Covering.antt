@@ -26,6 +26,11 @@ allFrom test i (suc n) = test i && allFrom test (suc i) n
 abbrev pub layoutRows : Layout → List Row
 layoutRows l = rowsFrom (l .first) (l .count)
 
+-- at most n rows from row i on, as long as they bear a layout's number
+abbrev pub bearing : ℕ → ℕ → ℕ → List Row
+bearing number i zero = []
+bearing number i (suc n) = cond (eqb (numberAt i) number) (rowAt i ∷ bearing number (suc i) n) []
+
 -- a layout has at most 24 rows and 4 bytes; its rows bear its number and cover its bits
 abbrev pub layoutGood : Layout → Bool
 layoutGood l =

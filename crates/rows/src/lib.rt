@@ -2,9 +2,10 @@
 // an element's number by their rows, and the number that is made of values. All the arithmetic of elements is here,
 // once over rows. It knows no type by name, reads no bytes and writes nothing.
 ghost use mathlib.Core.Path.{_≡_};
-ghost use Prim.Native.Nat.{_<_, _≤_, _+_, _*_};
-ghost use Rattle.rows.specs.Table.{rowTotal, cellAt, rowAt, rowsFrom};
-ghost use Rattle.rows.specs.Fields.{fieldRead, fieldsRead, refusedFields, composeOf};
+ghost use Prim.Native.Nat.{_<_, _≤_, _+_, _-_, _*_};
+ghost use Rattle.rows.specs.Table.{table, rowTotal, cellAt, rowAt, rowsFrom};
+ghost use Rattle.rows.specs.Covering.{bearing};
+ghost use Rattle.rows.specs.Fields.{fieldRead, checkRows, fieldsRead, refusedFields, composeOf};
 
 // A row each: layout, lowest bit, width, highest admitted value (0: reserved). Written by catalogue/write.py.
 const ROWS: [u8; 428] = [
@@ -471,22 +472,29 @@ pub struct Fields {
     pub values: [u32; 24],
 }
 
+// The table, for whoever goes by many of its rows: a constant is copied wherever it is named.
+pub fn table() -> [u8; 428]
+    ensures { λ r. ⌜ r ≡ table ⌝ }
+{
+    ROWS
+}
+
 // The number at a place of the table.
-fn cell(place: usize) -> u8
-    requires { ⌜ place < 4 * rowTotal ⌝ }
+pub fn cell(rows: &[u8; 428], place: usize) -> u8
+    requires { ⌜ (now rows ≡ table) × (place < 4 * rowTotal) ⌝ }
     ensures { λ r. ⌜ r ≡ cellAt place ⌝ }
 {
-    ROWS[place]
+    rows[place]
 }
 
 // The field of a row of the table in an element's number.
-pub fn read_field(word: u32, row: usize) -> Field
-    requires { ⌜ row < rowTotal ⌝ }
+fn read_field(rows: &[u8; 428], word: u32, row: usize) -> Field
+    requires { ⌜ (now rows ≡ table) × (row < rowTotal) ⌝ }
     ensures { λ r. ⌜ r ≡ fieldRead word (rowAt row) ⌝ }
 {
-    let low = cell(4 * row + 1);
-    let width = cell(4 * row + 2);
-    let top = cell(4 * row + 3);
+    let low = cell(rows, 4 * row + 1);
+    let width = cell(rows, 4 * row + 2);
+    let top = cell(rows, 4 * row + 3);
     let value = (word >> low) % (1u32 << width);
     if value <= top as u32 {
         return Field::Value(value);
@@ -515,10 +523,11 @@ pub fn read_rows(word: u32, first: usize, count: usize) -> Fields
     requires { ⌜ (first + count ≤ rowTotal) × (count ≤ 24) ⌝ }
     ensures { λ r. ⌜ r ≡ fieldsRead word (rowsFrom first count) ⌝ }
 {
+    let rows = table();
     let mut values = [0u32; 24];
     let mut k: usize = 0;
     while k < count {
-        let field = read_field(word, first + k);
+        let field = read_field(&rows, word, first + k);
         let Field::Value(value) = field else {
             return refused_fields(field);
         };
@@ -531,15 +540,35 @@ pub fn read_rows(word: u32, first: usize, count: usize) -> Fields
     }
 }
 
+// What is found of the fields of the rows that bear a layout's number, from its first row on.
+pub fn check_rows(word: u32, number: u8, first: usize) -> Finding
+    ensures { λ r. ⌜ r ≡ checkRows word (bearing number first (rowTotal - first)) ⌝ }
+{
+    let rows = table();
+    let mut row = first;
+    while row < 107 {
+        if cell(&rows, 4 * row) != number {
+            return Finding::Accepted;
+        }
+        let field = read_field(&rows, word, row);
+        if let Field::Refused(r) = field {
+            return Finding::Refused(r);
+        }
+        row += 1;
+    }
+    Finding::Accepted
+}
+
 // The number whose fields by the rows first, first + 1, .. are the values.
 pub fn compose_rows(values: [u32; 24], first: usize, count: usize) -> u32
     requires { ⌜ (first + count ≤ rowTotal) × (count ≤ 24) × (composeOf (rowsFrom first count) values < 4294967296) ⌝ }
     ensures { λ r. ⌜ r ≡ composeOf (rowsFrom first count) values ⌝ }
 {
+    let rows = table();
     let mut word: u32 = 0;
     let mut k: usize = 0;
     while k < count {
-        let low = cell(4 * (first + k) + 1);
+        let low = cell(&rows, 4 * (first + k) + 1);
         word += values[k] << low;
         k += 1;
     }

@@ -17,6 +17,33 @@ use Rattle.states.specs.declared.Points.{Points}
 use Rattle.states.specs.declared.ElectricLock.{ElectricLock}
 use Rattle.states.specs.declared.GeneralNotices.{GeneralNotices}
 use Rattle.states.specs.declared.ControlBoundary.{ControlBoundary}
+use Rattle.states.specs.declared.Bits.{Bits}
+
+-- the bits at the places where a type has one
+abbrev pub bitsOf : List ℕ → Bits
+bitsOf vs = record {
+  b0 = eqb (getD vs 0 0) 1;
+  b1 = eqb (getD vs 1 0) 1;
+  b2 = eqb (getD vs 2 0) 1;
+  b3 = eqb (getD vs 3 0) 1;
+  b4 = eqb (getD vs 4 0) 1;
+  b5 = eqb (getD vs 5 0) 1;
+  b6 = eqb (getD vs 6 0) 1;
+  b7 = eqb (getD vs 7 0) 1;
+  b8 = eqb (getD vs 8 0) 1;
+  b9 = eqb (getD vs 9 0) 1;
+  b10 = eqb (getD vs 10 0) 1;
+  b11 = eqb (getD vs 11 0) 1;
+  b12 = eqb (getD vs 12 0) 1;
+  b13 = eqb (getD vs 13 0) 1;
+  b14 = eqb (getD vs 14 0) 1;
+  b15 = eqb (getD vs 15 0) 1;
+  b16 = eqb (getD vs 16 0) 1;
+  b17 = eqb (getD vs 17 0) 1;
+  b18 = eqb (getD vs 18 0) 1;
+  b20 = eqb (getD vs 20 0) 1;
+  b21 = eqb (getD vs 21 0) 1;
+}
 
 abbrev pub signalOf : List ℕ → Signal
 signalOf vs = record {

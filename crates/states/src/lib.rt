@@ -1,6 +1,7 @@
 // The floor of states: a struct for each layout with its named fields, its width in bytes and its state without data, and the
 // way between a state and its fields' values in the rows' order. Written by catalogue/write.py from catalogue/fields.tsv.
-// It checks nothing; the annex's mnemonic stands beside each field.
+// It checks nothing; the annex's mnemonic stands beside each field. All bits are read in one place, `bits_of`: the check of a
+// function costs its steps times its locals, and a field that is copied from there costs neither.
 use cases::AutoRouteIndication;
 use cases::BoardAspect;
 use cases::BoundaryMovement;
@@ -20,8 +21,11 @@ use cases::SignalAspect;
 use cases::SignalKind;
 ghost use mathlib.Core.Path.{_≡_};
 ghost use mathlib.Core.List.{[]};
+ghost use Prim.Native.Nat.{_<_};
+ghost use lib.Dec.{eqb};
+ghost use lib.ListN.{getD};
 ghost use Rattle.rows.specs.Fields.{padded};
-ghost use Rattle.states.specs.States.{signalOf, signalValues, changerSignalOf, changerSignalValues, virtualBoardOf, virtualBoardValues, lineTrackCircuitOf, lineTrackCircuitValues, pointsTrackCircuitOf, pointsTrackCircuitValues, crossingTrackCircuitOf, crossingTrackCircuitValues, dualDetectionOf, dualDetectionValues, pointsOf, pointsValues, electricLockOf, electricLockValues, generalNoticesOf, generalNoticesValues, controlBoundaryOf, controlBoundaryValues};
+ghost use Rattle.states.specs.States.{bitsOf, signalOf, signalValues, changerSignalOf, changerSignalValues, virtualBoardOf, virtualBoardValues, lineTrackCircuitOf, lineTrackCircuitValues, pointsTrackCircuitOf, pointsTrackCircuitValues, crossingTrackCircuitOf, crossingTrackCircuitValues, dualDetectionOf, dualDetectionValues, pointsOf, pointsValues, electricLockOf, electricLockValues, generalNoticesOf, generalNoticesValues, controlBoundaryOf, controlBoundaryValues};
 
 // Layout 1: SIG.
 pub struct Signal {
@@ -88,33 +92,34 @@ impl Signal {
     pub fn of_values(values: [u32; 24]) -> Signal
         ensures { λ r. ⌜ r ≡ signalOf values ⌝ }
     {
-        let kind = SignalKind::of(values[1]);
-        let aspect = SignalAspect::of(values[2]);
-        let mixed_gauge = MixedGaugeIndication::of(values[19]);
-        let auto_route_indication = AutoRouteIndication::of(values[22]);
+        let bits = bits_of(values);
+        let kind = SignalKind::of(value(values, 1));
+        let aspect = SignalAspect::of(value(values, 2));
+        let mixed_gauge = MixedGaugeIndication::of(value(values, 19));
+        let auto_route_indication = AutoRouteIndication::of(value(values, 22));
         Signal {
-            current: values[0] == 1,
+            current: bits.b0,
             kind,
             aspect,
-            red_fitted: values[3] == 1,
-            red_blown: values[4] == 1,
-            white_fitted: values[5] == 1,
-            white_blown: values[6] == 1,
-            vertical_white_fitted: values[7] == 1,
-            vertical_white_blown: values[8] == 1,
-            horizontal_white_fitted: values[9] == 1,
-            horizontal_white_blown: values[10] == 1,
-            blue_fitted: values[11] == 1,
-            blue_blown: values[12] == 1,
-            yellow_fitted: values[13] == 1,
-            yellow_blown: values[14] == 1,
-            green_fitted: values[15] == 1,
-            green_blown: values[16] == 1,
-            special_command_pending: values[17] == 1,
-            command_blocked: values[18] == 1,
+            red_fitted: bits.b3,
+            red_blown: bits.b4,
+            white_fitted: bits.b5,
+            white_blown: bits.b6,
+            vertical_white_fitted: bits.b7,
+            vertical_white_blown: bits.b8,
+            horizontal_white_fitted: bits.b9,
+            horizontal_white_blown: bits.b10,
+            blue_fitted: bits.b11,
+            blue_blown: bits.b12,
+            yellow_fitted: bits.b13,
+            yellow_blown: bits.b14,
+            green_fitted: bits.b15,
+            green_blown: bits.b16,
+            special_command_pending: bits.b17,
+            command_blocked: bits.b18,
             mixed_gauge,
-            automatic_succession: values[20] == 1,
-            auto_route_set: values[21] == 1,
+            automatic_succession: bits.b20,
+            auto_route_set: bits.b21,
             auto_route_indication,
         }
     }
@@ -178,9 +183,10 @@ impl ChangerSignal {
     pub fn of_values(values: [u32; 24]) -> ChangerSignal
         ensures { λ r. ⌜ r ≡ changerSignalOf values ⌝ }
     {
-        let aspect = ChangerAspect::of(values[1]);
+        let bits = bits_of(values);
+        let aspect = ChangerAspect::of(value(values, 1));
         ChangerSignal {
-            current: values[0] == 1,
+            current: bits.b0,
             aspect,
         }
     }
@@ -243,11 +249,12 @@ impl VirtualBoard {
     pub fn of_values(values: [u32; 24]) -> VirtualBoard
         ensures { λ r. ⌜ r ≡ virtualBoardOf values ⌝ }
     {
-        let aspect = BoardAspect::of(values[1]);
+        let bits = bits_of(values);
+        let aspect = BoardAspect::of(value(values, 1));
         VirtualBoard {
-            current: values[0] == 1,
+            current: bits.b0,
             aspect,
-            closing_commanded: values[2] == 1,
+            closing_commanded: bits.b2,
         }
     }
 
@@ -323,20 +330,21 @@ impl LineTrackCircuit {
     pub fn of_values(values: [u32; 24]) -> LineTrackCircuit
         ensures { λ r. ⌜ r ≡ lineTrackCircuitOf values ⌝ }
     {
-        let occupancy = SectionOccupancy::of(values[4]);
-        let overlap = Overlap::of(values[5]);
-        let gauge = GaugePresence::of(values[8]);
+        let bits = bits_of(values);
+        let occupancy = SectionOccupancy::of(value(values, 4));
+        let overlap = Overlap::of(value(values, 5));
+        let gauge = GaugePresence::of(value(values, 8));
         LineTrackCircuit {
-            current: values[0] == 1,
-            special_command_pending: values[1] == 1,
-            movement_blocked: values[2] == 1,
-            unexpected_occupancy: values[3] == 1,
+            current: bits.b0,
+            special_command_pending: bits.b1,
+            movement_blocked: bits.b2,
+            unexpected_occupancy: bits.b3,
             occupancy,
             overlap,
-            axle_counter_fault: values[6] == 1,
-            axle_counter_preset: values[7] == 1,
+            axle_counter_fault: bits.b6,
+            axle_counter_preset: bits.b7,
             gauge,
-            sequence_lost: values[9] == 1,
+            sequence_lost: bits.b9,
         }
     }
 
@@ -410,17 +418,18 @@ impl PointsTrackCircuit {
     pub fn of_values(values: [u32; 24]) -> PointsTrackCircuit
         ensures { λ r. ⌜ r ≡ pointsTrackCircuitOf values ⌝ }
     {
-        let occupancy = PointsSectionOccupancy::of(values[4]);
-        let gauge = GaugePresence::of(values[8]);
+        let bits = bits_of(values);
+        let occupancy = PointsSectionOccupancy::of(value(values, 4));
+        let gauge = GaugePresence::of(value(values, 8));
         PointsTrackCircuit {
-            current: values[0] == 1,
-            special_command_pending: values[1] == 1,
-            unexpected_occupancy: values[3] == 1,
+            current: bits.b0,
+            special_command_pending: bits.b1,
+            unexpected_occupancy: bits.b3,
             occupancy,
-            axle_counter_fault: values[6] == 1,
-            axle_counter_preset: values[7] == 1,
+            axle_counter_fault: bits.b6,
+            axle_counter_preset: bits.b7,
             gauge,
-            sequence_lost: values[9] == 1,
+            sequence_lost: bits.b9,
         }
     }
 
@@ -499,22 +508,23 @@ impl CrossingTrackCircuit {
     pub fn of_values(values: [u32; 24]) -> CrossingTrackCircuit
         ensures { λ r. ⌜ r ≡ crossingTrackCircuitOf values ⌝ }
     {
-        let occupancy = LegOccupancy::of(values[4]);
-        let leg_shown = LegShown::of(values[5]);
-        let overlap_normal = Overlap::of(values[6]);
-        let overlap_reverse = Overlap::of(values[7]);
+        let bits = bits_of(values);
+        let occupancy = LegOccupancy::of(value(values, 4));
+        let leg_shown = LegShown::of(value(values, 5));
+        let overlap_normal = Overlap::of(value(values, 6));
+        let overlap_reverse = Overlap::of(value(values, 7));
         CrossingTrackCircuit {
-            current: values[0] == 1,
-            special_command_pending: values[1] == 1,
-            movement_blocked: values[2] == 1,
-            unexpected_occupancy: values[3] == 1,
+            current: bits.b0,
+            special_command_pending: bits.b1,
+            movement_blocked: bits.b2,
+            unexpected_occupancy: bits.b3,
             occupancy,
             leg_shown,
             overlap_normal,
             overlap_reverse,
-            clearance_lost: values[8] == 1,
-            axle_counter_fault: values[9] == 1,
-            axle_counter_preset: values[10] == 1,
+            clearance_lost: bits.b8,
+            axle_counter_fault: bits.b9,
+            axle_counter_preset: bits.b10,
         }
     }
 
@@ -585,13 +595,14 @@ impl DualDetection {
     pub fn of_values(values: [u32; 24]) -> DualDetection
         ensures { λ r. ⌜ r ≡ dualDetectionOf values ⌝ }
     {
+        let bits = bits_of(values);
         DualDetection {
-            current: values[0] == 1,
-            special_command_pending: values[1] == 1,
-            rearm_pending: values[2] == 1,
-            axle_counters_active: values[3] == 1,
-            track_circuit_failed: values[4] == 1,
-            axle_counters_failed: values[5] == 1,
+            current: bits.b0,
+            special_command_pending: bits.b1,
+            rearm_pending: bits.b2,
+            axle_counters_active: bits.b3,
+            track_circuit_failed: bits.b4,
+            axle_counters_failed: bits.b5,
         }
     }
 
@@ -670,25 +681,26 @@ impl Points {
     pub fn of_values(values: [u32; 24]) -> Points
         ensures { λ r. ⌜ r ≡ pointsOf values ⌝ }
     {
-        let occupancy = LegOccupancy::of(values[4]);
-        let leg_shown = LegShown::of(values[5]);
-        let overlap_normal = Overlap::of(values[6]);
-        let overlap_reverse = Overlap::of(values[7]);
-        let detection = PointsDetection::of(values[8]);
-        let locking = PointsLocking::of(values[10]);
+        let bits = bits_of(values);
+        let occupancy = LegOccupancy::of(value(values, 4));
+        let leg_shown = LegShown::of(value(values, 5));
+        let overlap_normal = Overlap::of(value(values, 6));
+        let overlap_reverse = Overlap::of(value(values, 7));
+        let detection = PointsDetection::of(value(values, 8));
+        let locking = PointsLocking::of(value(values, 10));
         Points {
-            current: values[0] == 1,
-            special_command_pending: values[1] == 1,
-            movement_blocked: values[2] == 1,
-            unexpected_occupancy: values[3] == 1,
+            current: bits.b0,
+            special_command_pending: bits.b1,
+            movement_blocked: bits.b2,
+            unexpected_occupancy: bits.b3,
             occupancy,
             leg_shown,
             overlap_normal,
             overlap_reverse,
             detection,
-            command_blocked: values[9] == 1,
+            command_blocked: bits.b9,
             locking,
-            clearance_lost: values[11] == 1,
+            clearance_lost: bits.b11,
         }
     }
 
@@ -757,11 +769,12 @@ impl ElectricLock {
     pub fn of_values(values: [u32; 24]) -> ElectricLock
         ensures { λ r. ⌜ r ≡ electricLockOf values ⌝ }
     {
+        let bits = bits_of(values);
         ElectricLock {
-            current: values[0] == 1,
-            locked: values[1] == 1,
-            key_detected: values[2] == 1,
-            release_authorised: values[3] == 1,
+            current: bits.b0,
+            locked: bits.b1,
+            key_detected: bits.b2,
+            release_authorised: bits.b3,
         }
     }
 
@@ -814,15 +827,16 @@ impl GeneralNotices {
     pub fn of_values(values: [u32; 24]) -> GeneralNotices
         ensures { λ r. ⌜ r ≡ generalNoticesOf values ⌝ }
     {
-        let heaters = HeaterIndication::of(values[4]);
-        let earth_fault = EarthFaultIndication::of(values[6]);
+        let bits = bits_of(values);
+        let heaters = HeaterIndication::of(value(values, 4));
+        let earth_fault = EarthFaultIndication::of(value(values, 6));
         GeneralNotices {
-            power_in_order: values[0] == 1,
-            points_moving: values[1] == 1,
-            auto_routes_set: values[2] == 1,
-            points_group_blocked: values[3] == 1,
+            power_in_order: bits.b0,
+            points_moving: bits.b1,
+            auto_routes_set: bits.b2,
+            points_group_blocked: bits.b3,
             heaters,
-            station_closed: values[5] == 1,
+            station_closed: bits.b5,
             earth_fault,
         }
     }
@@ -896,17 +910,18 @@ impl ControlBoundary {
     pub fn of_values(values: [u32; 24]) -> ControlBoundary
         ensures { λ r. ⌜ r ≡ controlBoundaryOf values ⌝ }
     {
-        let entry_movement = BoundaryMovement::of(values[2]);
-        let exit_movement = BoundaryMovement::of(values[4]);
+        let bits = bits_of(values);
+        let entry_movement = BoundaryMovement::of(value(values, 2));
+        let exit_movement = BoundaryMovement::of(value(values, 4));
         ControlBoundary {
-            current: values[0] == 1,
-            entry_active: values[1] == 1,
+            current: bits.b0,
+            entry_active: bits.b1,
             entry_movement,
-            exit_active: values[3] == 1,
+            exit_active: bits.b3,
             exit_movement,
-            inc_inwards: values[5] == 1,
-            inc_shown: values[6] == 1,
-            neighbour_object_alarm: values[7] == 1,
+            inc_inwards: bits.b5,
+            inc_shown: bits.b6,
+            neighbour_object_alarm: bits.b7,
         }
     }
 
@@ -941,5 +956,74 @@ impl ControlBoundary {
             0,
             0,
         ]
+    }
+}
+
+// The value at a place.
+fn value(values: [u32; 24], place: usize) -> u32
+    requires { ⌜ place < 24 ⌝ }
+    ensures { λ r. ⌜ r ≡ getD values place 0 ⌝ }
+{
+    values[place]
+}
+
+// The bit at a place.
+fn bit(values: [u32; 24], place: usize) -> bool
+    requires { ⌜ place < 24 ⌝ }
+    ensures { λ r. ⌜ r ≡ eqb (getD values place 0) 1 ⌝ }
+{
+    values[place] == 1
+}
+
+// The bits at the places where a type has one.
+struct Bits {
+    b0: bool,
+    b1: bool,
+    b2: bool,
+    b3: bool,
+    b4: bool,
+    b5: bool,
+    b6: bool,
+    b7: bool,
+    b8: bool,
+    b9: bool,
+    b10: bool,
+    b11: bool,
+    b12: bool,
+    b13: bool,
+    b14: bool,
+    b15: bool,
+    b16: bool,
+    b17: bool,
+    b18: bool,
+    b20: bool,
+    b21: bool,
+}
+
+fn bits_of(values: [u32; 24]) -> Bits
+    ensures { λ r. ⌜ r ≡ bitsOf values ⌝ }
+{
+    Bits {
+        b0: bit(values, 0),
+        b1: bit(values, 1),
+        b2: bit(values, 2),
+        b3: bit(values, 3),
+        b4: bit(values, 4),
+        b5: bit(values, 5),
+        b6: bit(values, 6),
+        b7: bit(values, 7),
+        b8: bit(values, 8),
+        b9: bit(values, 9),
+        b10: bit(values, 10),
+        b11: bit(values, 11),
+        b12: bit(values, 12),
+        b13: bit(values, 13),
+        b14: bit(values, 14),
+        b15: bit(values, 15),
+        b16: bit(values, 16),
+        b17: bit(values, 17),
+        b18: bit(values, 18),
+        b20: bit(values, 20),
+        b21: bit(values, 21),
     }
 }

@@ -11,3 +11,4 @@ pub mod TableLaws
 pub mod PlanLaws
 pub mod LabelPlaceLaws
 pub mod CallerLaws
+pub mod OneOutcome

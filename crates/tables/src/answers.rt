@@ -36,6 +36,30 @@ pub fn accepted() -> Answer
     refused(0)
 }
 
+// Success: so many bytes are written.
+pub fn written(bytes: u32) -> Answer
+    ensures { λ r. ⌜ r ≡ numbers 0 65535 255 bytes ⌝ }
+{
+    Answer {
+        code: 0,
+        object: 65535,
+        bit: 255,
+        length: bytes,
+    }
+}
+
+// 21: so many bytes are needed.
+pub fn short(bytes: u32) -> Answer
+    ensures { λ r. ⌜ r ≡ numbers 21 65535 255 bytes ⌝ }
+{
+    Answer {
+        code: 21,
+        object: 65535,
+        bit: 255,
+        length: bytes,
+    }
+}
+
 // What `outline` gives: the table's answer; of an accepted table X, Y, the count and each object's layout number; else zeros.
 pub struct Outline {
     pub answer: Answer,

@@ -12,6 +12,8 @@ pub use answers::accepted;
 pub use answers::refused;
 pub use answers::refused_at;
 pub use answers::refused_bit;
+pub use answers::short;
+pub use answers::written;
 pub use place::LabelAt;
 pub use place::label_place;
 pub use plan::outline;

@@ -1,7 +1,6 @@
 -- `kinds::element_of` meets its contract: each kind by what its own function ensures.
 -- Written by catalogue/write.py. Assumes nothing.
 use mathlib.Core.Path.{_∙_, sym, ap}
-use borrow.Author.Needs.{needs}
 use Rattle.kinds.specs.Kinds.{elementOf}
 use Rattle.kinds.specs.declared.Kind.{Kind}
 use Rattle.kinds.specs.declared.Element.{Element}
@@ -42,4 +41,4 @@ returns-11 : tie.Need-returns-11
 returns-11 c = ap Element.ControlBoundary (c .of-values11 .ensures) ∙ sym (ap (λ (k : Kind). elementOf k (c .before .before .before .args .values)) (c .before .enum-told11 .given .1))
 
 pub element-of-spec : {M : Type 1} → statement M
-element-of-spec = tie.close (tie.spec (λ c. search needs) (λ c κs. search needs) (λ c. search needs) (λ c κs. search needs) (λ c. search needs) (λ c κs. search needs) (λ c. search needs) (λ c κs. search needs) (λ c. search needs) (λ c κs. search needs) (λ c. search needs) (λ c κs. search needs) (λ c. search needs) (λ c κs. search needs) (λ c. search needs) (λ c κs. search needs) (λ c. search needs) (λ c κs. search needs) (λ c. search needs) (λ c κs. search needs) (λ c. search needs) (λ c κs. search needs) returns returns-2 returns-3 returns-4 returns-5 returns-6 returns-7 returns-8 returns-9 returns-10 returns-11)
+element-of-spec = tie.close (tie.spec (λ c. c .match .keys1) (λ c κs. tt) returns (λ c. c .match .keys2) (λ c κs. tt) returns-2 (λ c. c .match .keys3) (λ c κs. tt) returns-3 (λ c. c .match .keys4) (λ c κs. tt) returns-4 (λ c. c .match .keys5) (λ c κs. tt) returns-5 (λ c. c .match .keys6) (λ c κs. tt) returns-6 (λ c. c .match .keys7) (λ c κs. tt) returns-7 (λ c. c .match .keys8) (λ c κs. tt) returns-8 (λ c. c .match .keys9) (λ c κs. tt) returns-9 (λ c. c .match .keys10) (λ c κs. tt) returns-10 (λ c. c .match .keys11) (λ c κs. tt) returns-11)

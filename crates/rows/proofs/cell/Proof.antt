@@ -1,17 +1,18 @@
--- `rows::cell` meets its contract: the constant is the table.
+-- `rows::cell` meets its contract: what is lent is the table.
 -- Assumes nothing.
 use borrow.Author.Needs.{needs}
-use mathlib.Core.Path.{refl}
-use Rattle.rows.specs.Table.{table}
+use Prim.Native.Nat.{ℕ}
+use mathlib.Core.Path.{ap}
+use mathlib.Core.List.{List}
+use lib.ListN.{getD}
 use Rattle.rows.proofs.cell.Statement.{statement}
 use Rattle.rows.proofs.cell.Tie as tie
 
-array-read-result : tie.Need-array-read-result
-array-read-result c = search needs
+element-copy-out-result : tie.Need-element-copy-out-result
+element-copy-out-result c = search needs
 
 returns : tie.Need-returns
-unfolding table
-returns c = refl
+returns c = ap (λ (l : List ℕ). getD l (c .before .args .place) 0) (c .before .pre .0)
 
 pub cell-spec : {M : Type 1} → statement M
-cell-spec = tie.close (tie.spec array-read-result returns)
+cell-spec = tie.close (tie.spec element-copy-out-result returns)

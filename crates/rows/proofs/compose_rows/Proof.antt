@@ -10,17 +10,23 @@ use Rattle.rows.proofs.compose_rows.Statement.{statement}
 use Rattle.rows.proofs.compose_rows.Tie as tie
 
 abbrev Inv-loop : tie.InvT-loop
-Inv-loop first count values word₀ k₀ word k = Composing values first count word k
+Inv-loop first count values rows word₀ k₀ word k = Composing values first count word k
 
 abbrev μ-loop : tie.MeasureT-loop
-μ-loop first count values word₀ k₀ word k = count - k
+μ-loop first count values rows word₀ k₀ word k = count - k
 
 -- the turn's laws where the row's lowest bit has been read
 step : (c : tie.After-cell Inv-loop μ-loop)
-    → Turn (c .before .before .before .args .t1) (c .before .before .before .args .first) (c .before .before .before .args .count) (c .before .before .loop .word) (c .before .before .loop .k) (c .cell .result)
+    → let looped = c .before .before .before in
+    let entered = looped .before .before in
+    Turn (entered .args .t1) (entered .args .first) (entered .args .count) (looped .loop .word) (looped .loop .k) (c .cell .result)
 step c =
-    compose-turn (c .before .before .loop .inv) (c .before .loop-test .taken) (omega arith) (c .before .before .before .pre .2)
+    let looped = c .before .before .before in
+    compose-turn (looped .loop .inv) (c .before .before .loop-test .taken) (omega arith) (looped .before .before .pre .2)
     (c .cell .result) (c .cell .ensures)
+
+table-requires : tie.Need-table-requires Inv-loop μ-loop
+table-requires c κs = search needs
 
 loop-holds : tie.Need-loop-holds Inv-loop μ-loop
 loop-holds c = compose-starts _ _ _
@@ -35,7 +41,7 @@ add-cell-2 : tie.Need-add-cell-2 Inv-loop μ-loop
 add-cell-2 c = omega arith
 
 cell-requires : tie.Need-cell-requires Inv-loop μ-loop
-cell-requires c κs = omega arith
+cell-requires c κs = (c .before .before .before .table .ensures, omega arith)
 
 mul-word : tie.Need-mul-word Inv-loop μ-loop
 mul-word c = omega arith
@@ -44,7 +50,9 @@ array-read-word : tie.Need-array-read-word Inv-loop μ-loop
 array-read-word c = omega arith
 
 shl-word : tie.Need-shl-word Inv-loop μ-loop
-shl-word c = rw (c .cell .ensures) (let g = row-good (c .before .before .before .args .first + c .before .before .loop .k) (omega arith) in omega arith)
+shl-word c =
+    let looped = c .before .before .before in
+    rw (c .cell .ensures) (let g = row-good (looped .before .before .args .first + looped .loop .k) (omega arith) in omega arith)
 
 add-word : tie.Need-add-word Inv-loop μ-loop
 add-word c = record { fits = rw (step c .exact) (step c .fits) }
@@ -67,6 +75,7 @@ compose-rows-spec =
     (tie.spec
     Inv-loop
     μ-loop
+    table-requires
     loop-holds
     add-cell
     mul-cell

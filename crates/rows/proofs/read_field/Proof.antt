@@ -28,29 +28,29 @@ module _ (w : ℕ) {l d t : ℕ} {r : Row} (el : l ≡ r .low) (ed : d ≡ r .wi
   unlisted-law h z = rw el (simp (lt-leb (fieldOf w r) (r .top) (rw (field-law, et) at h), ne-eqb (r .top) 0 (λ e. z (et ∙ e))))
 
 shr-value : tie.Need-shr-value
-shr-value c = rw (c .before .before .cell .ensures) (let g = row-good (c .before .before .before .args .row) (c .before .before .before .pre) in omega arith)
+shr-value c = rw (c .before .before .cell .ensures) (let g = row-good (c .before .before .before .args .row) (c .before .before .before .pre .1) in omega arith)
 
 shl-value : tie.Need-shl-value
-shl-value c = rw (c .before .cell2 .ensures) (row-good (c .before .before .before .args .row) (c .before .before .before .pre) .small)
+shl-value c = rw (c .before .cell2 .ensures) (row-good (c .before .before .before .args .row) (c .before .before .before .pre .1) .small)
 
 rem-value : tie.Need-rem-value
 rem-value c =
-    rw (c .before .cell2 .ensures, one-shl _ (row-good (c .before .before .before .args .row) (c .before .before .before .pre) .small)) (pow-pos _)
+    rw (c .before .cell2 .ensures, one-shl _ (row-good (c .before .before .before .args .row) (c .before .before .before .pre .1) .small)) (pow-pos _)
 
 returns : tie.Need-returns
 returns c =
-    let g = row-good (c .before .before .before .before .args .row) (c .before .before .before .before .pre) in
+    let g = row-good (c .before .before .before .before .args .row) (c .before .before .before .before .pre .1) in
     value-law (c .before .before .before .before .args .word) (c .before .before .before .cell .ensures) (c .before .before .cell2 .ensures) (c .before .cell3 .ensures) g (c .if1 .taken)
 
 returns-2 : tie.Need-returns-2
 returns-2 c =
-    let g = row-good (c .before .before .before .before .before .args .row) (c .before .before .before .before .before .pre) in
+    let g = row-good (c .before .before .before .before .before .args .row) (c .before .before .before .before .before .pre .1) in
     reserved-law (c .before .before .before .before .before .args .word) (c .before .before .before .before .cell .ensures)
     (c .before .before .before .cell2 .ensures) (c .before .before .cell3 .ensures) g (c .before .if1 .left) (c .if2 .taken)
 
 returns-3 : tie.Need-returns-3
 returns-3 c =
-    let g = row-good (c .before .before .before .before .before .args .row) (c .before .before .before .before .before .pre) in
+    let g = row-good (c .before .before .before .before .before .args .row) (c .before .before .before .before .before .pre .1) in
     unlisted-law (c .before .before .before .before .before .args .word) (c .before .before .before .before .cell .ensures)
     (c .before .before .before .cell2 .ensures) (c .before .before .cell3 .ensures) g (c .before .if1 .left) (c .if2 .left)
 

@@ -10,10 +10,13 @@ use Rattle.rows.proofs.read_rows.Statement.{statement}
 use Rattle.rows.proofs.read_rows.Tie as tie
 
 abbrev Inv-loop : tie.InvT-loop
-Inv-loop word first count values₀ k₀ values k = Reading word first count values k
+Inv-loop word first count rows values₀ k₀ values k = Reading word first count values k
 
 abbrev μ-loop : tie.MeasureT-loop
-μ-loop word first count values₀ k₀ values k = count - k
+μ-loop word first count rows values₀ k₀ values k = count - k
+
+table-requires : tie.Need-table-requires Inv-loop μ-loop
+table-requires c κs = search needs
 
 loop-holds : tie.Need-loop-holds Inv-loop μ-loop
 loop-holds c = starts _ _ _
@@ -22,7 +25,7 @@ add-read-field : tie.Need-add-read-field Inv-loop μ-loop
 add-read-field c = omega arith
 
 read-field-requires : tie.Need-read-field-requires Inv-loop μ-loop
-read-field-requires c κs = omega arith
+read-field-requires c κs = (c .before .before .before .table .ensures, omega arith)
 
 enum-known-field : tie.Need-enum-known-field Inv-loop μ-loop
 enum-known-field c = search needs
@@ -36,9 +39,9 @@ refused-fields-requires c κs = search needs
 returns : tie.Need-returns Inv-loop μ-loop
 returns c =
     let told = c .before .enum-told .given in
+    let tested = c .before .before .before .before .before in
     c .refused-fields .ensures ∙ ap refusedFields (told .1)
-    ∙ refused (c .before .before .before .before .before .loop .inv) (c .before .before .before .before .loop-test .taken) _
-    (sym (c .before .before .before .read-field .ensures) ∙ told .1)
+    ∙ refused (tested .before .loop .inv) (tested .loop-test .taken) _ (sym (c .before .before .before .read-field .ensures) ∙ told .1)
 
 mul-values : tie.Need-mul-values Inv-loop μ-loop
 mul-values c = omega arith
@@ -54,8 +57,9 @@ loop-less c = omega arith
 
 loop-again : tie.Need-loop-again Inv-loop μ-loop
 loop-again c =
-    turn (c .before .before .before .before .before .loop .inv) (c .before .before .before .before .loop-test .taken) (c .before .before .before .before .before .before .pre .1) _
-    (sym (c .before .before .before .read-field .ensures) ∙ c .before .field .given .1)
+    let tested = c .before .before .before .before .before in
+    let entered = tested .before .before .before in
+    turn (tested .before .loop .inv) (tested .loop-test .taken) (entered .pre .1) _ (sym (c .before .before .before .read-field .ensures) ∙ c .before .field .given .1)
 
 returns-2 : tie.Need-returns-2 Inv-loop μ-loop
 returns-2 c = ends (c .before .loop .inv) (c .loop-test .left)
@@ -66,6 +70,7 @@ read-rows-spec =
     (tie.spec
     Inv-loop
     μ-loop
+    table-requires
     loop-holds
     add-read-field
     read-field-requires

@@ -1,9 +1,8 @@
--- `cases::SignalAspect::of` meets its contract: a value that has no case is read as the first.
+-- `cases::SignalAspect::of` meets its contract, arm by arm: a value that has no case is read as the first.
 -- Written by catalogue/write.py. Assumes nothing.
-use mathlib.Core.Path.{sym}
+use mathlib.Core.Path.{sym, ap}
 use lib.ListN.{List·getD-eq-default}
-use borrow.Author.Needs.{needs}
-use Rattle.cases.specs.Cases.{signalAspectCases}
+use Rattle.cases.specs.Cases.{signalAspectCases, signalAspectOf}
 use Rattle.rows.proofs.Tests.{past}
 use Rattle.cases.proofs.SignalAspect.of.Statement.{statement}
 use Rattle.cases.proofs.SignalAspect.of.Tie as tie
@@ -12,4 +11,4 @@ unlisted : tie.Need-returns-14
 unlisted c = sym (List·getD-eq-default signalAspectCases _ (past _ 13 (c .match .rest)))
 
 pub of-spec : {M : Type 1} → statement M
-of-spec = tie.close (tie.spec (λ c. search needs) (λ c. search needs) (λ c. search needs) (λ c. search needs) (λ c. search needs) (λ c. search needs) (λ c. search needs) (λ c. search needs) (λ c. search needs) (λ c. search needs) (λ c. search needs) (λ c. search needs) (λ c. search needs) unlisted)
+of-spec = tie.close (tie.spec (λ c. sym (ap signalAspectOf (c .match .keys1))) (λ c. sym (ap signalAspectOf (c .match .keys2))) (λ c. sym (ap signalAspectOf (c .match .keys3))) (λ c. sym (ap signalAspectOf (c .match .keys4))) (λ c. sym (ap signalAspectOf (c .match .keys5))) (λ c. sym (ap signalAspectOf (c .match .keys6))) (λ c. sym (ap signalAspectOf (c .match .keys7))) (λ c. sym (ap signalAspectOf (c .match .keys8))) (λ c. sym (ap signalAspectOf (c .match .keys9))) (λ c. sym (ap signalAspectOf (c .match .keys10))) (λ c. sym (ap signalAspectOf (c .match .keys11))) (λ c. sym (ap signalAspectOf (c .match .keys12))) (λ c. sym (ap signalAspectOf (c .match .keys13))) unlisted)

@@ -1,23 +1,23 @@
--- `states::GeneralNotices::of_values` meets its contract: each named field by what its reader ensures.
+-- `states::GeneralNotices::of_values` meets its contract: each field by what its reader ensures.
 -- Written by catalogue/write.py. Assumes nothing.
-use lib.ListN.{getD}
-use lib.Dec.{eqb}
-use borrow.Author.Needs.{needs}
+use mathlib.Core.Path.{_∙_, ap}
+use lib.Dec.{lit<}
+use Rattle.cases.specs.Cases.{heaterIndicationOf, earthFaultIndicationOf}
 use Rattle.states.proofs.GeneralNotices.of_values.Statement.{statement}
 use Rattle.states.proofs.GeneralNotices.of_values.Tie as tie
 
 returns : tie.Need-returns
-returns c =
-    let vs = c .before .before .args .t1 in
-    λ i. record {
-      «power_in_order» = eqb (getD vs 0 0) 1;
-      «points_moving» = eqb (getD vs 1 0) 1;
-      «auto_routes_set» = eqb (getD vs 2 0) 1;
-      «points_group_blocked» = eqb (getD vs 3 0) 1;
-      heaters = (c .before .of .ensures) i;
-      «station_closed» = eqb (getD vs 5 0) 1;
-      «earth_fault» = (c .of2 .ensures) i;
+returns c = λ i.
+    let bits = (c .before .before .before .before .bits-of .ensures) i in
+    record {
+      «power_in_order» = bits .b0;
+      «points_moving» = bits .b1;
+      «auto_routes_set» = bits .b2;
+      «points_group_blocked» = bits .b3;
+      heaters = (c .before .before .of .ensures ∙ ap heaterIndicationOf (c .before .before .before .value .ensures)) i;
+      «station_closed» = bits .b5;
+      «earth_fault» = (c .of2 .ensures ∙ ap earthFaultIndicationOf (c .before .value2 .ensures)) i;
     }
 
 pub of-values-spec : {M : Type 1} → statement M
-of-values-spec = tie.close (tie.spec (λ c. search needs) (λ c κs. search needs) (λ c. search needs) (λ c κs. search needs) (λ c. search needs) (λ c. search needs) (λ c. search needs) (λ c. search needs) (λ c. search needs) returns)
+of-values-spec = tie.close (tie.spec (λ c κs. tt) (λ c κs. lit< tt) (λ c κs. tt) (λ c κs. lit< tt) (λ c κs. tt) returns)

@@ -1,26 +1,26 @@
--- `states::LineTrackCircuit::of_values` meets its contract: each named field by what its reader ensures.
+-- `states::LineTrackCircuit::of_values` meets its contract: each field by what its reader ensures.
 -- Written by catalogue/write.py. Assumes nothing.
-use lib.ListN.{getD}
-use lib.Dec.{eqb}
-use borrow.Author.Needs.{needs}
+use mathlib.Core.Path.{_∙_, ap}
+use lib.Dec.{lit<}
+use Rattle.cases.specs.Cases.{sectionOccupancyOf, overlapOf, gaugePresenceOf}
 use Rattle.states.proofs.LineTrackCircuit.of_values.Statement.{statement}
 use Rattle.states.proofs.LineTrackCircuit.of_values.Tie as tie
 
 returns : tie.Need-returns
-returns c =
-    let vs = c .before .before .before .args .t1 in
-    λ i. record {
-      current = eqb (getD vs 0 0) 1;
-      «special_command_pending» = eqb (getD vs 1 0) 1;
-      «movement_blocked» = eqb (getD vs 2 0) 1;
-      «unexpected_occupancy» = eqb (getD vs 3 0) 1;
-      occupancy = (c .before .before .of .ensures) i;
-      overlap = (c .before .of2 .ensures) i;
-      «axle_counter_fault» = eqb (getD vs 6 0) 1;
-      «axle_counter_preset» = eqb (getD vs 7 0) 1;
-      gauge = (c .of3 .ensures) i;
-      «sequence_lost» = eqb (getD vs 9 0) 1;
+returns c = λ i.
+    let bits = (c .before .before .before .before .before .before .bits-of .ensures) i in
+    record {
+      current = bits .b0;
+      «special_command_pending» = bits .b1;
+      «movement_blocked» = bits .b2;
+      «unexpected_occupancy» = bits .b3;
+      occupancy = (c .before .before .before .before .of .ensures ∙ ap sectionOccupancyOf (c .before .before .before .before .before .value .ensures)) i;
+      overlap = (c .before .before .of2 .ensures ∙ ap overlapOf (c .before .before .before .value2 .ensures)) i;
+      «axle_counter_fault» = bits .b6;
+      «axle_counter_preset» = bits .b7;
+      gauge = (c .of3 .ensures ∙ ap gaugePresenceOf (c .before .value3 .ensures)) i;
+      «sequence_lost» = bits .b9;
     }
 
 pub of-values-spec : {M : Type 1} → statement M
-of-values-spec = tie.close (tie.spec (λ c. search needs) (λ c κs. search needs) (λ c. search needs) (λ c κs. search needs) (λ c. search needs) (λ c κs. search needs) (λ c. search needs) (λ c. search needs) (λ c. search needs) (λ c. search needs) (λ c. search needs) (λ c. search needs) (λ c. search needs) returns)
+of-values-spec = tie.close (tie.spec (λ c κs. tt) (λ c κs. lit< tt) (λ c κs. tt) (λ c κs. lit< tt) (λ c κs. tt) (λ c κs. lit< tt) (λ c κs. tt) returns)

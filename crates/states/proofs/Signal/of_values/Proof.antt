@@ -1,39 +1,39 @@
--- `states::Signal::of_values` meets its contract: each named field by what its reader ensures.
+-- `states::Signal::of_values` meets its contract: each field by what its reader ensures.
 -- Written by catalogue/write.py. Assumes nothing.
-use lib.ListN.{getD}
-use lib.Dec.{eqb}
-use borrow.Author.Needs.{needs}
+use mathlib.Core.Path.{_∙_, ap}
+use lib.Dec.{lit<}
+use Rattle.cases.specs.Cases.{signalKindOf, signalAspectOf, mixedGaugeIndicationOf, autoRouteIndicationOf}
 use Rattle.states.proofs.Signal.of_values.Statement.{statement}
 use Rattle.states.proofs.Signal.of_values.Tie as tie
 
 returns : tie.Need-returns
-returns c =
-    let vs = c .before .before .before .before .args .t1 in
-    λ i. record {
-      current = eqb (getD vs 0 0) 1;
-      kind = (c .before .before .before .of .ensures) i;
-      aspect = (c .before .before .of2 .ensures) i;
-      «red_fitted» = eqb (getD vs 3 0) 1;
-      «red_blown» = eqb (getD vs 4 0) 1;
-      «white_fitted» = eqb (getD vs 5 0) 1;
-      «white_blown» = eqb (getD vs 6 0) 1;
-      «vertical_white_fitted» = eqb (getD vs 7 0) 1;
-      «vertical_white_blown» = eqb (getD vs 8 0) 1;
-      «horizontal_white_fitted» = eqb (getD vs 9 0) 1;
-      «horizontal_white_blown» = eqb (getD vs 10 0) 1;
-      «blue_fitted» = eqb (getD vs 11 0) 1;
-      «blue_blown» = eqb (getD vs 12 0) 1;
-      «yellow_fitted» = eqb (getD vs 13 0) 1;
-      «yellow_blown» = eqb (getD vs 14 0) 1;
-      «green_fitted» = eqb (getD vs 15 0) 1;
-      «green_blown» = eqb (getD vs 16 0) 1;
-      «special_command_pending» = eqb (getD vs 17 0) 1;
-      «command_blocked» = eqb (getD vs 18 0) 1;
-      «mixed_gauge» = (c .before .of3 .ensures) i;
-      «automatic_succession» = eqb (getD vs 20 0) 1;
-      «auto_route_set» = eqb (getD vs 21 0) 1;
-      «auto_route_indication» = (c .of4 .ensures) i;
+returns c = λ i.
+    let bits = (c .before .before .before .before .before .before .before .before .bits-of .ensures) i in
+    record {
+      current = bits .b0;
+      kind = (c .before .before .before .before .before .before .of .ensures ∙ ap signalKindOf (c .before .before .before .before .before .before .before .value .ensures)) i;
+      aspect = (c .before .before .before .before .of2 .ensures ∙ ap signalAspectOf (c .before .before .before .before .before .value2 .ensures)) i;
+      «red_fitted» = bits .b3;
+      «red_blown» = bits .b4;
+      «white_fitted» = bits .b5;
+      «white_blown» = bits .b6;
+      «vertical_white_fitted» = bits .b7;
+      «vertical_white_blown» = bits .b8;
+      «horizontal_white_fitted» = bits .b9;
+      «horizontal_white_blown» = bits .b10;
+      «blue_fitted» = bits .b11;
+      «blue_blown» = bits .b12;
+      «yellow_fitted» = bits .b13;
+      «yellow_blown» = bits .b14;
+      «green_fitted» = bits .b15;
+      «green_blown» = bits .b16;
+      «special_command_pending» = bits .b17;
+      «command_blocked» = bits .b18;
+      «mixed_gauge» = (c .before .before .of3 .ensures ∙ ap mixedGaugeIndicationOf (c .before .before .before .value3 .ensures)) i;
+      «automatic_succession» = bits .b20;
+      «auto_route_set» = bits .b21;
+      «auto_route_indication» = (c .of4 .ensures ∙ ap autoRouteIndicationOf (c .before .value4 .ensures)) i;
     }
 
 pub of-values-spec : {M : Type 1} → statement M
-of-values-spec = tie.close (tie.spec (λ c. search needs) (λ c κs. search needs) (λ c. search needs) (λ c κs. search needs) (λ c. search needs) (λ c κs. search needs) (λ c. search needs) (λ c κs. search needs) (λ c. search needs) (λ c. search needs) (λ c. search needs) (λ c. search needs) (λ c. search needs) (λ c. search needs) (λ c. search needs) (λ c. search needs) (λ c. search needs) (λ c. search needs) (λ c. search needs) (λ c. search needs) (λ c. search needs) (λ c. search needs) (λ c. search needs) (λ c. search needs) (λ c. search needs) (λ c. search needs) (λ c. search needs) returns)
+of-values-spec = tie.close (tie.spec (λ c κs. tt) (λ c κs. lit< tt) (λ c κs. tt) (λ c κs. lit< tt) (λ c κs. tt) (λ c κs. lit< tt) (λ c κs. tt) (λ c κs. lit< tt) (λ c κs. tt) returns)

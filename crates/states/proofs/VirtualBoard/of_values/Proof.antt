@@ -1,19 +1,19 @@
--- `states::VirtualBoard::of_values` meets its contract: each named field by what its reader ensures.
+-- `states::VirtualBoard::of_values` meets its contract: each field by what its reader ensures.
 -- Written by catalogue/write.py. Assumes nothing.
-use lib.ListN.{getD}
-use lib.Dec.{eqb}
-use borrow.Author.Needs.{needs}
+use mathlib.Core.Path.{_∙_, ap}
+use lib.Dec.{lit<}
+use Rattle.cases.specs.Cases.{boardAspectOf}
 use Rattle.states.proofs.VirtualBoard.of_values.Statement.{statement}
 use Rattle.states.proofs.VirtualBoard.of_values.Tie as tie
 
 returns : tie.Need-returns
-returns c =
-    let vs = c .before .args .t1 in
-    λ i. record {
-      current = eqb (getD vs 0 0) 1;
-      aspect = (c .of .ensures) i;
-      «closing_commanded» = eqb (getD vs 2 0) 1;
+returns c = λ i.
+    let bits = (c .before .before .bits-of .ensures) i in
+    record {
+      current = bits .b0;
+      aspect = (c .of .ensures ∙ ap boardAspectOf (c .before .value .ensures)) i;
+      «closing_commanded» = bits .b2;
     }
 
 pub of-values-spec : {M : Type 1} → statement M
-of-values-spec = tie.close (tie.spec (λ c. search needs) (λ c κs. search needs) (λ c. search needs) (λ c. search needs) returns)
+of-values-spec = tie.close (tie.spec (λ c κs. tt) (λ c κs. lit< tt) (λ c κs. tt) returns)

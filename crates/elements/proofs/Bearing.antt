@@ -1,0 +1,22 @@
+-- The rows that bear the number of a kind's layout, from its first row on, are the kind's rows.
+-- Assumes nothing.
+use Prim.Native.Nat.{_-_}
+use mathlib.Core.Path.{_≡_, refl}
+use Rattle.rows.specs.Table.{table, layouts, rowTotal}
+use Rattle.rows.specs.Covering.{bearing}
+use Rattle.kinds.specs.Kinds.{layoutOf, layoutNo, rowsOf}
+use Rattle.kinds.specs.declared.Kind.{Kind}
+
+pub bearing-rows : (k : Kind) → bearing (layoutNo k) (layoutOf k .first) (rowTotal - layoutOf k .first) ≡ rowsOf k
+unfolding table layouts
+bearing-rows Kind.Signal = refl
+bearing-rows Kind.ChangerSignal = refl
+bearing-rows Kind.VirtualBoard = refl
+bearing-rows Kind.LineTrackCircuit = refl
+bearing-rows Kind.PointsTrackCircuit = refl
+bearing-rows Kind.CrossingTrackCircuit = refl
+bearing-rows Kind.DualDetection = refl
+bearing-rows Kind.Points = refl
+bearing-rows Kind.ElectricLock = refl
+bearing-rows Kind.GeneralNotices = refl
+bearing-rows Kind.ControlBoundary = refl

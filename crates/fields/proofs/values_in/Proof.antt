@@ -1,0 +1,20 @@
+-- `fields::values_in` meets its contract: the rows of the kind's layout.
+-- Assumes nothing.
+use mathlib.Core.Path.{_∙_, ap}
+use borrow.Author.Needs.{needs}
+use Rattle.rows.specs.declared.Layout.{Layout}
+use Rattle.rows.specs.Covering.{layoutRows}
+use Rattle.rows.specs.Fields.{padded}
+use Rattle.elements.proofs.Answers.{in-table}
+use Rattle.fields.specs.Fields.{spread}
+use Rattle.fields.proofs.values_in.Statement.{statement}
+use Rattle.fields.proofs.values_in.Tie as tie
+
+take-rows-requires : tie.Need-take-rows-requires
+take-rows-requires c κs = in-table (c .before .args .kind) _ (c .layout .ensures)
+
+returns : tie.Need-returns
+returns c = c .take-rows .ensures ∙ ap (λ (l : Layout). padded (spread (layoutRows l) (c .before .before .args .fields))) (c .before .layout .ensures)
+
+pub values-in-spec : {M : Type 1} → statement M
+values-in-spec = tie.close (tie.spec (λ c κs. search needs) take-rows-requires returns)

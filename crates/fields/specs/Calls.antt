@@ -1,0 +1,29 @@
+-- Writing a state that is handed in as numbers, over raw bytes.
+-- Assumes nothing.
+use Prim.Native.Nat.{ℕ}
+use mathlib.Core.List.{List}
+use lib.Dec.{eqb}
+use Rattle.kinds.specs.Kinds.{layoutNo, rowsOf, kindIn, elementOf}
+use Rattle.kinds.specs.declared.Kind.{Kind}
+use Rattle.history.specs.Verdict.{Verdict, refused, then, refusalAt, _unless_⨾_}
+use Rattle.history.specs.Image.{_of_⨾_}
+use Rattle.history.specs.Calls.{readStateCall, writeStateCall}
+use Rattle.fields.specs.Fields.{valuesIn, named}
+
+-- what comes before a state's values: table, image and 13 as in reading, then 22 where the object's kind has not the number
+abbrev pub ofKind : List ℕ → List ℕ → ℕ → ℕ → (Kind → Verdict (List ℕ)) → Verdict (List ℕ)
+ofKind t a i number next =
+    then (readStateCall t a i) λ was.
+    refusalAt 22 i unless eqb number (layoutNo (kindIn was)) ⨾
+    next (kindIn was)
+
+-- 11 of a value that has no named case; then as the state is written
+unfoldable pub writeFieldsCall : List ℕ → List ℕ → ℕ → ℕ → List ℕ → ℕ → Verdict (List ℕ)
+writeFieldsCall t a i number fields position =
+    ofKind t a i number λ k.
+    named (rowsOf k) (valuesIn k fields) of i ⨾
+    writeStateCall t a i (elementOf k (valuesIn k fields)) position
+
+-- a state of which something is refused
+unfoldable pub stateRefused : List ℕ → List ℕ → ℕ → ℕ → ℕ → ℕ → Verdict (List ℕ)
+stateRefused t a i number code bit = ofKind t a i number λ k. refused code i bit

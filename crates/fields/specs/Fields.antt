@@ -1,0 +1,59 @@
+-- A state's fields as numbers: the values that are not reserved, from bit 0 up, in the first of 32 places, zeros behind them.
+-- Assumes nothing.
+use Prim.Native.Nat.{ℕ, _-_}
+use mathlib.Core.Bool.{cond}
+use mathlib.Core.List.{List, [], _∷_, _++_}
+use lib.Dec.{leb, eqb}
+use lib.ListN.{length, replicate, getD, drop}
+use Rattle.rows.specs.Table.{Row}
+use Rattle.rows.specs.Fields.{refusal, padded}
+use Rattle.rows.specs.declared.Finding.{Finding}
+use Rattle.kinds.specs.Kinds.{layoutNo, rowsOf, kindIn, elementValues}
+use Rattle.kinds.specs.declared.Kind.{Kind}
+use Rattle.kinds.specs.declared.Element.{Element}
+use Rattle.history.specs.Verdict.{numbers}
+use Rattle.panel.specs.declared.read.Reading.{Reading}
+use Rattle.fields.specs.declared.Plain.{Plain}
+use Rattle.fields.specs.declared.walk.Shown.{Shown}
+
+-- ---- handed out
+
+-- of the values of all rows, those of the rows that are not reserved
+abbrev pub shown : List Row → List ℕ → List ℕ
+shown [] vs = []
+shown (r ∷ rs) [] = []
+shown (r ∷ rs) (v ∷ vs) = cond (eqb (r .top) 0) (shown rs vs) (v ∷ shown rs vs)
+
+abbrev pub filled : List ℕ → List ℕ
+filled vs = vs ++ replicate (32 - length vs) 0
+
+abbrev pub shownIn : List Row → List ℕ → Shown
+shownIn rs vs = record { count = length (shown rs vs); fields = filled (shown rs vs) }
+
+abbrev pub fieldsOf : Element → Shown
+fieldsOf e = shownIn (rowsOf (kindIn e)) (padded (elementValues e))
+
+-- success writes no bytes
+unfoldable pub shownOf : Element → Plain
+shownOf e = record { answer = numbers 0 65535 255 0; kind = layoutNo (kindIn e); count = fieldsOf e .count; fields = fieldsOf e .fields }
+
+-- a refused reading gives a code and no state
+unfoldable pub plainOf : Reading → Plain
+plainOf (Reading.State e) = shownOf e
+plainOf (Reading.Refused answer) = record { answer = answer; kind = 0; count = 0; fields = replicate 32 0 }
+
+-- ---- handed in
+
+-- the values of all rows: 0 for those that are reserved
+abbrev pub spread : List Row → List ℕ → List ℕ
+spread [] fields = []
+spread (r ∷ rs) fields = cond (eqb (r .top) 0) (0 ∷ spread rs fields) (getD fields 0 0 ∷ spread rs (drop 1 fields))
+
+abbrev pub valuesIn : Kind → List ℕ → List ℕ
+valuesIn k fields = padded (spread (rowsOf k) fields)
+
+-- the first value that has no named case: 11, with the field's lowest bit
+abbrev pub named : List Row → List ℕ → Finding
+named [] vs = Finding.Accepted
+named (r ∷ rs) [] = Finding.Accepted
+named (r ∷ rs) (v ∷ vs) = cond (leb v (r .top)) (named rs vs) (Finding.Refused (refusal 11 (r .low)))

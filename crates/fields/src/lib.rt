@@ -1,0 +1,148 @@
+// A state as plain numbers: its kind's number, and the values of its fields that are not reserved, from bit 0 up, zeros behind them. It is
+// for callers that can't hold a state; they read and write through `panel`, and nothing else is checked here but the numbers.
+mod walk;
+
+use history::Answer;
+use kinds::Element;
+use kinds::Kind;
+use kinds::Sort;
+use panel::Reading;
+use panel::read_state;
+use panel::write_state;
+use rows::Finding;
+use tables::accepted;
+use tables::refused_at;
+use tables::refused_bit;
+use walk::Shown;
+use walk::check_rows;
+use walk::show_rows;
+use walk::take_rows;
+ghost use mathlib.Core.Path.{_≡_};
+ghost use Rattle.kinds.specs.Kinds.{rowsOf, sortNumbered};
+ghost use Rattle.history.specs.Verdict.{told, settled};
+ghost use Rattle.history.specs.Calls.{readStateCall};
+ghost use Rattle.panel.specs.Readings.{readingOf};
+ghost use Rattle.fields.specs.Fields.{shownOf, plainOf, valuesIn, named};
+ghost use Rattle.fields.specs.Calls.{writeFieldsCall, stateRefused};
+
+// What reading gives: the answer; of a state its kind's number, how many fields it has and their values; else zeros.
+pub struct Plain {
+    pub answer: Answer,
+    pub kind: u32,
+    pub count: usize,
+    pub fields: [u32; 32],
+}
+
+// The state of an object in an image, as numbers.
+pub fn read_fields(table: &[u8], image: &[u8], object: u16) -> Plain
+    ensures { λ r. ⌜ r ≡ plainOf (readingOf (readStateCall (now (table .entry)) (now (image .entry)) object)) ⌝ }
+{
+    plain_of(read_state(table, image, object))
+}
+
+// The image with an object's state, handed in as numbers, and the position anew, at the front of the output.
+pub fn write_fields(
+    table: &[u8],
+    image: &[u8],
+    object: u16,
+    number: u32,
+    fields: [u32; 32],
+    position: u32,
+    out: &mut [u8],
+) -> Answer
+    ensures { λ r. ⌜ r ≡ settled (writeFieldsCall (now (table .entry)) (now (image .entry)) object number fields position) (now (out .entry)) .answer ⌝ }
+    ensures { λ _. ⌜ now (out .exit) ≡ settled (writeFieldsCall (now (table .entry)) (now (image .entry)) object number fields position) (now (out .entry)) .output ⌝ }
+{
+    let sort = sort_of(number);
+    let Sort::Carried(kind) = sort else {
+        return refuse_state(table, image, object, number, 22, 255);
+    };
+    let values = values_in(fields, kind);
+    let finding = check_values(values, kind);
+    if let Finding::Refused(r) = finding {
+        return refuse_state(table, image, object, number, r.code, r.bit);
+    }
+    write_state(
+        table,
+        image,
+        object,
+        kinds::element_of(kind, values),
+        position,
+        out,
+    )
+}
+
+fn plain_of(reading: Reading) -> Plain
+    ensures { λ r. ⌜ r ≡ plainOf reading ⌝ }
+{
+    match reading {
+        Reading::State(element) => shown_plain(element),
+        Reading::Refused(answer) => Plain {
+            answer,
+            kind: 0,
+            count: 0,
+            fields: [0u32; 32],
+        },
+    }
+}
+
+fn shown_plain(element: Element) -> Plain
+    ensures { λ r. ⌜ r ≡ shownOf element ⌝ }
+{
+    let layout = kinds::layout(kinds::kind_in(element));
+    let first = layout.first;
+    let count = layout.count;
+    let shown = show_rows(kinds::values_of(element), first, count);
+    let fields = shown.fields;
+    Plain {
+        answer: accepted(),
+        kind: layout.number as u32,
+        count: shown.count,
+        fields,
+    }
+}
+
+// The values of all of a kind's rows, 0 for those that are reserved.
+fn values_in(fields: [u32; 32], kind: Kind) -> [u32; 24]
+    ensures { λ r. ⌜ r ≡ valuesIn kind fields ⌝ }
+{
+    let layout = kinds::layout(kind);
+    let first = layout.first;
+    let count = layout.count;
+    take_rows(fields, first, count)
+}
+
+// The first value that has no named case.
+fn check_values(values: [u32; 24], kind: Kind) -> Finding
+    ensures { λ r. ⌜ r ≡ named (rowsOf kind) values ⌝ }
+{
+    let layout = kinds::layout(kind);
+    let first = layout.first;
+    let count = layout.count;
+    check_rows(values, first, count)
+}
+
+// The kind with a number, if there is one.
+fn sort_of(number: u32) -> Sort
+    ensures { λ r. ⌜ r ≡ sortNumbered number ⌝ }
+{
+    if 255 < number {
+        return Sort::Other;
+    }
+    kinds::sort_numbered(number as u8)
+}
+
+// A state of which something is refused: what comes before its values comes first.
+fn refuse_state(table: &[u8], image: &[u8], object: u16, number: u32, code: u8, bit: u8) -> Answer
+    ensures { λ r. ⌜ r ≡ told (stateRefused (now (table .entry)) (now (image .entry)) object number code bit) ⌝ }
+{
+    let was = read_fields(table, image, object);
+    let known = was.kind;
+    if known == 0 {
+        return was.answer;
+    }
+    if known != number {
+        return refused_at(22, object);
+    }
+    refused_bit(code, object, bit)
+}

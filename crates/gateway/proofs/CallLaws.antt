@@ -1,0 +1,122 @@
+-- What only C asks for, at each place where its answer is made; and that a label's place and a listing's length fit 32 bits.
+-- Assumes nothing.
+use Prim.Native.Nat.{ℕ, zero, suc, _+_, _-_, _*_, _≤_, _<_}
+use native.Mathlib.Omega.{arith}
+use mathlib.Core.Path.{_≡_, refl, sym, ap, ap₂, _∙_}
+use mathlib.Core.Bool.{Bool, true, false, cond}
+use mathlib.Core.List.{List, [], _∷_, _++_}
+use lib.Dec.{eqb, leb, ltb}
+use lib.ListN.{length, take, drop, getD, length-append}
+use lib.Seq.{take-append-seam}
+use borrow.Author.Tests.{eq-eqb, ne-eqb, le-leb, ltb-true}
+use Rattle.rows.specs.declared.Finding.{Finding}
+use Rattle.rows.specs.declared.Refusal.{Refusal}
+use Rattle.kinds.specs.Kinds.{widthOf}
+use Rattle.kinds.specs.declared.Kind.{Kind}
+use Rattle.octets.specs.Octets.{number}
+use Rattle.elements.specs.Elements.{carried, kindOf, elementCheck}
+use Rattle.history.specs.declared.Answer.{Answer}
+use Rattle.history.specs.Verdict.{Verdict, refused, done, numbers, told, Outcome, settled}
+use Rattle.history.specs.Table.{Object, Table, objectBytes, objectsBytes, labelLimit, readTable}
+use Rattle.history.specs.Image.{element, _of_⨾_}
+use Rattle.history.specs.Calls.{Place, labelPlace, labelCall}
+use Rattle.history.specs.Legal.{LegalTable}
+use Rattle.history.proofs.OutputLaws.{settled-room}
+use Rattle.history.proofs.VerdictLaws.{held, used}
+use Rattle.history.proofs.TableLaws.{table-is}
+use Rattle.tables.specs.LabelPlaces.{labelTold}
+use Rattle.listing.specs.Listing.{listingOf}
+use Rattle.listing.specs.Output.{Listed, inFront, listed, ListedInto}
+use Rattle.listing.proofs.Fits.{listing-fits}
+use Rattle.gateway.specs.Calls.{elementCall}
+
+-- ---- a label stands within 65,536 bytes
+
+nobody : Object
+nobody = record { type = 0; label = [] }
+
+entries-few : (i : ℕ) (os : List Object) → ((j : ℕ) → j < length os → length (getD os j nobody .label) ≤ 48) → length (objectsBytes (take i os)) ≤ 50 * length os
+entries-few zero os h = omega arith
+entries-few (suc i) [] h = omega arith
+entries-few (suc i) (o ∷ os) h =
+    omega (arith, length-append (objectBytes o) (objectsBytes (take i os)), h 0 (omega arith), entries-few i os (λ j m. h (suc j) (omega arith)))
+
+place-few : {t : Table} → LegalTable t → (i : ℕ) → i < length (t .objects) → (labelPlace t i .offset < 65536) × (labelPlace t i .size < 65536)
+unfolding nobody labelLimit
+place-few {t} h i m =
+    let few = entries-few i (t .objects) (λ j l. omega (arith, h .each j l .few)) in
+    (omega (arith, few, h .count), omega (arith, h .each i m .few))
+
+pub label-few : (b : List ℕ) (i : ℕ) → (labelTold (labelCall b i) .offset < 65536) × (labelTold (labelCall b i) .size < 65536)
+unfolding labelTold labelCall
+label-few b i = go (labelCall b i) refl
+  where
+    go : (v : Verdict Place) → labelCall b i ≡ v → (labelTold v .offset < 65536) × (labelTold v .size < 65536)
+    go (refused code object bit) e = (omega arith, omega arith)
+    go (done p) e =
+        let u = used (readTable b) _ e in
+        let v = held (ltb i (length (u .0 .objects))) _ _ _ _ (u .2) in
+        let few = place-few (table-is b (u .1) .legal) i (ltb-true _ _ (v .0)) in
+        let p-is : labelPlace (u .0) i ≡ p = cc (v .1) in
+        rw (← p-is) few
+
+-- ---- an element by itself
+
+module _ (ty : ℕ) (b : List ℕ) where
+  pub element-5 : carried 1 ty ≡ false → numbers 5 65535 255 0 ≡ told (elementCall ty b)
+  unfolding elementCall told
+  element-5 e = rw e
+
+  module _ (e : carried 1 ty ≡ true) {k : Kind} (is : k ≡ kindOf 1 ty) {w : ℕ} (wide : w ≡ widthOf k) where
+    pub element-8 : (length b ≡ w → ⊥) → numbers 8 65535 255 0 ≡ told (elementCall ty b)
+    unfolding elementCall told
+    element-8 n =
+        let f : eqb (length b) (widthOf (kindOf 1 ty)) ≡ false = ne-eqb _ _ (λ q. n (q ∙ sym (wide ∙ ap widthOf is))) in
+        rw (e, f)
+
+    module _ (long : length b ≡ w) {n : ℕ} (number-is : n ≡ number b) where
+      found : (v : Finding) → elementCheck k n ≡ v → told (elementCall ty b) ≡ told (v of 65535 ⨾ done (number b))
+      unfolding elementCall element
+      found v q =
+          let f : eqb (length b) (widthOf (kindOf 1 ty)) ≡ true = eq-eqb _ _ (long ∙ wide ∙ ap widthOf is) in
+          let g : elementCheck (kindOf 1 ty) (number b) ≡ v = ap₂ elementCheck (sym is) (sym number-is) ∙ q in
+          rw (e, f, g)
+
+      pub element-refused : (r : Refusal) → elementCheck k n ≡ Finding.Refused r → numbers (r .code) 65535 (r .bit) 0 ≡ told (elementCall ty b)
+      unfolding told
+      element-refused r q = sym (found (Finding.Refused r) q)
+
+      pub element-good : elementCheck k n ≡ Finding.Accepted → numbers 0 65535 255 0 ≡ told (elementCall ty b)
+      unfolding told
+      element-good q = sym (found Finding.Accepted q)
+
+-- ---- the listing
+
+module _ {input out₀ out : List ℕ} {r : ℕ} (l : ListedInto input out₀ out r) where
+  pub listed-few : r ≤ 65536
+  unfolding listed
+  listed-few = at (leb 65536 (length out₀)) (l .size)
+    where
+      at : (b : Bool) → r ≡ cond b (inFront (listingOf input) out₀) (record { size = 0; output = out₀ }) .size → r ≤ 65536
+      at true e = omega (arith, listing-fits input)
+      at false e = omega arith
+
+  module _ (room : 65536 ≤ length out₀) where
+    abbrev told-text : Listed → Type 0
+    told-text o = (r ≡ o .size) × (out ≡ o .output)
+
+    in-front : told-text (inFront (listingOf input) out₀)
+    unfolding listed
+    in-front =
+        let both : told-text (listed input out₀) = (l .size, l .output) in
+        rw (le-leb 65536 (length out₀) room) at both
+
+    pub listed-room : {a : Answer} → a ≡ numbers 0 65535 255 r → (a ≡ settled (done (listingOf input)) out₀ .answer) × (out ≡ settled (done (listingOf input)) out₀ .output)
+    listed-room e =
+        let s = settled-room (listingOf input) out₀ (omega (arith, listing-fits input)) in
+        (e ∙ ap (numbers 0 65535 255) (in-front .0) ∙ sym (ap (λ (o : Outcome). o .answer) s), in-front .1 ∙ sym (ap (λ (o : Outcome). o .output) s))
+
+    pub listed-front : take (r - 0) out ≡ listingOf input
+    listed-front =
+        let all : r - 0 ≡ length (listingOf input) = omega (arith, in-front .0) in
+        ap₂ take all (in-front .1) ∙ take-append-seam (listingOf input) _

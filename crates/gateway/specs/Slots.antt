@@ -1,0 +1,30 @@
+-- Eight numbers of a call: code, object, bit, length, then what the call adds, then zeros; and the four tallies of a standing.
+-- Assumes nothing.
+use Prim.Native.Nat.{ℕ}
+use mathlib.Core.List.{List, [], _∷_}
+use lib.ListN.{getD}
+use Rattle.history.specs.declared.Answer.{Answer}
+use Rattle.history.specs.declared.Standing.{Standing}
+use Rattle.tables.specs.declared.place.LabelAt.{LabelAt}
+use Rattle.fields.specs.declared.Plain.{Plain}
+
+abbrev pub slots : Answer → ℕ → ℕ → List ℕ
+slots a fifth sixth = a .code ∷ a .object ∷ a .bit ∷ a .length ∷ fifth ∷ sixth ∷ 0 ∷ 0 ∷ []
+
+unfoldable pub answerSlots : Answer → List ℕ
+answerSlots a = slots a 0 0
+
+-- the fifth is the state's kind
+unfoldable pub readSlots : Plain → List ℕ
+readSlots r = slots (r .answer) (r .kind) 0
+
+-- the fifth and the sixth are the label's first byte in the table and its size
+unfoldable pub labelSlots : LabelAt → List ℕ
+labelSlots l = slots (l .answer) (l .offset) (l .size)
+
+-- applied, late, gap, other
+abbrev pub talliesOf : Standing → List ℕ
+talliesOf s = s .applied ∷ s .late ∷ s .gap ∷ s .other ∷ []
+
+abbrev pub standingIn : List ℕ → Standing
+standingIn tallies = record { applied = getD tallies 0 0; late = getD tallies 1 0; gap = getD tallies 2 0; other = getD tallies 3 0 }

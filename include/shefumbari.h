@@ -1,0 +1,79 @@
+/* Shefumbari: tables, images and change lists of an interlocking's indications.
+
+   Every call fills answer with eight numbers: code, object, bit, length, then zeros (kept for later) where a call says
+   nothing else. Success is 0, 65535, 255 and the bytes written. A refusal is a code of 1 to 22, the object and bit it
+   names, else 65535 and 255, and length 0, but for 21 (output too short), which gives the length needed.
+
+   Success writes the front of out and leaves the rest; a refusal writes nothing there. No call keeps a pointer or
+   changes an input. Buffers lent to one call lie apart; no pointer is null, even where its length is 0. */
+#ifndef SHEFUMBARI_H
+#define SHEFUMBARI_H
+
+#include <stddef.h>
+#include <stdint.h>
+
+#ifdef __cplusplus
+extern "C" {
+#endif
+
+/* Checks one element of a type: 5 where the type isn't carried, 8 where the length isn't the type's width, then 10, 11
+   or 12 with the bit. No object is named. */
+void shefumbari_check_element(uint8_t type, const uint8_t *element, size_t element_len, uint32_t answer[8]);
+
+/* Checks a table. */
+void shefumbari_check_table(const uint8_t *table, size_t table_len, uint32_t answer[8]);
+
+/* Checks an image under its table. */
+void shefumbari_check_image(const uint8_t *table, size_t table_len, const uint8_t *image, size_t image_len,
+                            uint32_t answer[8]);
+
+/* Checks a change list under its table. */
+void shefumbari_check_list(const uint8_t *table, size_t table_len, const uint8_t *list, size_t list_len,
+                           uint32_t answer[8]);
+
+/* Reads an object's state: answer[4] is its kind (the type, under catalogue 1.0), fields are the values of its fields
+   that aren't reserved, from bit 0 up, the rest of fields 0. Refused: kind and all fields are 0. */
+void shefumbari_read_state(const uint8_t *table, size_t table_len, const uint8_t *image, size_t image_len,
+                           uint16_t object, uint32_t fields[32], uint32_t answer[8]);
+
+/* Writes to out the image with the object's state replaced and the new position. 22 where kind isn't the object's; 11
+   where a field has a value that isn't listed; 12 where a state without data has another field not 0. Numbers in fields
+   beyond the kind's own aren't looked at. */
+void shefumbari_write_state(const uint8_t *table, size_t table_len, const uint8_t *image, size_t image_len,
+                            uint16_t object, uint32_t kind, const uint32_t fields[32], uint32_t position,
+                            uint8_t *out, size_t out_len, uint32_t answer[8]);
+
+/* Finds an object's label: answer[4] is its offset in the table, answer[5] its length. Refused: both are 0. */
+void shefumbari_label(const uint8_t *table, size_t table_len, uint16_t object, uint32_t answer[8]);
+
+/* Writes to out the change list that turns image a into image b. */
+void shefumbari_difference(const uint8_t *table, size_t table_len, const uint8_t *a, size_t a_len, const uint8_t *b,
+                           size_t b_len, uint8_t *out, size_t out_len, uint32_t answer[8]);
+
+/* Writes to out the image that the list turns this image into: 16 late, 17 gap, 18 another old element. */
+void shefumbari_apply(const uint8_t *table, size_t table_len, const uint8_t *image, size_t image_len,
+                      const uint8_t *list, size_t list_len, uint8_t *out, size_t out_len, uint32_t answer[8]);
+
+/* Writes to out one list for two in turn: 19 where their positions don't meet, 20 where their elements don't. */
+void shefumbari_join(const uint8_t *table, size_t table_len, const uint8_t *first, size_t first_len,
+                     const uint8_t *second, size_t second_len, uint8_t *out, size_t out_len, uint32_t answer[8]);
+
+/* Writes to out the list that leads back: positions swapped, old with new. */
+void shefumbari_turn_back(const uint8_t *table, size_t table_len, const uint8_t *list, size_t list_len, uint8_t *out,
+                          size_t out_len, uint32_t answer[8]);
+
+/* Applies a list as shefumbari_apply does, and adds 1 to one of the tallies standing: applied, late (16), gap (17) or
+   other, refusals too. A tally at 4294967295 stays. A fresh standing is four zeros. */
+void shefumbari_receive(const uint8_t *table, size_t table_len, const uint8_t *image, size_t image_len,
+                        const uint8_t *list, size_t list_len, uint8_t *out, size_t out_len, uint32_t standing[4],
+                        uint32_t answer[8]);
+
+/* Writes to out the panel as text: data is a table and its image, one behind the other. Always 0 with the text's
+   length, and for refused data the text is its refusal line; but 21 where out is too short. */
+void shefumbari_listing(const uint8_t *data, size_t data_len, uint8_t *out, size_t out_len, uint32_t answer[8]);
+
+#ifdef __cplusplus
+}
+#endif
+
+#endif

@@ -1,0 +1,304 @@
+/* The library against the reference on random and damaged requests, and the paper's laws on the library itself:
+   compare [REQUESTS [SEED]] */
+#include "laws.h"
+#include "requests.h"
+
+#include <inttypes.h>
+#include <stdio.h>
+#include <stdlib.h>
+#include <string.h>
+
+enum { REQUESTS = 120000, SEED = 831, REQUESTS_A_ROUND = 60, IMAGES = 4, LISTS = 7 };
+
+/* What a round works on: a table, four images one after the other, and lists between them. */
+static struct form table, images[IMAGES], lists[LISTS];
+static const struct {
+    uint8_t from, to;
+} between[LISTS] = {{0, 1}, {1, 2}, {2, 3}, {0, 2}, {1, 0}, {2, 1}, {1, 3}};
+
+/* Copies that may be damaged. */
+static struct form bent_table, bent_first, bent_second, element;
+
+static uint32_t objects_of_round(unsigned long round)
+{
+    if (round % 400 == 7)
+        return OBJECTS_MOST - round / 400 % 2;
+    if (round % 100 == 9)
+        return draw(400);
+    if (once_in(6))
+        return draw(60);
+    return draw(once_in(2) ? 5 : 13);
+}
+
+static void make_list(struct form *list, const struct form *a, const struct form *b)
+{
+    uint32_t answer[8];
+    reference.difference(table.bytes, table.len, a->bytes, a->len, b->bytes, b->len, list->bytes, FORM_MOST, answer);
+    list->len = answer[3];
+    if (answer[0] != 0) {
+        fprintf(stderr, "a form that was made is refused: %" PRIu32 "\n", answer[0]);
+        exit(2);
+    }
+}
+
+static void make_round(unsigned long round)
+{
+    random_table(&table, objects_of_round(round));
+    first_image(&images[0], &table);
+    for (int i = 1; i < IMAGES; i++)
+        next_image(&images[i], &table, &images[i - 1], &images[i < 2 ? 0 : i - 2]);
+    if (once_in(6)) /* equal positions don't mean equal images */
+        memcpy(images[1].bytes + 7, images[0].bytes + 7, 4);
+    for (int i = 0; i < LISTS; i++)
+        make_list(&lists[i], &images[between[i].from], &images[between[i].to]);
+}
+
+/* The forms of a request */
+
+static bool takes_images(enum call call)
+{
+    return call == CHECK_IMAGE || call == READ_STATE || call == WRITE_STATE || call == DIFFERENCE || call == APPLY ||
+           call == RECEIVE || call == LISTING;
+}
+
+static const struct form *list_from(uint8_t image)
+{
+    int list;
+    do
+        list = (int)draw(LISTS);
+    while (between[list].from != image);
+    return &lists[list];
+}
+
+static void choose_forms(struct request *request)
+{
+    bool any = once_in(4); /* else they fit one another */
+    if (takes_images(request->call)) {
+        uint8_t image = (uint8_t)draw(3);
+        request->first = &images[image];
+        if (request->call == DIFFERENCE)
+            request->second = &images[draw(IMAGES)];
+        else if (request->call == APPLY || request->call == RECEIVE)
+            request->second = any ? &lists[draw(LISTS)] : list_from(image);
+    } else if (request->call == CHECK_LIST || request->call == TURN_BACK) {
+        request->first = &lists[draw(LISTS)];
+    } else if (request->call == JOIN) {
+        uint32_t list;
+        do
+            list = draw(LISTS);
+        while (between[list].to == 3);
+        request->first = &lists[list];
+        request->second = any ? &lists[draw(LISTS)] : list_from(between[list].to);
+    }
+}
+
+static void damage_forms(struct request *request)
+{
+    if (once_in(2) && request->call != CHECK_TABLE)
+        return;
+    uint32_t which = draw(request->second != NULL ? 3 : request->first != NULL ? 2 : 1);
+    uint32_t times = once_in(3) ? 1 + draw(3) : 1;
+    bool image = which == 1 ? takes_images(request->call) : request->call == DIFFERENCE;
+    struct form *form = which == 0 ? &bent_table : which == 1 ? &bent_first : &bent_second;
+    copy_form(form, which == 0 ? &table : which == 1 ? request->first : request->second);
+    while (times-- > 0)
+        if (which == 0)
+            damage_table(form);
+        else if (image)
+            damage_image(form, &table);
+        else
+            damage_list(form, &table);
+    *(which == 0 ? &request->table : which == 1 ? &request->first : &request->second) = form;
+}
+
+/* Table and image one behind the other; now and then cut, lengthened, or as long as data may be and one more. */
+static void join_data(struct request *request)
+{
+    static struct form data;
+    size_t table_len = request->table->len, len = table_len + request->first->len;
+    if (len > FORM_MOST)
+        return;
+    memcpy(data.bytes, request->table->bytes, table_len);
+    memcpy(data.bytes + table_len, request->first->bytes, request->first->len);
+    if (once_in(8))
+        len -= draw((uint32_t)len + 1);
+    else if (once_in(8) && len + 4 < FORM_MOST)
+        memset(data.bytes + len, 1, 4), len += 1 + draw(4);
+    else if (once_in(100) && len < LISTED_MOST) {
+        memset(data.bytes + len, 0, FORM_MOST - len);
+        len = LISTED_MOST - 1 + draw(3);
+        put_number(data.bytes + table_len, 4, (uint32_t)(len - table_len) - 4);
+    }
+    data.len = len;
+    request->table = &data;
+    request->first = NULL;
+}
+
+/* The numbers of a request */
+
+static void choose_element(struct request *request)
+{
+    uint8_t type = carried[draw(TYPES)];
+    element.len = width_of_type(type);
+    memcpy(element.bytes, pool_element(type), element.len);
+    for (uint32_t times = draw(3); times > 0; times--)
+        flip_bit(element.bytes, element.len);
+    if (once_in(8))
+        element.len = draw(6);
+    request->type = once_in(8) ? (uint8_t)draw(256) : type;
+    request->table = &element;
+}
+
+static void choose_state(struct request *request)
+{
+    static const uint32_t values[] = {0, 1, 2, 3, 4, 5, 7, 8, 13, 16, 256, 0x80000000u, 0xFFFFFFFFu};
+    uint32_t count = objects_of(&table);
+    request->object = (uint16_t)(once_in(12) ? count + draw(2) : once_in(30) ? 65535 : draw(count));
+    request->kind = request->object < count ? table.bytes[entry_of(&table, request->object)] : carried[draw(TYPES)];
+    memcpy(request->fields, pool_fields((uint8_t)request->kind, pool_element((uint8_t)request->kind)), 128);
+    uint32_t *field = &request->fields[draw(24)];
+    if (once_in(3))
+        *field = values[draw(13)];
+    if (once_in(8))
+        request->fields[0] = 0;
+    if (once_in(2))
+        memset(request->fields + 23, 0xFF, 9 * sizeof *request->fields); /* beyond every type's fields */
+    if (once_in(8))
+        request->kind = once_in(3) ? request->kind + 256 : draw(26);
+    request->position = draw_position();
+}
+
+static void choose_standing(struct request *request)
+{
+    static const uint32_t tallies[] = {0, 1, 5, 0xFFFFFFFEu, 0xFFFFFFFFu};
+    for (int i = 0; i < 4; i++)
+        request->standing[i] = tallies[draw(5)];
+}
+
+static size_t ample_room(const struct request *request)
+{
+    size_t objects = objects_of(&table) + 2;
+    switch (request->call) {
+    case DIFFERENCE: return 17 + 10 * objects;
+    case JOIN: return 17 + 20 * objects;
+    case LISTING: return 64 * objects < FORM_MOST ? 64 * objects : FORM_MOST;
+    default: return request->first->len + draw(40);
+    }
+}
+
+/* An output of nothing or with room, and then one near the length the answer told. */
+static void compare_rooms(struct request *request)
+{
+    request->room = once_in(4) ? 0 : ample_room(request);
+    uint32_t answer[8];
+    memcpy(answer, compare(request).answer, sizeof answer);
+    if (answer[0] != 0 && answer[0] != 21)
+        return;
+    uint32_t length = answer[3];
+    const uint32_t rooms[] = {length, length, length - 1, length + 1, draw(length)};
+    request->room = rooms[draw(5)];
+    if (request->room <= FORM_MOST)
+        compare(request);
+}
+
+static void compare_one(void)
+{
+    struct request request = {.call = (enum call)draw(CALLS), .table = &table};
+    choose_forms(&request);
+    if (request.call == CHECK_ELEMENT)
+        choose_element(&request);
+    else
+        damage_forms(&request);
+    choose_state(&request);
+    choose_standing(&request);
+    if (request.call == LISTING)
+        join_data(&request);
+    if (writes(request.call))
+        compare_rooms(&request);
+    else
+        compare(&request);
+}
+
+/* Every field of every type, written with each value up to 17 and read again, with and without data. */
+static void sweep_states(void)
+{
+    for (int i = 0; i < TYPES; i++) {
+        static struct form written;
+        const uint8_t entry[] = {carried[i], 3, 'A', ':', 'A'};
+        random_table(&table, 0);
+        memcpy(table.bytes + table.len, entry, sizeof entry);
+        table.len += sizeof entry;
+        put_number(table.bytes + 7, 2, 1);
+        refit(&table);
+        first_image(&images[0], &table);
+        for (uint32_t place = 0; place < 24 * 18 * 2; place++) {
+            struct request write = {.call = WRITE_STATE, .table = &table, .first = &images[0], .kind = carried[i]};
+            write.room = images[0].len;
+            write.fields[0] = place % 2;
+            write.fields[place / 36] = place / 2 % 18;
+            struct outcome outcome = compare(&write);
+            if (outcome.answer[0] != 0)
+                continue;
+            written.len = images[0].len;
+            memcpy(written.bytes, outcome.out, written.len);
+            compare(&(struct request){.call = READ_STATE, .table = &table, .first = &written});
+        }
+    }
+}
+
+/* Every element of one and two bytes, and many of the longer. */
+static unsigned long sweep_elements(void)
+{
+    unsigned long count = 0, differing = 0;
+    for (int i = 0; i < TYPES; i++) {
+        size_t width = width_of_type(carried[i]);
+        uint32_t end = width == 1 ? 256 : 65536;
+        for (uint32_t value = 0; value < end; value++, count++) {
+            uint8_t bytes[4];
+            uint32_t expected[8], found[8];
+            put_number(bytes, width, value);
+            if (width > 2) /* an accepted one with up to three bits changed */
+                memcpy(bytes, pool_element(carried[i]), width);
+            for (uint32_t flips = width > 2 ? draw(4) : 0; flips > 0; flips--)
+                flip_bit(bytes, width);
+            reference.check_element(carried[i], bytes, width, expected);
+            library.check_element(carried[i], bytes, width, found);
+            differing += memcmp(expected, found, sizeof expected) != 0;
+        }
+    }
+    printf("elements by type: %lu compared, %lu differ\n", count, differing);
+    failed += differing;
+    return count - differing;
+}
+
+int main(int argc, char **argv)
+{
+    unsigned long requests = argc > 1 ? strtoul(argv[1], NULL, 10) : REQUESTS;
+    uint64_t start = argc > 2 ? strtoull(argv[2], NULL, 10) : SEED;
+    seed(start);
+    open_buffers();
+    fill_pool();
+    setvbuf(stdout, NULL, _IOLBF, 0); /* what was printed stays, should a call be stopped */
+    printf("compare: %lu requests, seed %" PRIu64 "\n", requests, start);
+    unsigned long laws = 0;
+    for (unsigned long round = 0; compared < requests; round++) {
+        make_round(round);
+        for (int i = 0; i < REQUESTS_A_ROUND; i++)
+            compare_one();
+        unsigned long before = passed + failed;
+        copy_form(&bent_first, &lists[0]);
+        copy_form(&bent_second, &lists[1]);
+        if (once_in(2))
+            damage_list(&bent_first, &table);
+        if (once_in(2))
+            damage_list(&bent_second, &table);
+        hold_laws(&table, images, &bent_first, &bent_second);
+        laws += passed + failed - before;
+    }
+    sweep_states();
+    print_counts(requests >= REQUESTS);
+    printf("laws held to: %lu\n", laws);
+    passed += sweep_elements();
+    printf("compare: %lu passed, %lu failed\n", passed, failed);
+    return failed != 0;
+}

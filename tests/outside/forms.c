@@ -1,0 +1,398 @@
+#include "forms.h"
+
+#include "faces.h"
+
+#include <stdio.h>
+#include <stdlib.h>
+#include <string.h>
+
+enum { POOL = 128, TABLE_ENTRIES = 9, IMAGE_ELEMENTS = 11, LIST_ENTRIES = 17 };
+
+const uint8_t carried[TYPES] = {1, 2, 3, 4, 5, 6, 7, 8, 9, 22, 23};
+static const uint8_t widths[TYPES] = {4, 1, 1, 2, 2, 2, 1, 3, 1, 2, 2};
+
+static size_t index_of_type(uint8_t type)
+{
+    for (size_t i = 0; i < TYPES; i++)
+        if (carried[i] == type)
+            return i;
+    fprintf(stderr, "type %u is not carried\n", type);
+    exit(2);
+}
+
+size_t width_of_type(uint8_t type)
+{
+    return widths[index_of_type(type)];
+}
+
+/* Random numbers: splitmix64 */
+
+static uint64_t state;
+
+void seed(uint64_t start)
+{
+    state = start;
+}
+
+static uint64_t next(void)
+{
+    uint64_t z = state += 0x9E3779B97F4A7C15u;
+    z = (z ^ z >> 30) * 0xBF58476D1CE4E5B9u;
+    z = (z ^ z >> 27) * 0x94D049BB133111EBu;
+    return z ^ z >> 31;
+}
+
+uint32_t draw(uint32_t below)
+{
+    return below == 0 ? 0 : (uint32_t)((next() >> 32) * below >> 32);
+}
+
+bool once_in(uint32_t n)
+{
+    return draw(n) == 0;
+}
+
+uint32_t draw_position(void)
+{
+    static const uint32_t edges[] = {0, 1, 7, 255, 256, 65535, 65536, 0x80000000u, 0xFFFFFFFEu, 0xFFFFFFFFu};
+    return once_in(3) ? (uint32_t)next() : edges[draw(sizeof edges / sizeof *edges)];
+}
+
+/* Bytes */
+
+uint32_t number(const uint8_t *bytes, size_t width)
+{
+    uint32_t value = 0;
+    for (size_t i = 0; i < width; i++)
+        value = value << 8 | bytes[i];
+    return value;
+}
+
+void put_number(uint8_t *bytes, size_t width, uint32_t value)
+{
+    for (size_t i = width; i > 0; i--, value >>= 8)
+        bytes[i - 1] = (uint8_t)value;
+}
+
+void copy_form(struct form *to, const struct form *from)
+{
+    to->len = from->len;
+    memcpy(to->bytes, from->bytes, from->len);
+}
+
+void refit(struct form *form)
+{
+    if (form->len >= 4)
+        put_number(form->bytes, 4, (uint32_t)form->len - 4);
+}
+
+void flip_bit(uint8_t *bytes, size_t len)
+{
+    uint8_t *byte = bytes + draw((uint32_t)len);
+    *byte ^= (uint8_t)(1u << draw(8));
+}
+
+/* Accepted elements */
+
+static uint8_t pool[TYPES][POOL][4];
+static uint32_t fields[TYPES][POOL][32];
+
+/* The fields by a table and an image of one object. */
+static void fill_fields(size_t type, size_t i)
+{
+    uint32_t answer[8];
+    uint8_t table[] = {0, 0, 0, 10, 1, 1, 0, 0, 1, carried[type], 3, 'A', ':', 'A'};
+    uint8_t image[IMAGE_ELEMENTS + 4] = {0, 0, 0, (uint8_t)(7 + widths[type]), 1, 1, 0};
+    memcpy(image + IMAGE_ELEMENTS, pool[type][i], widths[type]);
+    reference.read_state(table, sizeof table, image, IMAGE_ELEMENTS + (size_t)widths[type], 0, fields[type][i], answer);
+}
+
+void fill_pool(void)
+{
+    for (size_t type = 0; type < TYPES; type++)
+        for (size_t i = 1; i < POOL; i++) { /* the first is without data */
+            uint32_t answer[8];
+            do {
+                put_number(pool[type][i], widths[type], (uint32_t)next() | (carried[type] != 22)); /* DAT */
+                reference.check_element(carried[type], pool[type][i], widths[type], answer);
+            } while (answer[0] != 0);
+            fill_fields(type, i);
+        }
+}
+
+const uint8_t *pool_element(uint8_t type)
+{
+    return pool[index_of_type(type)][once_in(8) ? 0 : draw(POOL)];
+}
+
+const uint32_t *pool_fields(uint8_t type, const uint8_t *element)
+{
+    size_t at = index_of_type(type);
+    return fields[at][(size_t)(element - pool[at][0]) / sizeof pool[at][0]];
+}
+
+/* Accepted forms */
+
+uint32_t objects_of(const struct form *table)
+{
+    return number(table->bytes + 7, 2);
+}
+
+size_t entry_of(const struct form *table, uint32_t object)
+{
+    size_t at = TABLE_ENTRIES;
+    while (object-- > 0 && at + 1 < table->len)
+        at += 2 + (size_t)table->bytes[at + 1];
+    return at;
+}
+
+static void put_head(struct form *form)
+{
+    form->bytes[4] = 1;
+    form->bytes[5] = 1;
+    form->bytes[6] = 0;
+}
+
+static uint8_t printable(void)
+{
+    return (uint8_t)(33 + draw(94));
+}
+
+static uint8_t printable_not_colon(void)
+{
+    uint8_t byte = (uint8_t)(33 + draw(93));
+    return byte >= ':' ? (uint8_t)(byte + 1) : byte;
+}
+
+/* A label that is the object's own by the byte before its colon and the last one. */
+static size_t put_label(uint8_t *label, uint32_t object)
+{
+    size_t before = once_in(2) ? 0 : draw(15), after = once_in(2) ? 0 : draw(15), len = 0;
+    if (once_in(20))
+        before = 15, after = 14; /* 32 bytes, the most */
+    for (size_t i = 0; i < before; i++)
+        label[len++] = printable_not_colon();
+    uint8_t mark = (uint8_t)(33 + object / 32);
+    label[len++] = mark >= ':' ? (uint8_t)(mark + 1) : mark;
+    label[len++] = ':';
+    for (size_t i = 0; i < after; i++)
+        label[len++] = printable();
+    label[len++] = (uint8_t)(50 + object % 32);
+    return len;
+}
+
+void random_table(struct form *table, uint32_t objects)
+{
+    size_t at = TABLE_ENTRIES, last = 0;
+    size_t type = draw(TYPES);
+    bool shared = true;
+    put_head(table);
+    put_number(table->bytes + 7, 2, objects);
+    for (uint32_t object = 0; object < objects; object++) {
+        uint8_t *entry = table->bytes + at;
+        shared = !shared && once_in(5); /* the label of the object before, under another type */
+        if (shared) {
+            type = (type + 1) % TYPES;
+            entry[1] = table->bytes[last + 1];
+            memcpy(entry + 2, table->bytes + last + 2, entry[1]);
+        } else {
+            type = draw(TYPES);
+            entry[1] = (uint8_t)put_label(entry + 2, object);
+        }
+        entry[0] = carried[type];
+        last = at;
+        at += 2 + (size_t)entry[1];
+    }
+    table->len = at;
+    refit(table);
+}
+
+void put_image(struct form *image, const struct form *table, uint32_t position, const uint8_t *(*element)(uint8_t type))
+{
+    size_t at = IMAGE_ELEMENTS, entry = TABLE_ENTRIES;
+    put_head(image);
+    put_number(image->bytes + 7, 4, position);
+    for (uint32_t object = 0; object < objects_of(table); object++) {
+        uint8_t type = table->bytes[entry];
+        memcpy(image->bytes + at, element(type), width_of_type(type));
+        at += width_of_type(type);
+        entry += 2 + (size_t)table->bytes[entry + 1];
+    }
+    image->len = at;
+    refit(image);
+}
+
+void first_image(struct form *image, const struct form *table)
+{
+    put_image(image, table, draw_position(), pool_element);
+}
+
+void next_image(struct form *image, const struct form *table, const struct form *before, const struct form *earlier)
+{
+    static const uint32_t rates[] = {1, 2, 3, 10, 1000};
+    uint32_t rate = rates[draw(5)];
+    size_t at = IMAGE_ELEMENTS, entry = TABLE_ENTRIES;
+    copy_form(image, before);
+    put_number(image->bytes + 7, 4, draw_position());
+    for (uint32_t object = 0; object < objects_of(table); object++) {
+        uint8_t type = table->bytes[entry];
+        if (once_in(rate)) /* back to what it was, or to anything */
+            memcpy(image->bytes + at, once_in(3) ? earlier->bytes + at : pool_element(type), width_of_type(type));
+        at += width_of_type(type);
+        entry += 2 + (size_t)table->bytes[entry + 1];
+    }
+}
+
+/* Damage. Places are looked up within the form's length, since an earlier damage may have cut it. */
+
+static void put_byte(struct form *form, size_t at, uint8_t byte)
+{
+    if (at < form->len)
+        form->bytes[at] = byte;
+}
+
+static void resize(struct form *form, size_t len)
+{
+    if (len > FORM_MOST)
+        return;
+    for (size_t i = form->len; i < len; i++)
+        form->bytes[i] = (uint8_t)next();
+    form->len = len;
+    if (once_in(2))
+        refit(form);
+}
+
+/* What can happen to any form; count_at is where its count stands, 0 where it has none. */
+static void damage_any(struct form *form, size_t count_at)
+{
+    static const uint32_t lengths[] = {0, 4, 5, 6, 7, 12, 13, 0x7FFFFFFFu, 0xFFFFFFFBu, 0xFFFFFFFCu, 0xFFFFFFFFu};
+    static const uint32_t counts[] = {0, 1, 2, 1023, 1024, 1025, 65535};
+    size_t at = draw((uint32_t)form->len);
+    switch (draw(10)) {
+    case 0: put_byte(form, at, (uint8_t)next()); break;
+    case 1:
+    case 2: put_byte(form, at, (uint8_t)(form->bytes[at] ^ 1u << draw(8))); break;
+    case 3: resize(form, form->len - draw((uint32_t)(form->len < 8 ? form->len : 8) + 1)); break;
+    case 4: resize(form, form->len + 1 + draw(8)); break;
+    case 5: resize(form, draw(21)); break;
+    case 6: put_byte(form, 4, (uint8_t)(once_in(2) ? draw(4) : next())); break;
+    case 7: put_byte(form, 5 + at % 2, (uint8_t)draw(4)); break;
+    case 8:
+        if (form->len >= 4)
+            put_number(form->bytes, 4, once_in(2) ? number(form->bytes, 4) + draw(3) - 1 : lengths[draw(11)]);
+        break;
+    case 9:
+        if (count_at != 0 && form->len >= count_at + 2)
+            put_number(form->bytes + count_at, 2,
+                       once_in(2) ? number(form->bytes + count_at, 2) + draw(3) - 1 : counts[draw(7)]);
+        break;
+    }
+}
+
+void damage_table(struct form *table)
+{
+    static const uint8_t label_lengths[] = {0, 1, 2, 3, 31, 32, 33, 34, 48, 255};
+    static const uint8_t label_bytes[] = {0, 31, 32, 33, ':', 126, 127, 128, 255};
+    uint32_t count = table->len >= TABLE_ENTRIES ? objects_of(table) : 0;
+    size_t at = count == 0 || count > OBJECTS_MOST ? table->len : entry_of(table, draw(count));
+    if (once_in(2) || at + 2 > table->len || at + 2 + table->bytes[at + 1] > table->len) {
+        damage_any(table, 7);
+        return;
+    }
+    size_t label_len = table->bytes[at + 1], place = at + 2 + draw((uint32_t)label_len);
+    switch (draw(6)) {
+    case 0: put_byte(table, at, (uint8_t)(once_in(2) ? draw(26) : next())); break;
+    case 1: put_byte(table, at + 1, once_in(2) ? label_lengths[draw(10)] : (uint8_t)(label_len + draw(3) - 1)); break;
+    case 2: put_byte(table, place, label_bytes[draw(9)]); break;
+    case 3: /* the colon moved to an edge, the others taken away */
+        for (size_t i = 0; i < label_len; i++)
+            if (table->bytes[at + 2 + i] == ':')
+                table->bytes[at + 2 + i] = 'x';
+        if (!once_in(3))
+            put_byte(table, at + 2 + (once_in(2) ? draw(2) : label_len - 1 - draw(2)), ':');
+        break;
+    default: /* the entry once more at the end, whole or with its last byte or its type changed */
+        if (count == OBJECTS_MOST || table->len + 2 + label_len > FORM_MOST)
+            break;
+        memcpy(table->bytes + table->len, table->bytes + at, 2 + label_len);
+        if (once_in(4))
+            table->bytes[table->len + 1 + label_len] ^= 1;
+        if (once_in(4))
+            table->bytes[table->len] = carried[draw(TYPES)];
+        table->len += 2 + label_len;
+        put_number(table->bytes + 7, 2, count + 1);
+        refit(table);
+        break;
+    }
+}
+
+static void nudge_position(struct form *form, size_t at)
+{
+    if (form->len >= at + 4)
+        put_number(form->bytes + at, 4, once_in(2) ? number(form->bytes + at, 4) + 2 * draw(2) - 1 : draw_position());
+}
+
+void damage_image(struct form *image, const struct form *table)
+{
+    uint32_t count = objects_of(table);
+    if (once_in(2) || count == 0) {
+        damage_any(image, 0);
+        return;
+    }
+    size_t at = IMAGE_ELEMENTS, entry = TABLE_ENTRIES;
+    for (uint32_t object = draw(count); object > 0; object--) {
+        at += width_of_type(table->bytes[entry]);
+        entry += 2 + (size_t)table->bytes[entry + 1];
+    }
+    size_t width = width_of_type(table->bytes[entry]);
+    if (at + width > image->len)
+        return;
+    switch (draw(4)) {
+    case 0: nudge_position(image, 7); break;
+    case 1: memcpy(image->bytes + at, pool_element(table->bytes[entry]), width); break;
+    case 2: image->bytes[at + width - 1] &= 0xFE; break; /* DAT, but for type 22 */
+    case 3: flip_bit(image->bytes + at, width); break;
+    }
+}
+
+void damage_list(struct form *list, const struct form *table)
+{
+    uint32_t count = list->len >= LIST_ENTRIES ? number(list->bytes + 15, 2) : 0;
+    if (once_in(3) || count == 0) {
+        if (once_in(4))
+            nudge_position(list, 7 + 4 * (size_t)draw(2));
+        else
+            damage_any(list, 15);
+        return;
+    }
+    /* an entry and the one before it, while they are whole */
+    size_t at = LIST_ENTRIES, before = 0, width = 0;
+    for (uint32_t entry = draw(count);; entry--) {
+        uint32_t object = at + 2 > list->len ? 65535 : number(list->bytes + at, 2);
+        if (object >= objects_of(table))
+            return;
+        width = width_of_type(table->bytes[entry_of(table, object)]);
+        if (at + 2 + 2 * width > list->len)
+            return;
+        if (entry == 0)
+            break;
+        before = at;
+        at += 2 + 2 * width;
+    }
+    uint8_t *old = list->bytes + at + 2;
+    uint8_t *new = old + width;
+    uint8_t type = table->bytes[entry_of(table, number(list->bytes + at, 2))];
+    switch (draw(8)) {
+    case 0: put_number(list->bytes + at, 2, draw(objects_of(table) + 2)); break;
+    case 1: put_number(list->bytes + at, 2, once_in(2) ? 65535 : objects_of(table)); break;
+    case 2: /* the number of the entry before */
+        if (before != 0)
+            memcpy(list->bytes + at, list->bytes + before, 2);
+        break;
+    case 3: memcpy(new, old, width); break;
+    case 4: memcpy(old, pool_element(type), width); break;
+    case 5: memcpy(new, pool_element(type), width); break;
+    case 6: (once_in(2) ? old : new)[width - 1] &= 0xFE; break;
+    case 7: flip_bit(old, 2 * width); break;
+    }
+}

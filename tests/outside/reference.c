@@ -1,0 +1,739 @@
+/* The paper in plain C11, written from the paper alone: what the library is compared with, in answers and in speed. */
+#include "reference.h"
+
+#include <stdbool.h>
+#include <string.h>
+
+enum {
+    OBJECTS_MOST = 1024,
+    LABEL_MOST = 32,
+    LISTED_MOST = 65536,
+    NO_OBJECT = 65535,
+    NO_BIT = 255,
+    TABLE_LEAST = 5,
+    IMAGE_LEAST = 7,
+    LIST_LEAST = 13,
+    /* offsets in the forms */
+    VERSION = 4,
+    CATALOGUE = 5,
+    TABLE_COUNT = 7,
+    TABLE_ENTRIES = 9,
+    IMAGE_POSITION = 7,
+    IMAGE_ELEMENTS = 11,
+    LIST_FROM = 7,
+    LIST_TO = 11,
+    LIST_COUNT = 15,
+    LIST_ENTRIES = 17,
+    TYPE_WITHOUT_DAT = 22
+};
+
+/* Catalogue 1.0 */
+
+/* A field: the highest value admitted is 0 where it is reserved. */
+struct row {
+    uint8_t type, low, width, top;
+};
+
+static const struct row rows[107] = {
+    /* SIG */
+    {1, 0, 1, 1},   {1, 1, 3, 3},   {1, 4, 4, 12},  {1, 8, 1, 1},   {1, 9, 1, 1},   {1, 10, 1, 1},  {1, 11, 1, 1},
+    {1, 12, 1, 1},  {1, 13, 1, 1},  {1, 14, 1, 1},  {1, 15, 1, 1},  {1, 16, 1, 1},  {1, 17, 1, 1},  {1, 18, 1, 1},
+    {1, 19, 1, 1},  {1, 20, 1, 1},  {1, 21, 1, 1},  {1, 22, 1, 1},  {1, 23, 1, 1},  {1, 24, 3, 7},  {1, 27, 1, 1},
+    {1, 28, 1, 1},  {1, 29, 2, 3},  {1, 31, 1, 0},
+    /* IC */
+    {2, 0, 1, 1},   {2, 1, 2, 3},   {2, 3, 5, 0},
+    /* PV */
+    {3, 0, 1, 1},   {3, 1, 2, 2},   {3, 3, 1, 1},   {3, 4, 4, 0},
+    /* CV */
+    {4, 0, 1, 1},   {4, 1, 1, 1},   {4, 2, 1, 1},   {4, 3, 1, 1},   {4, 4, 2, 3},   {4, 6, 2, 2},   {4, 8, 1, 1},
+    {4, 9, 1, 1},   {4, 10, 3, 4},  {4, 13, 1, 1},  {4, 14, 2, 0},
+    /* CVA */
+    {5, 0, 1, 1},   {5, 1, 1, 1},   {5, 2, 1, 0},   {5, 3, 1, 1},   {5, 4, 2, 1},   {5, 6, 2, 0},   {5, 8, 1, 1},
+    {5, 9, 1, 1},   {5, 10, 3, 4},  {5, 13, 1, 1},  {5, 14, 2, 0},
+    /* CVX */
+    {6, 0, 1, 1},   {6, 1, 1, 1},   {6, 2, 1, 1},   {6, 3, 1, 1},   {6, 4, 2, 3},   {6, 6, 2, 2},   {6, 8, 2, 2},
+    {6, 10, 2, 2},  {6, 12, 1, 1},  {6, 13, 1, 1},  {6, 14, 1, 1},  {6, 15, 1, 0},
+    /* SDT */
+    {7, 0, 1, 1},   {7, 1, 1, 1},   {7, 2, 1, 1},   {7, 3, 1, 1},   {7, 4, 1, 1},   {7, 5, 1, 1},   {7, 6, 2, 0},
+    /* AG */
+    {8, 0, 1, 1},   {8, 1, 1, 1},   {8, 2, 1, 1},   {8, 3, 1, 1},   {8, 4, 2, 3},   {8, 6, 2, 2},   {8, 8, 2, 2},
+    {8, 10, 2, 2},  {8, 12, 3, 4},  {8, 15, 1, 1},  {8, 16, 2, 3},  {8, 18, 1, 1},  {8, 19, 5, 0},
+    /* BOU */
+    {9, 0, 1, 1},   {9, 1, 1, 1},   {9, 2, 1, 1},   {9, 3, 1, 1},   {9, 4, 4, 0},
+    /* AVG */
+    {22, 0, 1, 1},  {22, 1, 1, 1},  {22, 2, 1, 1},  {22, 3, 1, 1},  {22, 4, 2, 3},  {22, 6, 1, 1},  {22, 7, 2, 2},
+    {22, 9, 7, 0},
+    /* FRA */
+    {23, 0, 1, 1},  {23, 1, 1, 1},  {23, 2, 3, 6},  {23, 5, 1, 1},  {23, 6, 3, 6},  {23, 9, 1, 1},  {23, 10, 1, 1},
+    {23, 11, 1, 1}, {23, 12, 4, 0},
+};
+
+/* By type: its width in bytes (0 where it isn't carried) and its rows. */
+static const struct layout {
+    uint8_t width, first, end;
+} layouts[256] = {
+    [1] = {4, 0, 24},  [2] = {1, 24, 27}, [3] = {1, 27, 31}, [4] = {2, 31, 42},  [5] = {2, 42, 53},   [6] = {2, 53, 65},
+    [7] = {1, 65, 72}, [8] = {3, 72, 85}, [9] = {1, 85, 90}, [22] = {2, 90, 98}, [23] = {2, 98, 107},
+};
+
+/* Numbers in bytes, highest byte first */
+
+static uint32_t number(const uint8_t *bytes, size_t width)
+{
+    uint32_t value = 0;
+    for (size_t i = 0; i < width; i++)
+        value = value << 8 | bytes[i];
+    return value;
+}
+
+static void put_number(uint8_t *bytes, size_t width, uint32_t value)
+{
+    while (width > 0) {
+        bytes[--width] = (uint8_t)value;
+        value >>= 8;
+    }
+}
+
+/* Answers */
+
+static void give(uint32_t *answer, uint32_t code, uint32_t object, uint32_t bit, size_t length)
+{
+    memset(answer, 0, 8 * sizeof *answer);
+    answer[0] = code;
+    answer[1] = object;
+    answer[2] = bit;
+    answer[3] = (uint32_t)length;
+}
+
+static void succeed(uint32_t *answer, size_t length)
+{
+    give(answer, 0, NO_OBJECT, NO_BIT, length);
+}
+
+/* The refusals are false, so that a check can return them. */
+static bool refused_bit(uint32_t *answer, uint32_t code, uint32_t object, uint32_t bit)
+{
+    give(answer, code, object, bit, 0);
+    return false;
+}
+
+static bool refused_object(uint32_t *answer, uint32_t code, uint32_t object)
+{
+    return refused_bit(answer, code, object, NO_BIT);
+}
+
+static bool refused(uint32_t *answer, uint32_t code)
+{
+    return refused_bit(answer, code, NO_OBJECT, NO_BIT);
+}
+
+/* 21 comes last: false where the output is shorter than the answer. */
+static bool room(size_t out_len, size_t length, uint32_t *answer)
+{
+    if (out_len >= length)
+        return true;
+    give(answer, 21, NO_OBJECT, NO_BIT, length);
+    return false;
+}
+
+/* Elements */
+
+static bool silent_but_set(uint8_t type, uint32_t word)
+{
+    return type != TYPE_WITHOUT_DAT && (word & 1) == 0 && word != 0;
+}
+
+static bool check_element(uint8_t type, const uint8_t *element, uint32_t object, uint32_t *answer)
+{
+    const struct layout *layout = &layouts[type];
+    uint32_t word = number(element, layout->width);
+    for (size_t i = layout->first; i < layout->end; i++) {
+        const struct row *row = &rows[i];
+        uint32_t value = word >> row->low & ((1u << row->width) - 1);
+        if (value > row->top)
+            return refused_bit(answer, row->top == 0 ? 10 : 11, object, row->low);
+    }
+    if (silent_but_set(type, word))
+        return refused_bit(answer, 12, object, 0);
+    return true;
+}
+
+/* The three forms */
+
+/* What the calls need of an accepted table; starts[object] is where its element begins among the elements. */
+struct table {
+    const uint8_t *bytes;
+    uint32_t count;
+    uint8_t types[OBJECTS_MOST];
+    uint16_t starts[OBJECTS_MOST + 1];
+};
+
+static size_t width_of(const struct table *table, uint32_t object)
+{
+    return layouts[table->types[object]].width;
+}
+
+static size_t elements_len(const struct table *table)
+{
+    return table->starts[table->count];
+}
+
+/* 1 and 2 */
+static bool check_head(const uint8_t *form, size_t len, uint32_t least, uint32_t *answer)
+{
+    if (len < 4 || number(form, 4) != len - 4 || number(form, 4) < least)
+        return refused(answer, 1);
+    if (form[VERSION] != 1)
+        return refused(answer, 2);
+    return true;
+}
+
+/* 1, 2 and 9 */
+static bool check_head_under(const struct table *table, const uint8_t *form, size_t len, uint32_t least,
+                             uint32_t *answer)
+{
+    if (!check_head(form, len, least, answer))
+        return false;
+    if (form[CATALOGUE] != table->bytes[CATALOGUE] || form[CATALOGUE + 1] != table->bytes[CATALOGUE + 1])
+        return refused(answer, 9);
+    return true;
+}
+
+/* Bytes 33 to 126, and the first colon has a byte before and after it. */
+static bool label_good(const uint8_t *label, size_t len)
+{
+    for (size_t i = 0; i < len; i++)
+        if (label[i] < 33 || label[i] > 126)
+            return false;
+    const uint8_t *colon = memchr(label, ':', len);
+    return colon != NULL && colon != label && colon != label + len - 1;
+}
+
+/* Whether the entry at has type and label of an earlier one. */
+static bool repeated(const uint8_t *table, size_t at)
+{
+    for (size_t earlier = TABLE_ENTRIES; earlier < at; earlier += 2 + table[earlier + 1])
+        if (table[earlier] == table[at] && table[earlier + 1] == table[at + 1] &&
+            memcmp(table + earlier + 2, table + at + 2, table[at + 1]) == 0)
+            return true;
+    return false;
+}
+
+static bool check_table(const uint8_t *bytes, size_t len, struct table *table, uint32_t *answer)
+{
+    if (!check_head(bytes, len, TABLE_LEAST, answer))
+        return false;
+    if (bytes[CATALOGUE] != 1 || bytes[CATALOGUE + 1] != 0)
+        return refused(answer, 3);
+    uint32_t count = number(bytes + TABLE_COUNT, 2);
+    if (count > OBJECTS_MOST)
+        return refused(answer, 4);
+    size_t at = TABLE_ENTRIES;
+    uint16_t start = 0;
+    for (uint32_t object = 0; object < count; object++) {
+        if (len - at < 2)
+            return refused(answer, 8);
+        uint8_t type = bytes[at];
+        size_t label_len = bytes[at + 1];
+        if (layouts[type].width == 0)
+            return refused_object(answer, 5, object);
+        if (label_len < 1 || label_len > LABEL_MOST)
+            return refused_object(answer, 6, object);
+        if (len - at - 2 < label_len)
+            return refused(answer, 8);
+        if (!label_good(bytes + at + 2, label_len))
+            return refused_object(answer, 6, object);
+        if (repeated(bytes, at))
+            return refused_object(answer, 7, object);
+        table->types[object] = type;
+        table->starts[object] = start;
+        start += layouts[type].width;
+        at += 2 + label_len;
+    }
+    if (at != len)
+        return refused(answer, 8);
+    table->bytes = bytes;
+    table->count = count;
+    table->starts[count] = start;
+    return true;
+}
+
+static bool check_image(const struct table *table, const uint8_t *image, size_t len, uint32_t *answer)
+{
+    if (!check_head_under(table, image, len, IMAGE_LEAST, answer))
+        return false;
+    if (len != IMAGE_ELEMENTS + elements_len(table))
+        return refused(answer, 8);
+    for (uint32_t object = 0; object < table->count; object++)
+        if (!check_element(table->types[object], image + IMAGE_ELEMENTS + table->starts[object], object, answer))
+            return false;
+    return true;
+}
+
+static bool check_list(const struct table *table, const uint8_t *list, size_t len, uint32_t *answer)
+{
+    if (!check_head_under(table, list, len, LIST_LEAST, answer))
+        return false;
+    uint32_t count = number(list + LIST_COUNT, 2);
+    uint32_t least = 0;
+    size_t at = LIST_ENTRIES;
+    for (uint32_t entry = 0; entry < count; entry++) {
+        if (len - at < 2)
+            return refused(answer, 8);
+        uint32_t object = number(list + at, 2);
+        at += 2;
+        if (object >= table->count)
+            return refused_object(answer, 13, object);
+        if (object < least)
+            return refused_object(answer, 14, object);
+        size_t width = width_of(table, object);
+        if (len - at < 2 * width)
+            return refused(answer, 8);
+        if (!check_element(table->types[object], list + at, object, answer) ||
+            !check_element(table->types[object], list + at + width, object, answer))
+            return false;
+        if (memcmp(list + at, list + at + width, width) == 0)
+            return refused_object(answer, 15, object);
+        least = object + 1;
+        at += 2 * width;
+    }
+    if (at != len)
+        return refused(answer, 8);
+    return true;
+}
+
+/* Entries of an accepted list, one after the other */
+
+struct entry {
+    uint32_t object;
+    size_t width;
+    const uint8_t *old, *new;
+};
+
+struct cursor {
+    const struct table *table;
+    const uint8_t *at, *end;
+};
+
+static struct cursor entries_of(const struct table *table, const uint8_t *list, size_t len)
+{
+    return (struct cursor){table, list + LIST_ENTRIES, list + len};
+}
+
+/* False at the end. The object is then above every other, for the walk over two lists. */
+static bool next_entry(struct cursor *cursor, struct entry *entry)
+{
+    if (cursor->at == cursor->end) {
+        entry->object = NO_OBJECT;
+        return false;
+    }
+    entry->object = number(cursor->at, 2);
+    entry->width = width_of(cursor->table, entry->object);
+    entry->old = cursor->at + 2;
+    entry->new = entry->old + entry->width;
+    cursor->at = entry->new + entry->width;
+    return true;
+}
+
+/* A list being written, or only measured where out is null. */
+struct draft {
+    uint8_t *out;
+    size_t len;
+    uint32_t count;
+};
+
+static void add_entry(struct draft *draft, uint32_t object, size_t width, const uint8_t *old, const uint8_t *new)
+{
+    if (draft->out != NULL) {
+        uint8_t *entry = draft->out + draft->len;
+        put_number(entry, 2, object);
+        memcpy(entry + 2, old, width);
+        memcpy(entry + 2 + width, new, width);
+    }
+    draft->len += 2 + 2 * width;
+    draft->count++;
+}
+
+static void finish_list(const struct draft *draft, const struct table *table, uint32_t from, uint32_t to)
+{
+    uint8_t *list = draft->out;
+    put_number(list, 4, (uint32_t)draft->len - 4);
+    memcpy(list + VERSION, table->bytes + VERSION, 3);
+    put_number(list + LIST_FROM, 4, from);
+    put_number(list + LIST_TO, 4, to);
+    put_number(list + LIST_COUNT, 2, draft->count);
+}
+
+/* The calls: checks */
+
+void reference_check_element(uint8_t type, const uint8_t *element, size_t element_len, uint32_t answer[8])
+{
+    if (layouts[type].width == 0)
+        refused(answer, 5);
+    else if (element_len != layouts[type].width)
+        refused(answer, 8);
+    else if (check_element(type, element, NO_OBJECT, answer))
+        succeed(answer, 0);
+}
+
+void reference_check_table(const uint8_t *table, size_t table_len, uint32_t answer[8])
+{
+    struct table t;
+    if (check_table(table, table_len, &t, answer))
+        succeed(answer, 0);
+}
+
+void reference_check_image(const uint8_t *table, size_t table_len, const uint8_t *image, size_t image_len,
+                           uint32_t answer[8])
+{
+    struct table t;
+    if (check_table(table, table_len, &t, answer) && check_image(&t, image, image_len, answer))
+        succeed(answer, 0);
+}
+
+void reference_check_list(const uint8_t *table, size_t table_len, const uint8_t *list, size_t list_len,
+                          uint32_t answer[8])
+{
+    struct table t;
+    if (check_table(table, table_len, &t, answer) && check_list(&t, list, list_len, answer))
+        succeed(answer, 0);
+}
+
+/* The calls: states and labels */
+
+void reference_read_state(const uint8_t *table, size_t table_len, const uint8_t *image, size_t image_len,
+                          uint16_t object, uint32_t fields[32], uint32_t answer[8])
+{
+    struct table t;
+    memset(fields, 0, 32 * sizeof *fields);
+    if (!check_table(table, table_len, &t, answer) || !check_image(&t, image, image_len, answer))
+        return;
+    if (object >= t.count) {
+        refused_object(answer, 13, object);
+        return;
+    }
+    const struct layout *layout = &layouts[t.types[object]];
+    uint32_t word = number(image + IMAGE_ELEMENTS + t.starts[object], layout->width);
+    for (size_t i = layout->first; i < layout->end; i++)
+        if (rows[i].top != 0)
+            *fields++ = word >> rows[i].low & ((1u << rows[i].width) - 1);
+    succeed(answer, 0);
+    answer[4] = t.types[object];
+}
+
+/* The element of a state handed in, where it is admitted. */
+static bool check_state(uint8_t type, const uint32_t *fields, uint32_t object, uint32_t *word, uint32_t *answer)
+{
+    *word = 0;
+    for (size_t i = layouts[type].first; i < layouts[type].end; i++) {
+        if (rows[i].top == 0)
+            continue;
+        if (*fields > rows[i].top)
+            return refused_bit(answer, 11, object, rows[i].low);
+        *word |= *fields++ << rows[i].low;
+    }
+    if (silent_but_set(type, *word))
+        return refused_bit(answer, 12, object, 0);
+    return true;
+}
+
+void reference_write_state(const uint8_t *table, size_t table_len, const uint8_t *image, size_t image_len,
+                           uint16_t object, uint32_t kind, const uint32_t fields[32], uint32_t position, uint8_t *out,
+                           size_t out_len, uint32_t answer[8])
+{
+    struct table t;
+    uint32_t word;
+    if (!check_table(table, table_len, &t, answer) || !check_image(&t, image, image_len, answer))
+        return;
+    if (object >= t.count) {
+        refused_object(answer, 13, object);
+        return;
+    }
+    if (kind != t.types[object]) {
+        refused_object(answer, 22, object);
+        return;
+    }
+    if (!check_state(t.types[object], fields, object, &word, answer) || !room(out_len, image_len, answer))
+        return;
+    memcpy(out, image, image_len);
+    put_number(out + IMAGE_POSITION, 4, position);
+    put_number(out + IMAGE_ELEMENTS + t.starts[object], width_of(&t, object), word);
+    succeed(answer, image_len);
+}
+
+void reference_label(const uint8_t *table, size_t table_len, uint16_t object, uint32_t answer[8])
+{
+    struct table t;
+    if (!check_table(table, table_len, &t, answer))
+        return;
+    if (object >= t.count) {
+        refused_object(answer, 13, object);
+        return;
+    }
+    size_t at = TABLE_ENTRIES;
+    for (uint32_t i = 0; i < object; i++)
+        at += 2 + table[at + 1];
+    succeed(answer, 0);
+    answer[4] = (uint32_t)at + 2;
+    answer[5] = table[at + 1];
+}
+
+/* The calls: change lists */
+
+static void differing(const struct table *table, const uint8_t *a, const uint8_t *b, struct draft *draft)
+{
+    for (uint32_t object = 0; object < table->count; object++) {
+        size_t at = IMAGE_ELEMENTS + table->starts[object];
+        size_t width = width_of(table, object);
+        if (memcmp(a + at, b + at, width) != 0)
+            add_entry(draft, object, width, a + at, b + at);
+    }
+}
+
+void reference_difference(const uint8_t *table, size_t table_len, const uint8_t *a, size_t a_len, const uint8_t *b,
+                          size_t b_len, uint8_t *out, size_t out_len, uint32_t answer[8])
+{
+    struct table t;
+    struct draft measured = {NULL, LIST_ENTRIES, 0};
+    struct draft written = {out, LIST_ENTRIES, 0};
+    if (!check_table(table, table_len, &t, answer) || !check_image(&t, a, a_len, answer) ||
+        !check_image(&t, b, b_len, answer))
+        return;
+    differing(&t, a, b, &measured);
+    if (!room(out_len, measured.len, answer))
+        return;
+    differing(&t, a, b, &written);
+    finish_list(&written, &t, number(a + IMAGE_POSITION, 4), number(b + IMAGE_POSITION, 4));
+    succeed(answer, written.len);
+}
+
+void reference_apply(const uint8_t *table, size_t table_len, const uint8_t *image, size_t image_len,
+                     const uint8_t *list, size_t list_len, uint8_t *out, size_t out_len, uint32_t answer[8])
+{
+    struct table t;
+    struct cursor cursor;
+    struct entry entry;
+    if (!check_table(table, table_len, &t, answer) || !check_image(&t, image, image_len, answer) ||
+        !check_list(&t, list, list_len, answer))
+        return;
+    uint32_t position = number(image + IMAGE_POSITION, 4);
+    uint32_t from = number(list + LIST_FROM, 4);
+    if (from != position) {
+        refused(answer, from < position ? 16 : 17);
+        return;
+    }
+    cursor = entries_of(&t, list, list_len);
+    while (next_entry(&cursor, &entry))
+        if (memcmp(image + IMAGE_ELEMENTS + t.starts[entry.object], entry.old, entry.width) != 0) {
+            refused_object(answer, 18, entry.object);
+            return;
+        }
+    if (!room(out_len, image_len, answer))
+        return;
+    memcpy(out, image, image_len);
+    memcpy(out + IMAGE_POSITION, list + LIST_TO, 4);
+    cursor = entries_of(&t, list, list_len);
+    while (next_entry(&cursor, &entry))
+        memcpy(out + IMAGE_ELEMENTS + t.starts[entry.object], entry.new, entry.width);
+    succeed(answer, image_len);
+}
+
+/* Walks both lists by ascending object; 20 names the lowest that doesn't meet. */
+static bool joined(struct cursor first, struct cursor second, struct draft *draft, uint32_t *answer)
+{
+    struct entry f, s;
+    bool in_first = next_entry(&first, &f);
+    bool in_second = next_entry(&second, &s);
+    while (in_first || in_second) {
+        if (f.object < s.object) {
+            add_entry(draft, f.object, f.width, f.old, f.new);
+            in_first = next_entry(&first, &f);
+        } else if (s.object < f.object) {
+            add_entry(draft, s.object, s.width, s.old, s.new);
+            in_second = next_entry(&second, &s);
+        } else {
+            if (memcmp(f.new, s.old, f.width) != 0)
+                return refused_object(answer, 20, f.object);
+            if (memcmp(f.old, s.new, f.width) != 0)
+                add_entry(draft, f.object, f.width, f.old, s.new);
+            in_first = next_entry(&first, &f);
+            in_second = next_entry(&second, &s);
+        }
+    }
+    return true;
+}
+
+void reference_join(const uint8_t *table, size_t table_len, const uint8_t *first, size_t first_len,
+                    const uint8_t *second, size_t second_len, uint8_t *out, size_t out_len, uint32_t answer[8])
+{
+    struct table t;
+    struct draft measured = {NULL, LIST_ENTRIES, 0};
+    struct draft written = {out, LIST_ENTRIES, 0};
+    if (!check_table(table, table_len, &t, answer) || !check_list(&t, first, first_len, answer) ||
+        !check_list(&t, second, second_len, answer))
+        return;
+    if (number(first + LIST_TO, 4) != number(second + LIST_FROM, 4)) {
+        refused(answer, 19);
+        return;
+    }
+    struct cursor from_first = entries_of(&t, first, first_len);
+    struct cursor from_second = entries_of(&t, second, second_len);
+    if (!joined(from_first, from_second, &measured, answer) || !room(out_len, measured.len, answer))
+        return;
+    joined(from_first, from_second, &written, answer);
+    finish_list(&written, &t, number(first + LIST_FROM, 4), number(second + LIST_TO, 4));
+    succeed(answer, written.len);
+}
+
+void reference_turn_back(const uint8_t *table, size_t table_len, const uint8_t *list, size_t list_len, uint8_t *out,
+                         size_t out_len, uint32_t answer[8])
+{
+    struct table t;
+    struct draft written = {out, LIST_ENTRIES, 0};
+    struct entry entry;
+    if (!check_table(table, table_len, &t, answer) || !check_list(&t, list, list_len, answer) ||
+        !room(out_len, list_len, answer))
+        return;
+    struct cursor cursor = entries_of(&t, list, list_len);
+    while (next_entry(&cursor, &entry))
+        add_entry(&written, entry.object, entry.width, entry.new, entry.old);
+    finish_list(&written, &t, number(list + LIST_TO, 4), number(list + LIST_FROM, 4));
+    succeed(answer, written.len);
+}
+
+void reference_receive(const uint8_t *table, size_t table_len, const uint8_t *image, size_t image_len,
+                       const uint8_t *list, size_t list_len, uint8_t *out, size_t out_len, uint32_t standing[4],
+                       uint32_t answer[8])
+{
+    reference_apply(table, table_len, image, image_len, list, list_len, out, out_len, answer);
+    uint32_t *tally;
+    switch (answer[0]) {
+    case 0: tally = &standing[0]; break;
+    case 16: tally = &standing[1]; break;
+    case 17: tally = &standing[2]; break;
+    default: tally = &standing[3]; break;
+    }
+    if (*tally != UINT32_MAX)
+        ++*tally;
+}
+
+/* The listing */
+
+static size_t digits(uint32_t value)
+{
+    size_t count = 1;
+    while (value >= 10) {
+        value /= 10;
+        count++;
+    }
+    return count;
+}
+
+static uint8_t *put_decimal(uint8_t *to, uint32_t value)
+{
+    size_t count = digits(value);
+    for (size_t i = count; i > 0; i--) {
+        to[i - 1] = (uint8_t)('0' + value % 10);
+        value /= 10;
+    }
+    return to + count;
+}
+
+static uint8_t *put_bytes(uint8_t *to, const void *bytes, size_t len)
+{
+    memcpy(to, bytes, len);
+    return to + len;
+}
+
+static uint8_t *put_byte(uint8_t *to, char byte)
+{
+    *to = (uint8_t)byte;
+    return to + 1;
+}
+
+static uint8_t *put_hex(uint8_t *to, const uint8_t *bytes, size_t len)
+{
+    static const char hex[] = "0123456789ABCDEF";
+    for (size_t i = 0; i < len; i++) {
+        to = put_byte(to, hex[bytes[i] >> 4]);
+        to = put_byte(to, hex[bytes[i] & 15]);
+    }
+    return to;
+}
+
+static size_t listing_len(const struct table *table, uint32_t position)
+{
+    const uint8_t *entry = table->bytes + TABLE_ENTRIES;
+    size_t len = digits(table->bytes[CATALOGUE]) + 1 + digits(table->bytes[CATALOGUE + 1]) + 1 + digits(position) + 1 +
+                 digits(table->count) + 1;
+    for (uint32_t object = 0; object < table->count; object++) {
+        len += digits(object) + 1 + digits(entry[0]) + 1 + entry[1] + 1 + 2 * width_of(table, object) + 1;
+        entry += 2 + entry[1];
+    }
+    return len;
+}
+
+static void put_listing(uint8_t *to, const struct table *table, const uint8_t *image)
+{
+    const uint8_t *entry = table->bytes + TABLE_ENTRIES;
+    to = put_decimal(to, table->bytes[CATALOGUE]);
+    to = put_byte(to, '.');
+    to = put_decimal(to, table->bytes[CATALOGUE + 1]);
+    to = put_byte(to, ' ');
+    to = put_decimal(to, number(image + IMAGE_POSITION, 4));
+    to = put_byte(to, ' ');
+    to = put_decimal(to, table->count);
+    to = put_byte(to, '\n');
+    for (uint32_t object = 0; object < table->count; object++) {
+        to = put_decimal(to, object);
+        to = put_byte(to, ' ');
+        to = put_decimal(to, entry[0]);
+        to = put_byte(to, ' ');
+        to = put_bytes(to, entry + 2, entry[1]);
+        to = put_byte(to, ' ');
+        to = put_hex(to, image + IMAGE_ELEMENTS + table->starts[object], width_of(table, object));
+        to = put_byte(to, '\n');
+        entry += 2 + entry[1];
+    }
+}
+
+static size_t refusal_len(const uint32_t *refusal)
+{
+    return sizeof "refused" + digits(refusal[0]) + 1 + digits(refusal[1]) + 1 + digits(refusal[2]) + 1;
+}
+
+static void put_refusal(uint8_t *to, const uint32_t *refusal)
+{
+    to = put_bytes(to, "refused", 7);
+    for (size_t i = 0; i < 3; i++) {
+        to = put_byte(to, ' ');
+        to = put_decimal(to, refusal[i]);
+    }
+    put_byte(to, '\n');
+}
+
+/* The data split by the table's own length, and both forms checked. */
+static bool check_data(const uint8_t *data, size_t len, struct table *table, const uint8_t **image, uint32_t *answer)
+{
+    if (len > LISTED_MOST || len < 4 || len - 4 < number(data, 4))
+        return refused(answer, 1);
+    size_t table_len = 4 + (size_t)number(data, 4);
+    *image = data + table_len;
+    return check_table(data, table_len, table, answer) && check_image(table, *image, len - table_len, answer);
+}
+
+void reference_listing(const uint8_t *data, size_t data_len, uint8_t *out, size_t out_len, uint32_t answer[8])
+{
+    struct table t;
+    const uint8_t *image;
+    uint32_t refusal[8];
+    bool accepted = check_data(data, data_len, &t, &image, refusal);
+    size_t len = accepted ? listing_len(&t, number(image + IMAGE_POSITION, 4)) : refusal_len(refusal);
+    if (!room(out_len, len, answer))
+        return;
+    if (accepted)
+        put_listing(out, &t, image);
+    else
+        put_refusal(out, refusal);
+    succeed(answer, len);
+}

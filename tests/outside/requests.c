@@ -1,0 +1,255 @@
+#include "requests.h"
+
+#include "lent.h"
+
+#include <inttypes.h>
+#include <signal.h>
+#include <stdio.h>
+#include <stdlib.h>
+#include <string.h>
+#include <unistd.h>
+
+enum { CODES = 23, PRINTED_MOST = 20 };
+
+#define UP_TO(code) ((1u << ((code) + 1)) - 1)
+#define CODE(code) (1u << (code))
+
+const char *const call_names[CALLS] = {"check_element", "check_table", "check_image", "check_list", "read_state",
+                                       "write_state",   "label",       "difference",  "apply",      "join",
+                                       "turn_back",     "receive",     "listing"};
+
+/* The codes that each call can give; of listing, those in its refusal lines. */
+static const uint32_t codes[CALLS] = {
+    [CHECK_ELEMENT] = CODE(0) | CODE(5) | CODE(8) | CODE(10) | CODE(11) | CODE(12),
+    [CHECK_TABLE] = UP_TO(8),
+    [CHECK_IMAGE] = UP_TO(12),
+    [CHECK_LIST] = UP_TO(15),
+    [READ_STATE] = UP_TO(13),
+    [WRITE_STATE] = UP_TO(13) | CODE(21) | CODE(22),
+    [LABEL] = UP_TO(8) | CODE(13),
+    [DIFFERENCE] = UP_TO(12) | CODE(21),
+    [APPLY] = UP_TO(18) | CODE(21),
+    [JOIN] = UP_TO(15) | CODE(19) | CODE(20) | CODE(21),
+    [TURN_BACK] = UP_TO(15) | CODE(21),
+    [RECEIVE] = UP_TO(18) | CODE(21),
+    [LISTING] = UP_TO(12) | CODE(21),
+};
+
+unsigned long compared, passed, failed;
+static unsigned long counts[CALLS][CODES];
+
+/* What each face is lent. The guards differ, so that a look before a buffer shows. */
+static struct buffers {
+    struct lent table, first, second, out, fields, standing, answer;
+} buffers[2];
+
+static struct {
+    const struct face *face;
+    enum call call;
+} running;
+
+static void stopped(int signal)
+{
+    (void)signal;
+    static const char text[] = " was stopped: it touched memory outside its buffers, or gave up\n";
+    const char *const parts[] = {running.face->name, ", ", call_names[running.call], text};
+    for (size_t i = 0; i < 4; i++)
+        if (write(STDOUT_FILENO, parts[i], strlen(parts[i])) < 0)
+            break;
+    _exit(1);
+}
+
+void open_buffers(void)
+{
+    for (int i = 0; i < 2; i++) {
+        uint8_t guard = i == 0 ? 0xA5 : 0x3A;
+        buffers[i] = (struct buffers){.table = lent_new(FORM_MOST, guard),
+                                      .first = lent_new(FORM_MOST, guard),
+                                      .second = lent_new(FORM_MOST, guard),
+                                      .out = lent_new(FORM_MOST, guard),
+                                      .fields = lent_new(128, guard),
+                                      .standing = lent_new(16, guard),
+                                      .answer = lent_new(32, guard)};
+    }
+    static const int signals[] = {SIGSEGV, SIGBUS, SIGILL, SIGFPE, SIGABRT};
+    for (size_t i = 0; i < sizeof signals / sizeof *signals; i++)
+        signal(signals[i], stopped);
+}
+
+bool writes(enum call call)
+{
+    return call == WRITE_STATE || (call >= DIFFERENCE && call < CALLS);
+}
+
+static uint8_t before_call(size_t at)
+{
+    return (uint8_t)(0xA5 + 7 * at);
+}
+
+/* Failures */
+
+static void print_form(const char *name, const struct form *form)
+{
+    if (form == NULL)
+        return;
+    printf(" %s=", name);
+    if (form->len > 400)
+        printf("(%zu bytes)", form->len);
+    for (size_t i = 0; i < form->len && form->len <= 400; i++)
+        printf("%02x", form->bytes[i]);
+}
+
+static void fail(const struct request *request, const char *what)
+{
+    if (failed++ >= PRINTED_MOST)
+        return;
+    printf("%s: %s:", call_names[request->call], what);
+    print_form("table", request->table);
+    print_form("first", request->first);
+    print_form("second", request->second);
+    printf(" type=%u number=%u kind=%" PRIu32 " position=%" PRIu32 " room=%zu\n", request->type, request->object,
+           request->kind, request->position, request->room);
+}
+
+void hold(bool law, const char *name)
+{
+    if (law)
+        passed++;
+    else if (failed++ < PRINTED_MOST)
+        printf("law broken: %s\n", name);
+}
+
+/* Running */
+
+static uint8_t *lend_form(struct lent *lent, const struct form *form)
+{
+    return form == NULL ? lend(lent, 0) : lend_copy(lent, form->bytes, form->len);
+}
+
+static bool unchanged(const struct lent *lent, const struct form *form)
+{
+    return form == NULL || memcmp(lent->bytes, form->bytes, form->len) == 0;
+}
+
+static void call_face(const struct face *face, const struct request *r, struct buffers *b)
+{
+    const uint8_t *table = lend_form(&b->table, r->table), *first = lend_form(&b->first, r->first),
+                  *second = lend_form(&b->second, r->second);
+    size_t table_len = b->table.len, first_len = b->first.len, second_len = b->second.len, room = r->room;
+    uint8_t *out = lend(&b->out, room);
+    uint32_t *answer = (uint32_t *)(void *)lend(&b->answer, 32);
+    uint32_t *fields = (uint32_t *)(void *)lend_copy(&b->fields, r->fields, 128);
+    uint32_t *standing = (uint32_t *)(void *)lend_copy(&b->standing, r->standing, 16);
+    memset(answer, b->answer.guard, 32);
+    if (r->call == READ_STATE)
+        memset(fields, b->fields.guard, 128);
+    for (size_t i = 0; i < room; i++)
+        out[i] = before_call(i);
+    running.face = face;
+    running.call = r->call;
+    switch (r->call) {
+    case CHECK_ELEMENT: face->check_element(r->type, table, table_len, answer); break;
+    case CHECK_TABLE: face->check_table(table, table_len, answer); break;
+    case CHECK_IMAGE: face->check_image(table, table_len, first, first_len, answer); break;
+    case CHECK_LIST: face->check_list(table, table_len, first, first_len, answer); break;
+    case READ_STATE: face->read_state(table, table_len, first, first_len, r->object, fields, answer); break;
+    case WRITE_STATE:
+        face->write_state(table, table_len, first, first_len, r->object, r->kind, fields, r->position, out, room,
+                          answer);
+        break;
+    case LABEL: face->label(table, table_len, r->object, answer); break;
+    case DIFFERENCE: face->difference(table, table_len, first, first_len, second, second_len, out, room, answer); break;
+    case APPLY: face->apply(table, table_len, first, first_len, second, second_len, out, room, answer); break;
+    case JOIN: face->join(table, table_len, first, first_len, second, second_len, out, room, answer); break;
+    case TURN_BACK: face->turn_back(table, table_len, first, first_len, out, room, answer); break;
+    case RECEIVE:
+        face->receive(table, table_len, first, first_len, second, second_len, out, room, standing, answer);
+        break;
+    case LISTING: face->listing(table, table_len, out, room, answer); break;
+    case CALLS: break;
+    }
+}
+
+struct outcome perform(const struct face *face, const struct request *request)
+{
+    struct buffers *b = &buffers[face == &reference];
+    call_face(face, request, b);
+    struct outcome outcome = {(uint32_t *)(void *)b->answer.bytes, (uint32_t *)(void *)b->fields.bytes,
+                              (uint32_t *)(void *)b->standing.bytes, b->out.bytes};
+    if (!guard_stands(&b->table) || !guard_stands(&b->first) || !guard_stands(&b->second) || !guard_stands(&b->out) ||
+        !guard_stands(&b->answer) || !guard_stands(&b->fields) || !guard_stands(&b->standing))
+        fail(request, "bytes before a lent buffer are changed");
+    if (!unchanged(&b->table, request->table) || !unchanged(&b->first, request->first) ||
+        !unchanged(&b->second, request->second) ||
+        (request->call == WRITE_STATE && memcmp(outcome.fields, request->fields, 128) != 0))
+        fail(request, "an input is changed");
+    size_t front = outcome.answer[0] == 0 ? outcome.answer[3] : 0;
+    for (size_t i = front; i < request->room; i++)
+        if (outcome.out[i] != before_call(i)) {
+            fail(request, "the output is changed behind its front");
+            break;
+        }
+    return outcome;
+}
+
+/* A listing's code is that of its refusal line. */
+static uint32_t code_of(const struct request *request, const struct outcome *outcome)
+{
+    uint32_t code = outcome->answer[0];
+    if (request->call == LISTING && code == 0 && outcome->out[0] == 'r')
+        code = (uint32_t)strtoul((const char *)outcome->out + sizeof "refused", NULL, 10);
+    return code;
+}
+
+struct outcome compare(const struct request *request)
+{
+    unsigned long before = failed;
+    struct outcome expected = perform(&reference, request);
+    struct outcome found = perform(&library, request);
+    compared++;
+    uint32_t code = code_of(request, &expected);
+    if (code < CODES)
+        counts[request->call][code]++;
+    if (memcmp(found.answer, expected.answer, 32) != 0) {
+        fail(request, "answer");
+        if (failed <= PRINTED_MOST)
+            for (int i = 0; i < 8; i++)
+                printf("  number %d: reference %" PRIu32 ", library %" PRIu32 "\n", i, expected.answer[i],
+                       found.answer[i]);
+    }
+    if (memcmp(found.out, expected.out, request->room) != 0)
+        fail(request, "output");
+    if (request->call == READ_STATE && memcmp(found.fields, expected.fields, 128) != 0)
+        fail(request, "fields");
+    if (memcmp(found.standing, expected.standing, 16) != 0)
+        fail(request, "standing");
+    if (failed == before)
+        passed++;
+    return expected;
+}
+
+void print_counts(bool all_reached)
+{
+    printf("%-13s %8s", "requests", "all");
+    for (int code = 0; code < CODES; code++)
+        printf(" %6d", code);
+    printf("\n");
+    for (int call = 0; call < CALLS; call++) {
+        unsigned long all = 0;
+        for (int code = 0; code < CODES; code++)
+            all += counts[call][code];
+        printf("%-13s %8lu", call_names[call], all);
+        for (int code = 0; code < CODES; code++)
+            if (codes[call] & CODE(code))
+                printf(" %6lu", counts[call][code]);
+            else
+                printf(" %6s", counts[call][code] == 0 ? "" : "?");
+        printf("\n");
+    }
+    for (int call = 0; call < CALLS; call++)
+        for (int code = 0; code < CODES && all_reached; code++)
+            if ((codes[call] & CODE(code)) != 0 && counts[call][code] == 0) {
+                printf("not reached: %s, code %d\n", call_names[call], code);
+                failed++;
+            }
+}
