@@ -1,115 +1,108 @@
--- The calls: a refused table's answer is the whole answer, then that of each form as given; of accepted forms the calls under a plan decide.
+-- The four calls as one: a refused table's answer is the whole answer, then that of each form as given; of accepted forms the walk decides.
 -- Assumes nothing.
 use Prim.Native.Nat.{ℕ}
-use mathlib.Core.Path.{_≡_, sym, ap, _∙_}
+use mathlib.Core.Path.{_≡_, refl, sym, ap, subst, _∙_}
 use mathlib.Core.List.{List}
 use lib.ListN.{take}
 use Rattle.octets.specs.Octets.{Bytes}
 use Rattle.history.specs.declared.Answer.{Answer}
-use Rattle.history.specs.Verdict.{Verdict, then, told, Outcome, settled}
+use Rattle.history.specs.Verdict.{Verdict, told}
 use Rattle.history.specs.Table.{Plan}
 use Rattle.history.specs.Image.{readImage}
 use Rattle.history.specs.Changes.{readList}
-use Rattle.history.specs.Calls.{readPlan, differenceCall, applyCall, joinCall, turnCall}
+use Rattle.history.specs.Calls.{differenceUnder, differenceCall, applyUnder, applyCall, joinUnder, joinCall, turnUnder, turnCall}
 use Rattle.history.proofs.CallLaws.{AcceptedImage, AcceptedList}
+use Rattle.history.proofs.OutputLaws.{Leaves, leaves-as, first-leaves}
+use Rattle.steps.specs.declared.Walk.{Walk}
 use Rattle.tables.specs.declared.answers.Outline.{Outline}
 use Rattle.tables.specs.Outlines.{planAs, Outlined}
-use Rattle.tables.proofs.AnswerLaws.{settled-first}
 use Rattle.forms.proofs.Accepted.{image-accepted, list-accepted}
-use Rattle.forms.proofs.UnderPlan.{table-settled, under-plan}
-use Rattle.changes.specs.Under.{differenceUnder, applyUnder, joinUnder, turnUnder}
-use Rattle.changes.proofs.Outcomes.{Settles, settles}
+use Rattle.forms.proofs.UnderPlan.{table-leaves, under-plan}
+use Rattle.changes.specs.Walked.{walkUnder, walkCall, firstTold, secondTold, FirstAccepted, SecondAccepted}
 
-as-settled : (v : Verdict (List ℕ)) (out : List ℕ) {r : Answer} {m : List ℕ} → settled v out ≡ record { answer = r; output = m } → Settles v out r m
-as-settled v out e = (sym (ap (λ (o : Outcome). o .answer) e), sym (ap (λ (o : Outcome). o .output) e))
+-- ---- each call is its walk's
 
--- a refused form's answer is the whole answer
-stops : {A : Type 0} (v : Verdict A) (f : A → Verdict (List ℕ)) (out : List ℕ) {r : Answer} → r ≡ told v → (r .code ≡ 0 → ⊥) → Settles (then v f) out r out
-stops v f out e n =
-    as-settled (then v f) out (settled-first v f out (λ z. n (ap (λ (a : Answer). a .code) e ∙ z)) ∙ ap (λ (a : Answer). record { answer = a; output = out }) (sym e))
+module _ (T A B : List ℕ) where
+  pub difference-call : walkCall Walk.Difference T A B ≡ differenceCall T A B
+  unfolding walkCall walkUnder differenceCall
+  difference-call = refl
+
+  pub apply-call : walkCall Walk.Apply T A B ≡ applyCall T A B
+  unfolding walkCall walkUnder applyCall
+  apply-call = refl
+
+  pub join-call : walkCall Walk.Join T A B ≡ joinCall T A B
+  unfolding walkCall walkUnder joinCall
+  join-call = refl
+
+  pub turn-call : walkCall Walk.Turn T A B ≡ turnCall T A
+  unfolding walkCall walkUnder turnCall
+  turn-call = refl
+
+-- ---- .. and what is said of a walk that is known
+
+module _ {walk w : Walk} (p : Plan) (b : List ℕ) (is : walk ≡ w) where
+  pub first-told : {r : Answer} → r ≡ firstTold w p b → r ≡ firstTold walk p b
+  first-told q = q ∙ sym (ap (λ (v : Walk). firstTold v p b) is)
+
+  pub second-told : {r : Answer} → r ≡ secondTold w p b → r ≡ secondTold walk p b
+  second-told q = q ∙ sym (ap (λ (v : Walk). secondTold v p b) is)
+
+  pub first-as : FirstAccepted walk p b → FirstAccepted w p b
+  first-as a = subst (λ (v : Walk). FirstAccepted v p b) is a
+
+  pub second-as : SecondAccepted walk p b → SecondAccepted w p b
+  second-as a = subst (λ (v : Walk). SecondAccepted v p b) is a
+
+  pub under-as : (a : List ℕ) → walkUnder w p a b ≡ walkUnder walk p a b
+  under-as a = sym (ap (λ (v : Walk). walkUnder v p a b) is)
 
 -- ---- the table
 
-module _ {T : List ℕ} {o : Outline} (k : Outlined T o) (next : Plan → Verdict (List ℕ)) (out : List ℕ) where
-  table-stops : (o .answer .code ≡ 0 → ⊥) → Settles (then (readPlan T) next) out (o .answer) out
-  table-stops n = as-settled (then (readPlan T) next) out (table-settled k n next out)
+module _ {T : List ℕ} {o : Outline} (k : Outlined T o) (walk : Walk) (A B out : List ℕ) where
+  pub table-stops : (o .answer .code ≡ 0 → ⊥) → Leaves (walkCall walk T A B) out (o .answer) out
+  unfolding walkCall
+  table-stops n = table-leaves k n (λ p. walkUnder walk p A B) out
 
-  table-goes : o .answer .code ≡ 0 → {r : Answer} {m : List ℕ} → Settles (next (planAs (o .x) (o .y) (take (o .count) (o .kinds)))) out r m
-      → Settles (then (readPlan T) next) out r m
-  table-goes z q = settles out (sym (under-plan k z next)) q
-
-module _ {T : List ℕ} {o : Outline} (k : Outlined T o) (out : List ℕ) where
-  module _ (n : o .answer .code ≡ 0 → ⊥) where
-    pub difference-stops : (A B : List ℕ) → Settles (differenceCall T A B) out (o .answer) out
-    unfolding differenceCall
-    difference-stops A B = table-stops k _ out n
-
-    pub apply-stops : (A L : List ℕ) → Settles (applyCall T A L) out (o .answer) out
-    unfolding applyCall
-    apply-stops A L = table-stops k _ out n
-
-    pub join-stops : (L M : List ℕ) → Settles (joinCall T L M) out (o .answer) out
-    unfolding joinCall
-    join-stops L M = table-stops k _ out n
-
-    pub turn-stops : (L : List ℕ) → Settles (turnCall T L) out (o .answer) out
-    unfolding turnCall
-    turn-stops L = table-stops k _ out n
-
-  module _ (z : o .answer .code ≡ 0) {r : Answer} {m : List ℕ} where
-    pub difference-goes : (A B : List ℕ) → Settles (differenceUnder (planAs (o .x) (o .y) (take (o .count) (o .kinds))) A B) out r m → Settles (differenceCall T A B) out r m
-    unfolding differenceCall differenceUnder
-    difference-goes A B q = table-goes k (λ p. differenceUnder p A B) out z q
-
-    pub apply-goes : (A L : List ℕ) → Settles (applyUnder (planAs (o .x) (o .y) (take (o .count) (o .kinds))) A L) out r m → Settles (applyCall T A L) out r m
-    unfolding applyCall applyUnder
-    apply-goes A L q = table-goes k (λ p. applyUnder p A L) out z q
-
-    pub join-goes : (L M : List ℕ) → Settles (joinUnder (planAs (o .x) (o .y) (take (o .count) (o .kinds))) L M) out r m → Settles (joinCall T L M) out r m
-    unfolding joinCall joinUnder
-    join-goes L M q = table-goes k (λ p. joinUnder p L M) out z q
-
-    pub turn-goes : (L : List ℕ) → Settles (turnUnder (planAs (o .x) (o .y) (take (o .count) (o .kinds))) L) out r m → Settles (turnCall T L) out r m
-    unfolding turnCall turnUnder
-    turn-goes L q = table-goes k (λ p. turnUnder p L) out z q
+  pub table-goes : o .answer .code ≡ 0 → {r : Answer} {m : List ℕ} → Leaves (walkUnder walk (planAs (o .x) (o .y) (take (o .count) (o .kinds))) A B) out r m
+      → Leaves (walkCall walk T A B) out r m
+  unfolding walkCall
+  table-goes z q = leaves-as out (sym (under-plan k z (λ p. walkUnder walk p A B))) q
 
 -- ---- the other forms
 
-module _ (p : Plan) (out : List ℕ) {r : Answer} where
-  module _ (A : List ℕ) (e : r ≡ told (readImage p A)) (n : r .code ≡ 0 → ⊥) where
-    pub difference-first : (B : List ℕ) → Settles (differenceUnder p A B) out r out
-    unfolding differenceUnder
-    difference-first B = stops (readImage p A) _ out e n
+module _ (p : Plan) (A B out : List ℕ) {r : Answer} where
+  pub first-stops : (walk : Walk) → r ≡ firstTold walk p A → (r .code ≡ 0 → ⊥) → Leaves (walkUnder walk p A B) out r out
+  unfolding walkUnder firstTold differenceUnder applyUnder joinUnder turnUnder
+  first-stops Walk.Difference e n = first-leaves (readImage p A) _ out e n
+  first-stops Walk.Apply e n = first-leaves (readImage p A) _ out e n
+  first-stops Walk.Join e n = first-leaves (readList p A) _ out e n
+  first-stops Walk.Turn e n = first-leaves (readList p A) _ out e n
 
-    pub difference-second : {B : List ℕ} → AcceptedImage p B → Settles (differenceUnder p B A) out r out
-    unfolding differenceUnder
-    difference-second b = rw (b .reads) (stops (readImage p A) _ out e n)
+  pub second-stops : (walk : Walk) → FirstAccepted walk p A → r ≡ secondTold walk p B → (r .code ≡ 0 → ⊥) → Leaves (walkUnder walk p A B) out r out
+  unfolding walkUnder secondTold FirstAccepted differenceUnder applyUnder joinUnder turnUnder
+  second-stops Walk.Difference a e n = rw (a .reads) (first-leaves (readImage p B) _ out e n)
+  second-stops Walk.Apply a e n = rw (a .reads) (first-leaves (readList p B) _ out e n)
+  second-stops Walk.Join l e n = rw (l .reads) (first-leaves (readList p B) _ out e n)
+  second-stops Walk.Turn l e n = absurd (n (ap (λ (a : Answer). a .code) e))
 
-    pub apply-first : (L : List ℕ) → Settles (applyUnder p A L) out r out
-    unfolding applyUnder
-    apply-first L = stops (readImage p A) _ out e n
-
-  module _ (L : List ℕ) (e : r ≡ told (readList p L)) (n : r .code ≡ 0 → ⊥) where
-    pub apply-second : {A : List ℕ} → AcceptedImage p A → Settles (applyUnder p A L) out r out
-    unfolding applyUnder
-    apply-second a = rw (a .reads) (stops (readList p L) _ out e n)
-
-    pub join-first : (M : List ℕ) → Settles (joinUnder p L M) out r out
-    unfolding joinUnder
-    join-first M = stops (readList p L) _ out e n
-
-    pub join-second : {M : List ℕ} → AcceptedList p M → Settles (joinUnder p M L) out r out
-    unfolding joinUnder
-    join-second m = rw (m .reads) (stops (readList p L) _ out e n)
-
-    pub turn-first : Settles (turnUnder p L) out r out
-    unfolding turnUnder
-    turn-first = stops (readList p L) _ out e n
-
--- an accepted form
 module _ (p : Plan) (b : List ℕ) (h : Bytes b) {r : Answer} (z : r .code ≡ 0) where
-  pub accepted-image : r ≡ told (readImage p b) → AcceptedImage p b
-  accepted-image e = image-accepted p b h (ap (λ (a : Answer). a .code) (sym e) ∙ z)
+  image : r ≡ told (readImage p b) → AcceptedImage p b
+  image e = image-accepted p b h (ap (λ (a : Answer). a .code) (sym e) ∙ z)
 
-  pub accepted-list : r ≡ told (readList p b) → AcceptedList p b
-  accepted-list e = list-accepted p b h (ap (λ (a : Answer). a .code) (sym e) ∙ z)
+  list : r ≡ told (readList p b) → AcceptedList p b
+  list e = list-accepted p b h (ap (λ (a : Answer). a .code) (sym e) ∙ z)
+
+  pub first-accepted : (walk : Walk) → r ≡ firstTold walk p b → FirstAccepted walk p b
+  unfolding firstTold FirstAccepted
+  first-accepted Walk.Difference e = image e
+  first-accepted Walk.Apply e = image e
+  first-accepted Walk.Join e = list e
+  first-accepted Walk.Turn e = list e
+
+  pub second-accepted : (walk : Walk) → r ≡ secondTold walk p b → SecondAccepted walk p b
+  unfolding secondTold SecondAccepted
+  second-accepted Walk.Difference e = image e
+  second-accepted Walk.Apply e = list e
+  second-accepted Walk.Join e = list e
+  second-accepted Walk.Turn e = tt

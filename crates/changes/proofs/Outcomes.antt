@@ -2,7 +2,7 @@
 -- Assumes nothing.
 use Prim.Native.Nat.{ℕ, _+_, _≤_, _<_}
 use native.Mathlib.Omega.{arith}
-use mathlib.Core.Path.{_≡_, refl, sym, ap, _∙_}
+use mathlib.Core.Path.{_≡_, sym, ap, _∙_}
 use mathlib.Core.Bool.{true, false}
 use mathlib.Core.List.{List}
 use lib.Dec.{eqb, leb}
@@ -10,12 +10,16 @@ use lib.ListN.{length, take, drop}
 use borrow.Author.Tests.{eq-eqb, ne-eqb, le-leb, lt-leb}
 use Rattle.octets.specs.Octets.{number}
 use Rattle.history.specs.declared.Answer.{Answer}
-use Rattle.history.specs.Verdict.{Verdict, refused, done, then, refusal, refusalAt, numbers, settled}
+use Rattle.history.specs.Verdict.{Verdict, done, then, refusal, refusalAt, numbers, told}
 use Rattle.history.specs.Image.{Image, widths, wordsBytes, imageBytes}
 use Rattle.history.specs.Changes.{Changes, listBytes}
-use Rattle.history.specs.Operations.{joined, after, zip, difference, applied, join, turned}
+use Rattle.history.specs.Calls.{differenceUnder, applyUnder, joinUnder, turnUnder}
+use Rattle.history.specs.Operations.{after, zip, resultOf, jointOf, difference, applied, join, turned}
 use Rattle.history.proofs.CallLaws.{AcceptedImage, AcceptedList}
+use Rattle.history.proofs.CodeLaws.{Coded, applied-coded, join-coded, zero-told}
 use Rattle.history.proofs.ImageLaws.{length-words}
+use Rattle.history.proofs.OperationLaws.{takes, joins}
+use Rattle.tables.proofs.AnswerLaws.{told-done, told-then}
 use Rattle.steps.specs.declared.Walk.{Walk}
 use Rattle.tables.specs.Outlines.{kindsOf, planAs}
 use Rattle.walks.specs.Walks.{misfit, renewal}
@@ -23,20 +27,11 @@ use Rattle.walks.proofs.Bridges.{difference-walk, join-walk, turn-walk, join-mi
 use Rattle.forms.proofs.KindLaws.{length-kinds}
 use Rattle.walks.proofs.Turns.{length-renewal}
 use Rattle.outputs.specs.Outputs.{walkList, imageAfter}
-use Rattle.changes.specs.Under.{differenceUnder, applyUnder, joinUnder, turnUnder}
 use Rattle.changes.proofs.Parts.{position-at, words-at, image-again, from-at, to-at, entries-at}
 
--- the answer and the output are those of a verdict
-abbrev pub Settles : Verdict (List ℕ) → List ℕ → Answer → List ℕ → Type 0
-Settles v out r m = (r ≡ settled v out .answer) × (m ≡ settled v out .output)
-
--- a refusal writes no output
-pub refuses : (v : Verdict (List ℕ)) (out : List ℕ) {code object bit : ℕ} {r : Answer} → v ≡ refused code object bit → r ≡ numbers code object bit 0 → Settles v out r out
-unfolding settled
-refuses v out e q = rw e (q, refl)
-
-pub settles : {v w : Verdict (List ℕ)} (out : List ℕ) {r : Answer} {m : List ℕ} → v ≡ w → Settles v out r m → Settles w out r m
-settles out e q = rw e at q
+-- a value that was put to use, where nothing was refused
+used-told : {A B : Type 0} (v : Verdict A) (f : A → B) → Coded v → {r : Answer} → r ≡ told (then v (λ a. done (f a))) → r .code ≡ 0 → (a : A) × (v ≡ done a)
+used-told v f c e z = zero-told v c (ap (λ (r : Answer). r .code) (sym (told-then v f) ∙ sym e) ∙ z)
 
 module _ (x y : ℕ) (ns : List ℕ) (few : length ns ≤ 1024) where
   bound : 0 + length (kindsOf ns) ≤ 65536
@@ -66,9 +61,6 @@ module _ (x y : ℕ) (ns : List ℕ) (few : length ns ≤ 1024) where
     unfolding joinUnder
     join-reads = rw (l .reads, m .reads)
 
-    joined-list : Changes
-    joined-list = record { from = l .list .from; to = m .list .to; each = zip joined (l .list .each) (m .list .each) }
-
     module _ {to from : ℕ} (et : to ≡ number (take 4 (drop 11 L))) (ef : from ≡ number (take 4 (drop 7 M))) where
       pub join-apart : (to ≡ from → ⊥) → joinUnder (planAs x y ns) L M ≡ refusal 19
       unfolding join
@@ -77,22 +69,28 @@ module _ (x y : ℕ) (ns : List ℕ) (few : length ns ≤ 1024) where
           join-reads ∙ rw t
 
       module _ (h : to ≡ from) {f s : List ℕ} (e₁ : f ≡ drop 17 L) (e₂ : s ≡ drop 17 M) {n : ℕ} (en : n ≡ misfit Walk.Join 0 (kindsOf ns) f s) where
-        join-found : joinUnder (planAs x y ns) L M ≡ then (foundAt 20 joined-list (length ns) n) (λ k. done (listBytes (planAs x y ns) k))
-        unfolding join joined-list
+        join-found : joinUnder (planAs x y ns) L M ≡ then (foundAt 20 (jointOf (l .list) (m .list)) (length ns) n) (λ k. done (listBytes (planAs x y ns) k))
+        unfolding join
         join-found =
             let t : eqb (l .list .to) (m .list .from) ≡ true = eq-eqb _ _ (sym (to-at l) ∙ sym et ∙ h ∙ ef ∙ from-at m) in
             join-reads
-            ∙ rw (t, en, e₁, e₂, entries-at l, entries-at m, join-misfit 20 joined-list 0 (length ns) (omega (arith, length-kinds ns)) (omega arith) (l .legal .each) (m .legal .each))
+            ∙ rw (t, en, e₁, e₂, entries-at l, entries-at m, join-misfit 20 (jointOf (l .list) (m .list)) 0 (length ns) (omega (arith, length-kinds ns)) (omega arith) (l .legal .each) (m .legal .each))
 
         pub join-misfits : n < length ns → joinUnder (planAs x y ns) L M ≡ refusalAt 20 n
         join-misfits k = join-found ∙ rw (lt-leb (length ns) n k)
 
-        pub join-is : length ns ≤ n → {from′ to′ : ℕ} → from′ ≡ number (take 4 (drop 7 L)) → to′ ≡ number (take 4 (drop 11 M))
-            → done (walkList Walk.Join x y ns from′ to′ f s) ≡ joinUnder (planAs x y ns) L M
-        unfolding walkList joined-list
-        join-is k ef′ et′ =
-            rw (ef′, et′, e₁, e₂, from-at l, to-at m, entries-at l, entries-at m, join-walk 0 bound (l .legal .each) (m .legal .each))
-            (sym (join-found ∙ rw (le-leb (length ns) n k)))
+        pub join-meets : length ns ≤ n → {r : Answer} → r ≡ numbers 0 65535 255 0 → r ≡ told (joinUnder (planAs x y ns) L M)
+        join-meets k e = told-done _ {a = listBytes (planAs x y ns) (jointOf (l .list) (m .list))} (join-found ∙ rw (le-leb (length ns) n k)) e
+
+    -- what is written where nothing is refused
+    pub join-is : {r : Answer} → r ≡ told (joinUnder (planAs x y ns) L M) → r .code ≡ 0 → {from to : ℕ} {f s : List ℕ}
+        → from ≡ number (take 4 (drop 7 L)) → to ≡ number (take 4 (drop 11 M)) → f ≡ drop 17 L → s ≡ drop 17 M
+        → done (walkList Walk.Join x y ns from to f s) ≡ joinUnder (planAs x y ns) L M
+    unfolding walkList
+    join-is e z ef et e₁ e₂ =
+        let d = used-told (join (l .list) (m .list)) _ (join-coded (l .list) (m .list)) (e ∙ ap told join-reads) z in
+        rw (ef, et, e₁, e₂, from-at l, to-at m, entries-at l, entries-at m, join-walk 0 bound (l .legal .each) (m .legal .each))
+        (sym (join-reads ∙ rw (d .1) (ap (λ (k : Changes). done (listBytes (planAs x y ns) k)) (joins (l .legal) (m .legal) (d .1) .result))))
 
   -- ---- application
 
@@ -101,12 +99,9 @@ module _ (x y : ℕ) (ns : List ℕ) (few : length ns ≤ 1024) where
     unfolding applyUnder
     apply-reads = rw (a .reads, l .reads)
 
-    applied-image : Image
-    applied-image = record { version = a .image .version; position = l .list .to; words = zip after (l .list .each) (a .image .words) }
-
     -- the image after the list, byte for byte
-    after-is : {e : List ℕ} {to : ℕ} → e ≡ drop 17 L → to ≡ number (take 4 (drop 11 L)) → imageAfter (kindsOf ns) A to e ≡ imageBytes (planAs x y ns) applied-image
-    unfolding applied-image imageAfter
+    after-is : {e : List ℕ} {to : ℕ} → e ≡ drop 17 L → to ≡ number (take 4 (drop 11 L)) → imageAfter (kindsOf ns) A to e ≡ imageBytes (planAs x y ns) (resultOf (l .list) (a .image))
+    unfolding imageAfter
     after-is {e} {to} ee et =
         let renewed-is : renewal 0 (kindsOf ns) e (drop 11 A) ≡ wordsBytes (kindsOf ns) (zip after (l .list .each) (a .image .words)) =
         rw (ee, entries-at l, words-at a) (renewal-is 0 bound (l .legal .each) (a .legal .words)) in
@@ -126,16 +121,24 @@ module _ (x y : ℕ) (ns : List ℕ) (few : length ns ≤ 1024) where
           ∙ rw (le-leb (a .image .position) (l .list .from) (omega (arith, position-at a, from-at l)), lt-leb (l .list .from) (a .image .position) (omega (arith, position-at a, from-at l)))
 
       module _ (h : position ≤ from) (k : from ≤ position) {f s : List ℕ} (e₁ : f ≡ drop 17 L) (e₂ : s ≡ drop 11 A) {n : ℕ} (en : n ≡ misfit Walk.Apply 0 (kindsOf ns) f s) where
-        apply-found : applyUnder (planAs x y ns) A L ≡ then (foundAt 18 applied-image (length ns) n) (λ b. done (imageBytes (planAs x y ns) b))
-        unfolding applied applied-image
+        apply-found : applyUnder (planAs x y ns) A L ≡ then (foundAt 18 (resultOf (l .list) (a .image)) (length ns) n) (λ b. done (imageBytes (planAs x y ns) b))
+        unfolding applied
         apply-found =
             let t : leb (a .image .position) (l .list .from) ≡ true = le-leb (a .image .position) (l .list .from) (omega (arith, position-at a, from-at l)) in
             let u : leb (l .list .from) (a .image .position) ≡ true = le-leb (l .list .from) (a .image .position) (omega (arith, position-at a, from-at l)) in
             apply-reads
-            ∙ rw (t, u, en, e₁, e₂, entries-at l, words-at a, apply-misfit 18 applied-image 0 (length ns) (omega (arith, length-kinds ns)) (omega arith) (l .legal .each) (a .legal .words))
+            ∙ rw (t, u, en, e₁, e₂, entries-at l, words-at a, apply-misfit 18 (resultOf (l .list) (a .image)) 0 (length ns) (omega (arith, length-kinds ns)) (omega arith) (l .legal .each) (a .legal .words))
 
         pub apply-misfits : n < length ns → applyUnder (planAs x y ns) A L ≡ refusalAt 18 n
         apply-misfits q = apply-found ∙ rw (lt-leb (length ns) n q)
 
-        pub apply-is : length ns ≤ n → {to : ℕ} → to ≡ number (take 4 (drop 11 L)) → done (imageAfter (kindsOf ns) A to f) ≡ applyUnder (planAs x y ns) A L
-        apply-is q et = ap done (after-is e₁ et) ∙ sym (apply-found ∙ rw (le-leb (length ns) n q))
+        pub apply-fits : length ns ≤ n → {r : Answer} → r ≡ numbers 0 65535 255 0 → r ≡ told (applyUnder (planAs x y ns) A L)
+        apply-fits q e = told-done _ {a = imageBytes (planAs x y ns) (resultOf (l .list) (a .image))} (apply-found ∙ rw (le-leb (length ns) n q)) e
+
+    -- what is written where nothing is refused
+    pub apply-is : {r : Answer} → r ≡ told (applyUnder (planAs x y ns) A L) → r .code ≡ 0 → {f : List ℕ} {to : ℕ} → f ≡ drop 17 L → to ≡ number (take 4 (drop 11 L))
+        → done (imageAfter (kindsOf ns) A to f) ≡ applyUnder (planAs x y ns) A L
+    apply-is e z ee et =
+        let d = used-told (applied (l .list) (a .image)) _ (applied-coded (l .list) (a .image)) (e ∙ ap told apply-reads) z in
+        ap done (after-is ee et)
+        ∙ sym (apply-reads ∙ rw (d .1) (ap (λ (b : Image). done (imageBytes (planAs x y ns) b)) (takes (l .legal) (a .legal) (d .1) .result)))

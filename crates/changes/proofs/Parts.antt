@@ -44,6 +44,10 @@ module _ {p : Plan} {A : List ℕ} (a : AcceptedImage p A) where
   pub image-length : length A ≡ 11 + widths (p .kinds)
   image-length = ap length (a .same) ∙ image-long p (a .image) ∙ ap (λ (n : ℕ). 11 + n) (length-words (a .legal .words))
 
+  -- the position is inside
+  pub image-head : 11 ≤ length A
+  image-head = omega (arith, image-length)
+
 image-front : (p : Plan) (a : Image) → take 7 (imageBytes p a) ≡ bytes 4 (7 + length (wordsBytes (p .kinds) (a .words))) ++ (a .version ∷ p .x ∷ p .y ∷ [])
 unfolding imageBytes formBytes
 image-front p a =
@@ -94,5 +98,12 @@ module _ {p : Plan} {L : List ℕ} (l : AcceptedList p L) where
   pub entries-at : drop 17 L ≡ entriesBytes 0 (p .kinds) (l .list .each)
   entries-at = ap (drop 17) (l .same) ∙ list-entries p (l .list)
 
-  pub list-length : 17 ≤ length L
-  list-length = rw (l .same) (list-long p (l .list))
+  -- the positions and the count are inside
+  pub list-head : 17 ≤ length L
+  list-head = rw (l .same) (list-long p (l .list))
+
+  pub from-inside : 11 ≤ length L
+  from-inside = omega (arith, list-head)
+
+  pub to-inside : 15 ≤ length L
+  to-inside = omega (arith, list-head)

@@ -1,1 +1,1 @@
-pub mod Under
+pub mod Walked

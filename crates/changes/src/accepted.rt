@@ -1,18 +1,44 @@
 // Where the forms are accepted: what is left to test are positions and values, in the paper's order, and the room last.
 use history::Answer;
 use steps::Walk;
+use tables::accepted;
 use tables::refused;
 use tables::refused_at;
 ghost use mathlib.Core.Path.{_≡_};
 ghost use Prim.Native.Nat.{_≤_};
 ghost use lib.ListN.{length, drop};
-ghost use Rattle.history.specs.Verdict.{settled};
+ghost use Rattle.history.specs.Verdict.{told, settled};
+ghost use Rattle.history.specs.Calls.{differenceUnder, applyUnder, joinUnder, turnUnder};
 ghost use Rattle.history.proofs.CallLaws.{AcceptedImage, AcceptedList};
 ghost use Rattle.tables.specs.Outlines.{planAs};
-ghost use Rattle.changes.specs.Under.{differenceUnder, applyUnder, joinUnder, turnUnder};
+ghost use Rattle.changes.specs.Walked.{walkUnder, FirstAccepted, SecondAccepted};
+
+// By what is walked for.
+pub fn write(
+    walk: Walk,
+    x: u8,
+    y: u8,
+    kinds: &[u8],
+    first: &[u8],
+    second: &[u8],
+    out: &mut [u8],
+) -> Answer
+    requires { ⌜ length (now kinds) ≤ 1024 ⌝ }
+    requires { ⌜ FirstAccepted walk (planAs x y (now kinds)) (now first) ⌝ }
+    requires { ⌜ SecondAccepted walk (planAs x y (now kinds)) (now second) ⌝ }
+    ensures { λ r. ⌜ r ≡ settled (walkUnder walk (planAs x y (now (kinds .entry))) (now (first .entry)) (now (second .entry))) (now (out .entry)) .answer ⌝ }
+    ensures { λ _. ⌜ now (out .exit) ≡ settled (walkUnder walk (planAs x y (now (kinds .entry))) (now (first .entry)) (now (second .entry))) (now (out .entry)) .output ⌝ }
+{
+    match walk {
+        Walk::Difference => write_difference(x, y, kinds, first, second, out),
+        Walk::Apply => write_applied(x, y, kinds, first, second, out),
+        Walk::Join => write_joined(x, y, kinds, first, second, out),
+        Walk::Turn => write_turned(x, y, kinds, first, out),
+    }
+}
 
 // The list from image a to image b.
-pub fn write_difference(x: u8, y: u8, kinds: &[u8], a: &[u8], b: &[u8], out: &mut [u8]) -> Answer
+fn write_difference(x: u8, y: u8, kinds: &[u8], a: &[u8], b: &[u8], out: &mut [u8]) -> Answer
     requires { ⌜ length (now kinds) ≤ 1024 ⌝ }
     requires { ⌜ AcceptedImage (planAs x y (now kinds)) (now a) ⌝ }
     requires { ⌜ AcceptedImage (planAs x y (now kinds)) (now b) ⌝ }
@@ -35,68 +61,50 @@ pub fn write_difference(x: u8, y: u8, kinds: &[u8], a: &[u8], b: &[u8], out: &mu
 }
 
 // The image after the list: 16, 17, 18.
-pub fn write_applied(
-    x: u8,
-    y: u8,
-    kinds: &[u8],
-    image: &[u8],
-    list: &[u8],
-    out: &mut [u8],
-) -> Answer
+fn write_applied(x: u8, y: u8, kinds: &[u8], image: &[u8], list: &[u8], out: &mut [u8]) -> Answer
     requires { ⌜ length (now kinds) ≤ 1024 ⌝ }
     requires { ⌜ AcceptedImage (planAs x y (now kinds)) (now image) ⌝ }
     requires { ⌜ AcceptedList (planAs x y (now kinds)) (now list) ⌝ }
     ensures { λ r. ⌜ r ≡ settled (applyUnder (planAs x y (now (kinds .entry))) (now (image .entry)) (now (list .entry))) (now (out .entry)) .answer ⌝ }
     ensures { λ _. ⌜ now (out .exit) ≡ settled (applyUnder (planAs x y (now (kinds .entry))) (now (image .entry)) (now (list .entry))) (now (out .entry)) .output ⌝ }
 {
-    let position = octets::get_at(image, 7, 4);
-    let from = octets::get_at(list, 7, 4);
-    if from < position {
-        return refused(16);
-    }
-    if position < from {
-        return refused(17);
-    }
-    let entries = entries_of(list);
-    let object = walks::find_misfit(Walk::Apply, kinds, entries, elements_of(image));
-    if object < kinds.len() {
-        return refused_at(18, object as u16);
+    let answer = check_applies(x, y, kinds, image, list);
+    if answer.code != 0 {
+        return answer;
     }
     let to = octets::get_at(list, 11, 4);
-    outputs::write_image(kinds, image, to, entries, out)
+    outputs::write_image(kinds, image, to, entries_of(list), out)
 }
 
 // The join of two lists: 19, 20.
-pub fn write_joined(
-    x: u8,
-    y: u8,
-    kinds: &[u8],
-    first: &[u8],
-    second: &[u8],
-    out: &mut [u8],
-) -> Answer
+fn write_joined(x: u8, y: u8, kinds: &[u8], first: &[u8], second: &[u8], out: &mut [u8]) -> Answer
     requires { ⌜ length (now kinds) ≤ 1024 ⌝ }
     requires { ⌜ AcceptedList (planAs x y (now kinds)) (now first) ⌝ }
     requires { ⌜ AcceptedList (planAs x y (now kinds)) (now second) ⌝ }
     ensures { λ r. ⌜ r ≡ settled (joinUnder (planAs x y (now (kinds .entry))) (now (first .entry)) (now (second .entry))) (now (out .entry)) .answer ⌝ }
     ensures { λ _. ⌜ now (out .exit) ≡ settled (joinUnder (planAs x y (now (kinds .entry))) (now (first .entry)) (now (second .entry))) (now (out .entry)) .output ⌝ }
 {
-    if octets::get_at(first, 11, 4) != octets::get_at(second, 7, 4) {
-        return refused(19);
-    }
-    let earlier = entries_of(first);
-    let later = entries_of(second);
-    let object = walks::find_misfit(Walk::Join, kinds, earlier, later);
-    if object < kinds.len() {
-        return refused_at(20, object as u16);
+    let answer = check_joins(x, y, kinds, first, second);
+    if answer.code != 0 {
+        return answer;
     }
     let from = octets::get_at(first, 7, 4);
     let to = octets::get_at(second, 11, 4);
-    outputs::write_list(Walk::Join, x, y, kinds, from, to, earlier, later, out)
+    outputs::write_list(
+        Walk::Join,
+        x,
+        y,
+        kinds,
+        from,
+        to,
+        entries_of(first),
+        entries_of(second),
+        out,
+    )
 }
 
 // The list turned back. The walk looks at one list only.
-pub fn write_turned(x: u8, y: u8, kinds: &[u8], list: &[u8], out: &mut [u8]) -> Answer
+fn write_turned(x: u8, y: u8, kinds: &[u8], list: &[u8], out: &mut [u8]) -> Answer
     requires { ⌜ length (now kinds) ≤ 1024 ⌝ }
     requires { ⌜ AcceptedList (planAs x y (now kinds)) (now list) ⌝ }
     ensures { λ r. ⌜ r ≡ settled (turnUnder (planAs x y (now (kinds .entry))) (now (list .entry))) (now (out .entry)) .answer ⌝ }
@@ -115,6 +123,47 @@ pub fn write_turned(x: u8, y: u8, kinds: &[u8], list: &[u8], out: &mut [u8]) -> 
         &list[0..0],
         out,
     )
+}
+
+// Whether the list applies to the image: 16, 17, 18.
+fn check_applies(x: u8, y: u8, kinds: &[u8], image: &[u8], list: &[u8]) -> Answer
+    requires { ⌜ length (now kinds) ≤ 1024 ⌝ }
+    requires { ⌜ AcceptedImage (planAs x y (now kinds)) (now image) ⌝ }
+    requires { ⌜ AcceptedList (planAs x y (now kinds)) (now list) ⌝ }
+    ensures { λ r. ⌜ r ≡ told (applyUnder (planAs x y (now (kinds .entry))) (now (image .entry)) (now (list .entry))) ⌝ }
+{
+    let position = octets::get_at(image, 7, 4);
+    let from = octets::get_at(list, 7, 4);
+    if from < position {
+        return refused(16);
+    }
+    if position < from {
+        return refused(17);
+    }
+    let object = walks::find_misfit(Walk::Apply, kinds, entries_of(list), elements_of(image));
+    if object < kinds.len() {
+        return refused_at(18, object as u16);
+    }
+    accepted()
+}
+
+// Whether the second list goes on where the first ends: 19, 20.
+fn check_joins(x: u8, y: u8, kinds: &[u8], first: &[u8], second: &[u8]) -> Answer
+    requires { ⌜ length (now kinds) ≤ 1024 ⌝ }
+    requires { ⌜ AcceptedList (planAs x y (now kinds)) (now first) ⌝ }
+    requires { ⌜ AcceptedList (planAs x y (now kinds)) (now second) ⌝ }
+    ensures { λ r. ⌜ r ≡ told (joinUnder (planAs x y (now (kinds .entry))) (now (first .entry)) (now (second .entry))) ⌝ }
+{
+    let to = octets::get_at(first, 11, 4);
+    let from = octets::get_at(second, 7, 4);
+    if to != from {
+        return refused(19);
+    }
+    let object = walks::find_misfit(Walk::Join, kinds, entries_of(first), entries_of(second));
+    if object < kinds.len() {
+        return refused_at(20, object as u16);
+    }
+    accepted()
 }
 
 // An image's elements.

@@ -9,7 +9,7 @@ use borrow.Author.Tests.{eq-eqb, ne-eqb}
 use lib.Dec.{eqb}
 use lib.ListN.{replicate}
 use Rattle.rows.specs.Table.{rowTotal, rowsFrom}
-use Rattle.rows.specs.Fields.{refusal, checkRows, valuesOf, composeOf, padded, onFinding, fieldsRead}
+use Rattle.rows.specs.Fields.{codeAt, checkRows, valuesOf, composeOf, padded, onFinding, fieldsRead}
 use Rattle.rows.specs.declared.Refusal.{Refusal}
 use Rattle.rows.specs.declared.Fields.{Fields}
 use Rattle.rows.specs.declared.Finding.{Finding}
@@ -24,7 +24,7 @@ use Rattle.elements.proofs.Laws.{word-small, compose-padded}
 
 -- the rule of DAT by its three tests
 dat : Bool → Bool → Bool → Finding
-dat has one none = cond has (cond one Finding.Accepted (cond none Finding.Accepted (Finding.Refused (refusal 12 0)))) Finding.Accepted
+dat has one none = cond has (cond one Finding.Accepted (cond none Finding.Accepted (Finding.Refused (codeAt 12 0)))) Finding.Accepted
 
 module _ (k : Kind) (w : ℕ) (l : Layout) (is : l ≡ layoutOf k) where
   tested : {has one none : Bool} → l .dat ≡ has → eqb (w % 2) 1 ≡ one → eqb w 0 ≡ none → dat has one none ≡ datRule k w
@@ -43,7 +43,7 @@ module _ (k : Kind) (w : ℕ) (l : Layout) (is : l ≡ layoutOf k) where
   unfolding dat
   dat-none e h z = tested e (ne-eqb _ _ h) (eq-eqb _ _ z)
 
-  pub dat-stale : l .dat ≡ true → (w % 2 ≡ 1 → ⊥) → (w ≡ 0 → ⊥) → Finding.Refused (refusal 12 0) ≡ datRule k w
+  pub dat-stale : l .dat ≡ true → (w % 2 ≡ 1 → ⊥) → (w ≡ 0 → ⊥) → Finding.Refused (codeAt 12 0) ≡ datRule k w
   unfolding dat
   dat-stale e h z = tested e (ne-eqb _ _ h) (ne-eqb _ _ z)
 

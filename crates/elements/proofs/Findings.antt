@@ -8,7 +8,7 @@ use Prim.Native.Nat.{ℕ, _%_, _≤_}
 use native.Mathlib.Omega.{arith}
 use lib.Dec.{eqb, leb}
 use Rattle.rows.specs.Table.{Row}
-use Rattle.rows.specs.Fields.{refusal, fieldOf, orElse, checkRows, onFinding}
+use Rattle.rows.specs.Fields.{codeAt, fieldOf, orElse, checkRows, onFinding}
 use Rattle.rows.specs.declared.Field.{Field}
 use Rattle.rows.specs.declared.Finding.{Finding}
 use Rattle.rows.proofs.Listed.{zero-accepted}
@@ -20,7 +20,7 @@ use Rattle.elements.proofs.Laws.{state-check}
 
 -- the rule about DAT by its tests
 dat : Bool → Bool → Bool → Finding
-dat has one none = cond has (cond one Finding.Accepted (cond none Finding.Accepted (Finding.Refused (refusal 12 0)))) Finding.Accepted
+dat has one none = cond has (cond one Finding.Accepted (cond none Finding.Accepted (Finding.Refused (codeAt 12 0)))) Finding.Accepted
 
 dat-is : (k : Kind) (w : ℕ) → datRule k w ≡ dat (layoutOf k .dat) (eqb (w % 2) 1) (eqb w 0)
 unfolding dat datRule
@@ -32,7 +32,7 @@ Found Finding.Accepted = Unit {0}
 Found (Finding.Refused r) = (10 ≤ r .code) × (r .code ≤ 12)
 
 field-found : (listed reserved : Bool) (v low : ℕ) (rest : Finding) → Found rest
-    → Found (orElse (cond listed (Field.Value v) (Field.Refused (refusal (cond reserved 10 11) low))) rest)
+    → Found (orElse (cond listed (Field.Value v) (Field.Refused (codeAt (cond reserved 10 11) low))) rest)
 field-found true reserved v low rest h = h
 field-found false true v low rest h = (omega arith, omega arith)
 field-found false false v low rest h = (omega arith, omega arith)
@@ -67,12 +67,12 @@ unfolding elementCheck
 zero-found k = rw (zero-accepted (rowsOf k), dat-is k 0) (dat-zero (layoutOf k .dat))
 
 -- a state is accepted, or is without data with another field not 0
-dat-either : (has one none : Bool) → (dat has one none ≡ Finding.Accepted) ⊎ (dat has one none ≡ Finding.Refused (refusal 12 0))
+dat-either : (has one none : Bool) → (dat has one none ≡ Finding.Accepted) ⊎ (dat has one none ≡ Finding.Refused (codeAt 12 0))
 unfolding dat
 dat-either false one none = inl refl
 dat-either true true none = inl refl
 dat-either true false true = inl refl
 dat-either true false false = inr refl
 
-pub state-found : (e : Element) → (elementCheck (kindIn e) (wordOf e) ≡ Finding.Accepted) ⊎ (elementCheck (kindIn e) (wordOf e) ≡ Finding.Refused (refusal 12 0))
+pub state-found : (e : Element) → (elementCheck (kindIn e) (wordOf e) ≡ Finding.Accepted) ⊎ (elementCheck (kindIn e) (wordOf e) ≡ Finding.Refused (codeAt 12 0))
 state-found e = rw (state-check e, dat-is (kindIn e) (wordOf e)) (dat-either (layoutOf (kindIn e) .dat) (eqb (wordOf e % 2) 1) (eqb (wordOf e) 0))

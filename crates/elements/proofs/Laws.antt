@@ -21,7 +21,7 @@ use Rattle.elements.proofs.Covering.{cover}
 use Rattle.kinds.proofs.KindLaws.{element-listed, element-back, element-kind, zero-state}
 
 -- the values of any state are such as its rows admit
-state-within : (e : Element) → Within (rowsOf (kindIn e)) (elementValues e)
+pub state-within : (e : Element) → Within (rowsOf (kindIn e)) (elementValues e)
 state-within e =
     subst (Within (rowsOf (kindIn e)))
     (sym (element-listed (kindIn e) (padded (elementValues e))) ∙ ap elementValues (element-back e))

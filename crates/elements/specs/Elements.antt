@@ -3,7 +3,7 @@
 use mathlib.Core.Bool.{Bool, true, false, cond}
 use Prim.Native.Nat.{ℕ, _%_}
 use lib.Dec.{eqb}
-use Rattle.rows.specs.Fields.{refusal, checkRows, valuesOf, composeOf, padded, onFinding}
+use Rattle.rows.specs.Fields.{codeAt, checkRows, valuesOf, composeOf, padded, onFinding}
 use Rattle.rows.specs.declared.Finding.{Finding}
 use Rattle.kinds.specs.Kinds.{layoutOf, layoutNo, rowsOf, sortNumbered, elementOf, elementValues, kindIn}
 use Rattle.kinds.specs.declared.Kind.{Kind}
@@ -44,7 +44,7 @@ sameKind j k = eqb (layoutNo j) (layoutNo k)
 unfoldable pub datRule : Kind → ℕ → Finding
 datRule k w =
     cond (layoutOf k .dat)
-    (cond (eqb (w % 2) 1) Finding.Accepted (cond (eqb w 0) Finding.Accepted (Finding.Refused (refusal 12 0))))
+    (cond (eqb (w % 2) 1) Finding.Accepted (cond (eqb w 0) Finding.Accepted (Finding.Refused (codeAt 12 0))))
     Finding.Accepted
 
 -- fields from bit 0 up, then 12

@@ -2,7 +2,7 @@
 -- Assumes nothing.
 use mathlib.Core.List.{List, [], _∷_, map}
 use Prim.Native.Nat.{ℕ}
-use Rattle.rows.specs.Fields.{refusal}
+use Rattle.rows.specs.Fields.{codeAt}
 use Rattle.rows.specs.declared.Finding.{Finding}
 use Rattle.elements.specs.Elements.{elementCheck}
 use Rattle.kinds.specs.declared.Kind.{Kind}
@@ -16,7 +16,7 @@ abbrev accepted : Kind → ℕ → Known
 accepted k w = record { kind = k; word = w; finding = Finding.Accepted }
 
 abbrev refused : Kind → ℕ → ℕ → ℕ → Known
-refused k w code bit = record { kind = k; word = w; finding = Finding.Refused (refusal code bit) }
+refused k w code bit = record { kind = k; word = w; finding = Finding.Refused (codeAt code bit) }
 
 abbrev pub known : List Known
 known =

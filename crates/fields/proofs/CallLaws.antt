@@ -18,11 +18,12 @@ use Rattle.kinds.specs.declared.Sort.{Sort}
 use Rattle.kinds.proofs.KindLaws.{kind-found, element-kind}
 use Rattle.elements.specs.Elements.{sameKind, wordOf}
 use Rattle.history.specs.declared.Answer.{Answer}
-use Rattle.history.specs.Verdict.{Verdict, refused, done, then, refusalAt, _unless_⨾_, numbers, told, settled}
+use Rattle.history.specs.Verdict.{Verdict, refused, done, then, refusalAt, _unless_⨾_, numbers, told}
 use Rattle.history.specs.Table.{Plan, kindAt}
 use Rattle.history.specs.Image.{Image, element, _of_⨾_, imageBytes, readImage}
-use Rattle.history.specs.Calls.{readPlan, placed, stateAt, readStateCall, writeStateCall}
+use Rattle.history.specs.Calls.{readPlan, placed, stateAt, readStateUnder, readStateCall, checkState, writeStateUnder, writeStateCall}
 use Rattle.history.proofs.ElementLaws.{state-kind}
+use Rattle.history.proofs.OutputLaws.{Leaves, leaves-as, refused-leaves}
 use Rattle.panel.specs.Readings.{readingOf}
 use Rattle.fields.specs.declared.Plain.{Plain}
 use Rattle.fields.specs.Fields.{shownOf, plainOf, valuesIn, named}
@@ -30,13 +31,12 @@ use Rattle.fields.specs.Calls.{writeFieldsCall, stateRefused}
 
 -- ---- a refusal that is told is settled, and the output stays
 
-pub record Refuses (v : Verdict (List ℕ)) : Type 0 where
-  pub answer : (out : List ℕ) → told v ≡ settled v out .answer
-  pub output : (out : List ℕ) → out ≡ settled v out .output
+abbrev pub Refuses : Verdict (List ℕ) → Type 0
+Refuses v = (out : List ℕ) → Leaves v out (told v) out
 
 refuses : (code object bit : ℕ) → Refuses (refused code object bit)
-unfolding told settled
-refuses code object bit = record { answer = λ out. refl; output = λ out. refl }
+unfolding told
+refuses code object bit out = refused-leaves (refused code object bit) out refl refl
 
 all-refuse : (f : Element → Verdict (List ℕ)) (v : Verdict Element) → ((s : Element) → Refuses (f s)) → Refuses (then v f)
 all-refuse f (refused code object bit) h = refuses code object bit
@@ -169,40 +169,36 @@ module _ (t a : List ℕ) (i number : ℕ) (fields : List ℕ) (position : ℕ) 
       (only valued (λ k. refused (r .code) i (r .bit)) e (ap (λ (v : Finding). v of i ⨾ writeStateCall t a i (elementOf k (valuesIn k fields)) position) f))
 
   -- 22 once or twice
-  twice : (r x : Verdict (List ℕ)) (b : Bool) → (r unless b ⨾ (r unless b ⨾ x)) ≡ (r unless b ⨾ x)
-  twice r x true = refl
-  twice r x false = refl
+  twice : (v : Verdict ℕ) (f : ℕ → Verdict (List ℕ)) (b : Bool) → (refusalAt 22 i unless b ⨾ then (refusalAt 22 i unless b ⨾ v) f) ≡ then (refusalAt 22 i unless b ⨾ v) f
+  twice v f true = refl
+  twice v f false = refl
 
-  -- what is left of writing after 13
-  abbrev rest : Element → Plan → Image → Verdict (List ℕ)
-  rest e p m =
-      refusalAt 22 i unless sameKind (kindIn e) (kindAt (p .kinds) i) ⨾
-      element (kindAt (p .kinds) i) (wordOf e) of i ⨾
-      done (imageBytes p (placed m i (wordOf e) position))
+  -- 22 and the element's check
+  abbrev checked : Element → Kind → Verdict ℕ
+  checked e k = refusalAt 22 i unless sameKind (kindIn e) k ⨾ element k (wordOf e) of i ⨾ done (wordOf e)
 
   -- writing refuses first what reading refuses, then 22
   after-reading : (e : Element) → then (readStateCall t a i) (λ was. refusalAt 22 i unless sameKind (kindIn e) (kindIn was) ⨾ writeStateCall t a i e position) ≡ writeStateCall t a i e position
-  unfolding readStateCall writeStateCall
+  unfolding readStateCall readStateUnder writeStateCall writeStateUnder checkState
   after-reading e = planned (readPlan t)
     where
-      numbered : (p : Plan) (m : Image) (b : Bool)
-          → then (refusalAt 13 i unless b ⨾ done (stateAt p m i)) (λ was. refusalAt 22 i unless sameKind (kindIn e) (kindIn was) ⨾ (refusalAt 13 i unless b ⨾ rest e p m)) ≡ (refusalAt 13 i unless b ⨾ rest e p m)
-      numbered p m false = refl
-      numbered p m true =
-          ap (λ (k : Kind). refusalAt 22 i unless sameKind (kindIn e) k ⨾ rest e p m) (state-kind (kindAt (p .kinds) i) (getD (m .words) i 0))
-          ∙ twice (refusalAt 22 i) _ (sameKind (kindIn e) (kindAt (p .kinds) i))
+      numbered : (s : Element) (k : Kind) (f : ℕ → Verdict (List ℕ)) (b : Bool) → kindIn s ≡ k
+          → then (refusalAt 13 i unless b ⨾ done s) (λ was. refusalAt 22 i unless sameKind (kindIn e) (kindIn was) ⨾ then (refusalAt 13 i unless b ⨾ checked e k) f)
+          ≡ then (refusalAt 13 i unless b ⨾ checked e k) f
+      numbered s k f false q = refl
+      numbered s k f true q =
+          ap (λ (j : Kind). refusalAt 22 i unless sameKind (kindIn e) j ⨾ then (checked e k) f) q ∙ twice (element k (wordOf e) of i ⨾ done (wordOf e)) f (sameKind (kindIn e) k)
 
       imaged : (p : Plan) (v : Verdict Image)
           → then (then v λ m. refusalAt 13 i unless ltb i (length (p .kinds)) ⨾ done (stateAt p m i))
-          (λ was. refusalAt 22 i unless sameKind (kindIn e) (kindIn was) ⨾ then v λ m. refusalAt 13 i unless ltb i (length (p .kinds)) ⨾ rest e p m)
-          ≡ (then v λ m. refusalAt 13 i unless ltb i (length (p .kinds)) ⨾ rest e p m)
+          (λ was. refusalAt 22 i unless sameKind (kindIn e) (kindIn was) ⨾ then v λ m. then (checkState (p .kinds) i e) λ w. done (imageBytes p (placed m i w position)))
+          ≡ (then v λ m. then (checkState (p .kinds) i e) λ w. done (imageBytes p (placed m i w position)))
       imaged p (refused code object bit) = refl
-      imaged p (done m) = numbered p m (ltb i (length (p .kinds)))
+      imaged p (done m) = numbered (stateAt p m i) (kindAt (p .kinds) i) _ (ltb i (length (p .kinds))) (state-kind (kindAt (p .kinds) i) (getD (m .words) i 0))
 
       planned : (v : Verdict Plan)
-          → then (then v λ p. then (readImage p a) λ m. refusalAt 13 i unless ltb i (length (p .kinds)) ⨾ done (stateAt p m i))
-          (λ was. refusalAt 22 i unless sameKind (kindIn e) (kindIn was) ⨾ then v λ p. then (readImage p a) λ m. refusalAt 13 i unless ltb i (length (p .kinds)) ⨾ rest e p m)
-          ≡ (then v λ p. then (readImage p a) λ m. refusalAt 13 i unless ltb i (length (p .kinds)) ⨾ rest e p m)
+          → then (then v λ p. readStateUnder p a i) (λ was. refusalAt 22 i unless sameKind (kindIn e) (kindIn was) ⨾ then v λ p. writeStateUnder p a i e position)
+          ≡ (then v λ p. writeStateUnder p a i e position)
       planned (refused code object bit) = refl
       planned (done p) = imaged p (readImage p a)
 
@@ -219,9 +215,5 @@ module _ (t a : List ℕ) (i number : ℕ) (fields : List ℕ) (position : ℕ) 
 
 -- ---- what is settled
 
-module _ {v w : Verdict (List ℕ)} (e : v ≡ w) where
-  pub refused-settles : Refuses w → (out : List ℕ) {r : Answer} → r ≡ told w → (r ≡ settled v out .answer) × (out ≡ settled v out .output)
-  refused-settles q out t = (t ∙ q .answer out ∙ sym (ap (λ (v : Verdict (List ℕ)). settled v out .answer) e), q .output out ∙ sym (ap (λ (v : Verdict (List ℕ)). settled v out .output) e))
-
-  pub written-settles : (out : List ℕ) {r : Answer} {m : List ℕ} → (r ≡ settled w out .answer) × (m ≡ settled w out .output) → (r ≡ settled v out .answer) × (m ≡ settled v out .output)
-  written-settles out q = (q .0 ∙ sym (ap (λ (v : Verdict (List ℕ)). settled v out .answer) e), q .1 ∙ sym (ap (λ (v : Verdict (List ℕ)). settled v out .output) e))
+pub refused-settles : {v w : Verdict (List ℕ)} → v ≡ w → Refuses w → (out : List ℕ) {r : Answer} → r ≡ told w → Leaves v out r out
+refused-settles e q out t = leaves-as out (sym e) (rw t (q out))

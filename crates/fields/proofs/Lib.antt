@@ -1,3 +1,4 @@
 pub mod Loops
 pub mod CallLaws
 pub mod OneOutcome
+pub mod RoundTrip

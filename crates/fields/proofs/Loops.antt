@@ -13,7 +13,7 @@ use lib.ListN.{length, getD, set, drop, replicate, length-append}
 use lib.Seq.{append-snoc, drop-cons}
 use borrow.Author.Tests.{eq-eqb, ne-eqb, le-leb, lt-leb}
 use Rattle.rows.specs.Table.{Row, rowAt, rowsFrom}
-use Rattle.rows.specs.Fields.{refusal, padded}
+use Rattle.rows.specs.Fields.{codeAt, filled, padded}
 use Rattle.rows.specs.declared.Finding.{Finding}
 use Rattle.rows.specs.Covering.{layoutRows}
 use Rattle.rows.specs.declared.Layout.{Layout}
@@ -23,7 +23,7 @@ use Rattle.kinds.specs.declared.Element.{Element}
 use Rattle.history.specs.declared.Answer.{Answer}
 use Rattle.history.specs.Verdict.{numbers}
 use Rattle.rows.proofs.Loops.{fill-store, rows-next}
-use Rattle.fields.specs.Fields.{shown, filled, shownIn, shownOf, spread, named}
+use Rattle.fields.specs.Fields.{shown, shownIn, shownOf, spread, named}
 use Rattle.fields.specs.declared.Plain.{Plain}
 use Rattle.fields.specs.declared.walk.Shown.{Shown}
 
@@ -55,7 +55,7 @@ pub record Showing (first count : ℕ) (vs fields : List ℕ) (n k : ℕ) : Type
   pub bound : k ≤ count
   pub below : n ≤ k
   pub size : n ≡ length (shown (rowsFrom first k) vs)
-  pub so-far : fields ≡ filled (shown (rowsFrom first k) vs)
+  pub so-far : fields ≡ filled 32 (shown (rowsFrom first k) vs)
 
 pub showing : (first count : ℕ) (vs : List ℕ) → Showing first count vs (replicate 32 0) 0 0
 showing first count vs = record { bound = omega arith; below = omega arith; size = refl; so-far = refl }
@@ -79,7 +79,7 @@ module _ {first count : ℕ} {vs fields : List ℕ} {n k : ℕ} (s : Showing fir
         bound = omega arith;
         below = omega (arith, s .below);
         size = s .size ∙ ap length (sym e);
-        so-far = s .so-far ∙ ap filled (sym e);
+        so-far = s .so-far ∙ ap (filled 32) (sym e);
       }
 
   pub shows : (rowAt (first + k) .top ≡ 0 → ⊥) → count ≤ 24 → Showing first count vs (set fields n (getD vs k 0)) (n + 1) (k + 1)
@@ -94,7 +94,7 @@ module _ {first count : ℕ} {vs fields : List ℕ} {n k : ℕ} (s : Showing fir
         so-far =
             ap₂ (λ (l : List ℕ) (i : ℕ). set l i x) (s .so-far) (s .size)
             ∙ fill-store 32 xs x (omega (arith, s .size, s .below))
-            ∙ ap filled (sym e);
+            ∙ ap (filled 32) (sym e);
       }
 
   -- a row with a field or without
@@ -108,7 +108,7 @@ pub shown-all : {first count : ℕ} {vs fields : List ℕ} {n k : ℕ} → Showi
 shown-all {first} {count} {vs} {fields} {n} {k} s h =
     let e : k ≡ count = omega (arith, s .bound) in
     let size = s .size ∙ ap (λ (j : ℕ). length (shown (rowsFrom first j) vs)) e in
-    let so-far = s .so-far ∙ ap (λ (j : ℕ). filled (shown (rowsFrom first j) vs)) e in
+    let so-far = s .so-far ∙ ap (λ (j : ℕ). filled 32 (shown (rowsFrom first j) vs)) e in
     λ i. record { count = size i; fields = so-far i }
 
 -- of a state
@@ -263,7 +263,7 @@ module _ {first count : ℕ} {vs : List ℕ} {k : ℕ} (s : Checking first count
   rest : Finding
   rest = named (rowsFrom (first + (k + 1)) (count - (k + 1))) (drop (k + 1) vs)
 
-  next-named : named (rowsFrom first count) vs ≡ cond (leb (getD vs k 0) (rowAt (first + k) .top)) rest (Finding.Refused (refusal 11 (rowAt (first + k) .low)))
+  next-named : named (rowsFrom first count) vs ≡ cond (leb (getD vs k 0) (rowAt (first + k) .top)) rest (Finding.Refused (codeAt 11 (rowAt (first + k) .low)))
   unfolding rest
   next-named =
       s .to-come
@@ -274,11 +274,11 @@ module _ {first count : ℕ} {vs : List ℕ} {k : ℕ} (s : Checking first count
   goes-on l =
       record {
         bound = omega arith;
-        to-come = next-named ∙ ap (λ (b : Bool). cond b rest (Finding.Refused (refusal 11 (rowAt (first + k) .low)))) (le-leb (getD vs k 0) (rowAt (first + k) .top) l);
+        to-come = next-named ∙ ap (λ (b : Bool). cond b rest (Finding.Refused (codeAt 11 (rowAt (first + k) .low)))) (le-leb (getD vs k 0) (rowAt (first + k) .top) l);
       }
 
-  pub stops : rowAt (first + k) .top < getD vs k 0 → named (rowsFrom first count) vs ≡ Finding.Refused (refusal 11 (rowAt (first + k) .low))
-  stops l = next-named ∙ ap (λ (b : Bool). cond b rest (Finding.Refused (refusal 11 (rowAt (first + k) .low)))) (lt-leb (getD vs k 0) (rowAt (first + k) .top) l)
+  pub stops : rowAt (first + k) .top < getD vs k 0 → named (rowsFrom first count) vs ≡ Finding.Refused (codeAt 11 (rowAt (first + k) .low))
+  stops l = next-named ∙ ap (λ (b : Bool). cond b rest (Finding.Refused (codeAt 11 (rowAt (first + k) .low)))) (lt-leb (getD vs k 0) (rowAt (first + k) .top) l)
 
 pub checked : {first count : ℕ} {vs : List ℕ} {k : ℕ} → Checking first count vs k → count ≤ k → named (rowsFrom first count) vs ≡ Finding.Accepted
 checked {first} {count} {vs} {k} s h =

@@ -1,12 +1,12 @@
 -- A state's fields as numbers: the values that are not reserved, from bit 0 up, in the first of 32 places, zeros behind them.
 -- Assumes nothing.
-use Prim.Native.Nat.{ℕ, _-_}
+use Prim.Native.Nat.{ℕ}
 use mathlib.Core.Bool.{cond}
-use mathlib.Core.List.{List, [], _∷_, _++_}
+use mathlib.Core.List.{List, [], _∷_}
 use lib.Dec.{leb, eqb}
 use lib.ListN.{length, replicate, getD, drop}
 use Rattle.rows.specs.Table.{Row}
-use Rattle.rows.specs.Fields.{refusal, padded}
+use Rattle.rows.specs.Fields.{codeAt, filled, padded}
 use Rattle.rows.specs.declared.Finding.{Finding}
 use Rattle.kinds.specs.Kinds.{layoutNo, rowsOf, kindIn, elementValues}
 use Rattle.kinds.specs.declared.Kind.{Kind}
@@ -24,11 +24,8 @@ shown [] vs = []
 shown (r ∷ rs) [] = []
 shown (r ∷ rs) (v ∷ vs) = cond (eqb (r .top) 0) (shown rs vs) (v ∷ shown rs vs)
 
-abbrev pub filled : List ℕ → List ℕ
-filled vs = vs ++ replicate (32 - length vs) 0
-
 abbrev pub shownIn : List Row → List ℕ → Shown
-shownIn rs vs = record { count = length (shown rs vs); fields = filled (shown rs vs) }
+shownIn rs vs = record { count = length (shown rs vs); fields = filled 32 (shown rs vs) }
 
 abbrev pub fieldsOf : Element → Shown
 fieldsOf e = shownIn (rowsOf (kindIn e)) (padded (elementValues e))
@@ -56,4 +53,4 @@ valuesIn k fields = padded (spread (rowsOf k) fields)
 abbrev pub named : List Row → List ℕ → Finding
 named [] vs = Finding.Accepted
 named (r ∷ rs) [] = Finding.Accepted
-named (r ∷ rs) (v ∷ vs) = cond (leb v (r .top)) (named rs vs) (Finding.Refused (refusal 11 (r .low)))
+named (r ∷ rs) (v ∷ vs) = cond (leb v (r .top)) (named rs vs) (Finding.Refused (codeAt 11 (r .low)))

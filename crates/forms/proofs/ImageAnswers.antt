@@ -2,7 +2,7 @@
 -- Assumes nothing.
 use Prim.Native.Nat.{ℕ, _+_, _-_, _≤_}
 use native.Mathlib.Omega.{arith}
-use mathlib.Core.Path.{_≡_, sym, ap, _∙_}
+use mathlib.Core.Path.{_≡_, refl, sym, ap, _∙_}
 use mathlib.Core.Bool.{true, false}
 use mathlib.Core.List.{List}
 use lib.Dec.{eqb}
@@ -12,12 +12,12 @@ use borrow.Author.Tests.{eq-eqb, ne-eqb}
 use Rattle.octets.specs.Octets.{number}
 use Rattle.history.specs.Verdict.{done, then, refusal, _unless_⨾_, told, numbers}
 use Rattle.history.specs.Image.{Image, imageVersionGood, widths, readWords, readImage}
-use Rattle.tables.specs.Whole.{isWhole, isUnder}
+use Rattle.history.specs.Form.{isWhole}
+use Rattle.tables.specs.Under.{isUnder}
 use Rattle.tables.specs.Outlines.{kindsOf, planAs}
-use Rattle.forms.proofs.Told.{told-refused}
-use Rattle.tables.proofs.AnswerLaws.{told-then}
+use Rattle.tables.proofs.AnswerLaws.{told-refused, told-then}
 use Rattle.tables.proofs.Forms.{form-then, to-end}
-use Rattle.tables.proofs.WholeLaws.{whole as whole-is}
+use Rattle.history.proofs.FormLaws.{whole as whole-is}
 
 -- the image of these words
 imageIn : List ℕ → List ℕ → Image
@@ -32,22 +32,22 @@ module _ (x y : ℕ) (ns b : List ℕ) where
   chain = form-then 7 imageVersionGood b _
 
   pub not-whole : isWhole 7 b ≡ false → numbers 1 65535 255 0 ≡ told (readImage (planAs x y ns) b)
-  not-whole e = told-refused _ 1 65535 255 (chain ∙ rw e)
+  not-whole e = told-refused _ (chain ∙ rw e) refl
 
   module _ (whole : isWhole 7 b ≡ true) where
     pub other-version : imageVersionGood (getD b 4 0) ≡ false → numbers 2 65535 255 0 ≡ told (readImage (planAs x y ns) b)
-    other-version e = told-refused _ 2 65535 255 (chain ∙ rw (whole, e))
+    other-version e = told-refused _ (chain ∙ rw (whole, e)) refl
 
     module _ (version : imageVersionGood (getD b 4 0) ≡ true) where
       pub not-under : isUnder x y b ≡ false → numbers 9 65535 255 0 ≡ told (readImage (planAs x y ns) b)
-      not-under e = told-refused _ 9 65535 255 (chain ∙ rw (whole, version, e))
+      not-under e = told-refused _ (chain ∙ rw (whole, version, e)) refl
 
       module _ (under : isUnder x y b ≡ true) where
         pub other-size : (length b ≡ 11 + widths (kindsOf ns) → ⊥) → numbers 8 65535 255 0 ≡ told (readImage (planAs x y ns) b)
         other-size h =
             let long : 11 ≤ length b = whole-is 7 b whole .long in
             let n : (length (drop 7 b) ≡ 4 + widths (kindsOf ns) → ⊥) = λ e. h (omega (arith, length-drop 7 b)) in
-            told-refused _ 8 65535 255 (chain ∙ rw (whole, version, under, ne-eqb (length (drop 7 b)) (4 + widths (kindsOf ns)) n))
+            told-refused _ (chain ∙ rw (whole, version, under, ne-eqb (length (drop 7 b)) (4 + widths (kindsOf ns)) n)) refl
 
         pub by-words : length b ≡ 11 + widths (kindsOf ns) → told (readWords 0 (kindsOf ns) (take (length b - 11) (drop 11 b))) ≡ told (readImage (planAs x y ns) b)
         by-words h =

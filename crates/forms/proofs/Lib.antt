@@ -1,4 +1,4 @@
-pub mod Told
+pub mod Found
 pub mod KindLaws
 pub mod WordLaws
 pub mod ImageAnswers

@@ -1,7 +1,7 @@
 -- The answer to a list, at each place where its check ends.
 -- Assumes nothing.
 use Prim.Native.Nat.{ℕ, _-_}
-use mathlib.Core.Path.{_≡_, sym, ap, ap₂, _∙_}
+use mathlib.Core.Path.{_≡_, refl, sym, ap, ap₂, _∙_}
 use mathlib.Core.Bool.{true, false}
 use mathlib.Core.List.{List}
 use lib.Dec.{eqb}
@@ -12,10 +12,10 @@ use Rattle.octets.specs.Octets.{number}
 use Rattle.history.specs.Verdict.{done, then, refusal, _unless_⨾_, told, numbers}
 use Rattle.history.specs.declared.Change.{Change}
 use Rattle.history.specs.Changes.{Changes, listVersion, readEntries, readList}
-use Rattle.tables.specs.Whole.{isWhole, isUnder}
+use Rattle.history.specs.Form.{isWhole}
+use Rattle.tables.specs.Under.{isUnder}
 use Rattle.tables.specs.Outlines.{kindsOf, planAs}
-use Rattle.forms.proofs.Told.{told-refused}
-use Rattle.tables.proofs.AnswerLaws.{told-then}
+use Rattle.tables.proofs.AnswerLaws.{told-refused, told-then}
 use Rattle.tables.proofs.Forms.{form-then, to-end}
 
 -- the list of these changes
@@ -31,12 +31,12 @@ module _ (x y : ℕ) (ns b : List ℕ) where
   chain = form-then 13 (eqb listVersion) b _
 
   pub not-whole : isWhole 13 b ≡ false → numbers 1 65535 255 0 ≡ told (readList (planAs x y ns) b)
-  not-whole e = told-refused _ 1 65535 255 (chain ∙ rw e)
+  not-whole e = told-refused _ (chain ∙ rw e) refl
 
   module _ (whole : isWhole 13 b ≡ true) where
     pub other-version : (getD b 4 0 ≡ 1 → ⊥) → numbers 2 65535 255 0 ≡ told (readList (planAs x y ns) b)
     unfolding listVersion
-    other-version h = told-refused _ 2 65535 255 (chain ∙ rw (whole, ne-eqb 1 (getD b 4 0) (λ e. h (sym e))))
+    other-version h = told-refused _ (chain ∙ rw (whole, ne-eqb 1 (getD b 4 0) (λ e. h (sym e)))) refl
 
     module _ (version : getD b 4 0 ≡ 1) where
       good : eqb listVersion (getD b 4 0) ≡ true
@@ -44,7 +44,7 @@ module _ (x y : ℕ) (ns b : List ℕ) where
       good = eq-eqb 1 (getD b 4 0) (sym version)
 
       pub not-under : isUnder x y b ≡ false → numbers 9 65535 255 0 ≡ told (readList (planAs x y ns) b)
-      not-under e = told-refused _ 9 65535 255 (chain ∙ rw (whole, good, e))
+      not-under e = told-refused _ (chain ∙ rw (whole, good, e)) refl
 
       module _ (under : isUnder x y b ≡ true) where
         pub by-entries : (count : ℕ) → count ≡ number (take 2 (drop 15 b)) → told (readEntries (kindsOf ns) 0 count (take (length b - 17) (drop 17 b))) ≡ told (readList (planAs x y ns) b)

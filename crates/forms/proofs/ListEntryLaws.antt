@@ -9,7 +9,7 @@ use mathlib.Core.List.{List, _∷_, _++_}
 use lib.Dec.{eqb, leb, ltb}
 use lib.ListN.{length, take, drop, replicate, length-drop}
 use lib.Seq.{drop-drop}
-use borrow.Author.Tests.{eq-eqb, ne-eqb, le-leb, lt-leb, leb-true, lt-ltb, le-ltb, ltb-true}
+use borrow.Author.Tests.{eq-eqb, ne-eqb, le-leb, lt-leb, lt-ltb, le-ltb}
 use Rattle.rows.specs.declared.Finding.{Finding}
 use Rattle.rows.specs.declared.Refusal.{Refusal}
 use Rattle.kinds.specs.Kinds.{widthOf}
@@ -22,14 +22,13 @@ use Rattle.history.specs.Table.{kindAt}
 use Rattle.history.specs.Image.{element, _of_⨾_}
 use Rattle.history.specs.declared.Change.{Change}
 use Rattle.history.specs.declared.Change.the-variants.{Keep as keep, Swap as swap}
-use Rattle.history.specs.Changes.{Entry, entryOf, entryAt, checkEntry, readEntries}
-use Rattle.history.proofs.VerdictLaws.{held}
-use Rattle.history.proofs.ElementLaws.{was-accepted}
+use Rattle.history.specs.Changes.{Entry, entryOf, entryAt, checkChange, checkEntry, readEntries}
+use Rattle.history.proofs.ListLaws.{was-checked}
 use Rattle.tables.specs.Outlines.{kindsOf}
-use Rattle.forms.specs.ListEntries.{checkChange, passed}
+use Rattle.forms.specs.ListEntries.{passed}
 use Rattle.forms.specs.declared.list.Passed.{Passed}
-use Rattle.forms.proofs.Told.{told-refused, told-done, is-bad, is-good}
-use Rattle.tables.proofs.AnswerLaws.{told-then}
+use Rattle.forms.proofs.Found.{is-bad, is-good}
+use Rattle.tables.proofs.AnswerLaws.{told-refused, told-done, told-then}
 use Rattle.forms.proofs.KindLaws.{length-kinds}
 
 -- what checking an entry hands on
@@ -91,7 +90,7 @@ module _ (ns : List ℕ) (low : ℕ) (s : List ℕ) (at : ℕ) where
         ≡ (refusalAt 13 i unless ltb i (length ns) ⨾ refusalAt 14 i unless leb low i ⨾
         refusal 8 unless leb (2 + (widthOf (kindAt (kindsOf ns) i) + widthOf (kindAt (kindsOf ns) i))) (length s - at) ⨾
         checkChange (entryOf i (kindAt (kindsOf ns) i) (drop (at + 2) s)))
-    unfolding checkEntry checkChange
+    unfolding checkEntry
     numbered = ap (checkEntry (kindsOf ns) low (drop at s)) entry-here ∙ rw (length-drop at s, le-leb 2 (length s - at) two, length-kinds ns)
 
     pub beyond : length ns ≤ i → entryVerdict ns low (drop at s) ≡ refusalAt 13 i
@@ -142,19 +141,6 @@ unfolding passed
 was-refused at (refused code object bit) a e = (code, object, bit, refl, (cc))
 was-refused at (done e) a p = absurd (let z : _≡_ {A = ℕ} 0 1 = cc in omega arith)
 
-checked : (t : List Kind) (low : ℕ) (b : List ℕ) (e : Entry) {e′ : Entry} → checkEntry t low b e ≡ done e′
-    → (e ≡ e′) × (e .object < length t) × (2 + (widthOf (e .kind) + widthOf (e .kind)) ≤ length b)
-unfolding checkEntry
-checked t low b e {e′} q =
-    let q₁ = held (leb 2 (length b)) _ _ _ _ q in
-    let q₂ = held (ltb (e .object) (length t)) _ _ _ _ (q₁ .1) in
-    let q₃ = held (leb low (e .object)) _ _ _ _ (q₂ .1) in
-    let q₄ = held (leb (2 + (widthOf (e .kind) + widthOf (e .kind))) (length b)) _ _ _ _ (q₃ .1) in
-    let q₅ = was-accepted (element (e .kind) (e .old)) _ _ (q₄ .1) in
-    let q₆ = was-accepted (element (e .kind) (e .new)) _ _ (q₅ .1) in
-    let q₇ = held (not (eqb (e .old) (e .new))) _ _ _ _ (q₆ .1) in
-    ((cc (q₇ .1)), ltb-true _ _ (q₂ .0), leb-true _ _ (q₄ .0))
-
 -- what the other entries make of an entry: nothing that an answer tells
 after : List Kind → ℕ → ℕ → Entry → Verdict (List Change)
 after t low n e = then (readEntries t (suc (e .object)) n (e .rest)) (λ cs. done (replicate (e .object - low) keep ++ (swap (e .old) (e .new) ∷ cs)))
@@ -173,23 +159,23 @@ module _ {ns : List ℕ} {count : ℕ} {b : List ℕ} {n low at : ℕ} (l : Left
     pub stops : {a : Answer} → r ≡ Passed.Refused a → a ≡ told (readEntries (kindsOf ns) 0 count b)
     stops {a} p =
         let q = was-refused (at + 2) (entryVerdict ns low (drop at b)) a (sym p ∙ r-is) in
-        q .4 ∙ told-refused (readEntries (kindsOf ns) low n (drop at b)) (q .0) (q .1) (q .2) (one-entry (kindsOf ns) low n (drop at b) more ∙ ap (λ (v : Verdict Entry). then v (after (kindsOf ns) low (n - 1))) (q .3)) ∙ sym (l .same)
+        q .4 ∙ told-refused (readEntries (kindsOf ns) low n (drop at b)) (one-entry (kindsOf ns) low n (drop at b) more ∙ ap (λ (v : Verdict Entry). then v (after (kindsOf ns) low (n - 1))) (q .3)) refl ∙ sym (l .same)
 
     pub goes-on : {object next : ℕ} → r ≡ Passed.Entry object next → (object < length ns) × Left ns count b (n - 1) (object + 1) next
     unfolding after
     goes-on {object} {next} p =
         let E : Entry = entryAt (kindsOf ns) (drop at b) in
         let q = was-passed (at + 2) (entryVerdict ns low (drop at b)) object next (sym p ∙ r-is) in
-        let k = checked (kindsOf ns) low (drop at b) E (q .1) in
+        let k = was-checked (kindsOf ns) low (drop at b) E (q .1) in
         let w : ℕ = widthOf (E .kind) in
         let o : object ≡ E .object = q .2 ∙ ap (λ (e : Entry). e .object) (sym (k .0)) in
         let x : next ≡ at + 2 + w + w = q .3 ∙ ap (λ (e : Entry). at + 2 + widthOf (e .kind) + widthOf (e .kind)) (sym (k .0)) in
         let d : E .rest ≡ drop next b =
         ap (λ (c : List ℕ). drop w (drop w c)) (drop-drop 2 at b) ∙ ap (drop w) (drop-drop w (at + 2) b) ∙ drop-drop w (at + 2 + w) b ∙ ap (λ (m : ℕ). drop m b) (sym x) in
         let one : suc (E .object) ≡ object + 1 = omega arith in (
-          omega (arith, k .1, length-kinds ns),
+          omega (arith, k .1 .inside, length-kinds ns),
           record {
-            inside = omega (arith, k .2, length-drop at b);
+            inside = omega (arith, k .1 .room, length-drop at b);
             same = l .same ∙ ap told (one-entry (kindsOf ns) low n (drop at b) more ∙ ap (λ (v : Verdict Entry). then v (after (kindsOf ns) low (n - 1))) (q .1 ∙ ap done (sym (k .0))))
                 ∙ told-then (readEntries (kindsOf ns) (suc (E .object)) (n - 1) (E .rest)) (λ cs. replicate (E .object - low) keep ++ (swap (E .old) (E .new) ∷ cs))
                 ∙ ap₂ (λ (m : ℕ) (c : List ℕ). told (readEntries (kindsOf ns) m (n - 1) c)) one d;
@@ -204,11 +190,11 @@ module _ {ns : List ℕ} {count : ℕ} {b : List ℕ} {n low at : ℕ} (l : Left
     pub bytes-over : (at ≡ length b → ⊥) → numbers 8 65535 255 0 ≡ told (readEntries (kindsOf ns) 0 count b)
     unfolding over
     bytes-over h =
-        told-refused (over (kindsOf ns) low (length b - at)) 8 65535 255 (rw (ne-eqb (length b - at) 0 (λ e. h (omega (arith, l .inside)))))
+        told-refused (over (kindsOf ns) low (length b - at)) {code = 8} {object = 65535} {bit = 255} (rw (ne-eqb (length b - at) 0 (λ e. h (omega (arith, l .inside))))) refl
         ∙ sym (last none)
 
     pub ended : at ≡ length b → numbers 0 65535 255 0 ≡ told (readEntries (kindsOf ns) 0 count b)
     unfolding over
     ended h =
-        told-done (over (kindsOf ns) low (length b - at)) (replicate (length (kindsOf ns) - low) keep) (rw (eq-eqb (length b - at) 0 (omega arith)))
+        told-done (over (kindsOf ns) low (length b - at)) {a = replicate (length (kindsOf ns) - low) keep} (rw (eq-eqb (length b - at) 0 (omega arith))) refl
         ∙ sym (last none)

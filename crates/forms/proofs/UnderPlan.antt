@@ -7,14 +7,15 @@ use mathlib.Core.List.{List}
 use lib.ListN.{length, take, length-take}
 use lib.Seq.{length-take-le}
 use Rattle.history.specs.declared.Answer.{Answer}
-use Rattle.history.specs.Verdict.{Verdict, then, told, settled}
+use Rattle.history.specs.Verdict.{Verdict, then, told}
 use Rattle.history.specs.Table.{Plan, planOf, readTable}
 use Rattle.history.specs.Image.{readImage}
 use Rattle.history.specs.Changes.{readList}
 use Rattle.history.specs.Calls.{tableCall, readPlan, imageCall, listCall}
+use Rattle.history.proofs.OutputLaws.{Leaves, first-leaves}
 use Rattle.tables.specs.Outlines.{planAs, Outlined}
 use Rattle.tables.specs.declared.answers.Outline.{Outline}
-use Rattle.tables.proofs.AnswerLaws.{told-first, settled-first, told-then}
+use Rattle.tables.proofs.AnswerLaws.{told-first, told-then}
 
 module _ {b : List ℕ} {r : Outline} (o : Outlined b r) where
   plan-told : told (readPlan b) ≡ r .answer
@@ -28,8 +29,8 @@ module _ {b : List ℕ} {r : Outline} (o : Outlined b r) where
     pub table-refused : {A : Type 0} (next : Plan → Verdict A) → r .answer ≡ told (then (readPlan b) next)
     table-refused next = sym plan-told ∙ told-first (readPlan b) next plan-bad
 
-    pub table-settled : (next : Plan → Verdict (List ℕ)) (out : List ℕ) → settled (then (readPlan b) next) out ≡ record { answer = r .answer; output = out }
-    table-settled next out = settled-first (readPlan b) next out plan-bad ∙ ap (λ (a : Answer). record { answer = a; output = out }) plan-told
+    pub table-leaves : (next : Plan → Verdict (List ℕ)) (out : List ℕ) → Leaves (then (readPlan b) next) out (r .answer) out
+    table-leaves next out = first-leaves (readPlan b) next out (sym plan-told) bad
 
     pub image-refused : (A : List ℕ) → r .answer ≡ told (imageCall b A)
     unfolding imageCall

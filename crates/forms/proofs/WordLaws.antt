@@ -17,8 +17,8 @@ use Rattle.history.specs.Table.{kindAt}
 use Rattle.history.specs.Image.{element, _of_⨾_, widths, readWords}
 use Rattle.history.proofs.ElementLaws.{width-few}
 use Rattle.tables.specs.Outlines.{kindsOf}
-use Rattle.forms.proofs.Told.{told-refused, told-done, is-bad, is-good}
-use Rattle.tables.proofs.AnswerLaws.{told-then}
+use Rattle.forms.proofs.Found.{is-bad, is-good}
+use Rattle.tables.proofs.AnswerLaws.{told-refused, told-done, told-then}
 use Rattle.forms.proofs.KindLaws.{kinds-next, kinds-end}
 
 -- the elements left at object i, from at on
@@ -32,7 +32,7 @@ begin ns b h = record { inside = omega arith; room = omega arith; same = refl }
 
 pub ended : {ns b : List ℕ} {i at : ℕ} → Left ns b i at → length ns ≤ i → numbers 0 65535 255 0 ≡ told (readWords 0 (kindsOf ns) b)
 ended {ns} {b} {i} {at} l h =
-    told-done (readWords i [] (drop at b)) [] refl ∙ sym (l .same ∙ ap (λ (ks : List Kind). told (readWords i ks (drop at b))) (kinds-end ns i h))
+    told-done (readWords i [] (drop at b)) refl refl ∙ sym (l .same ∙ ap (λ (ks : List Kind). told (readWords i ks (drop at b))) (kinds-end ns i h))
 
 -- over what the code has in hand: the kind, its width, the word, what is found
 module _ {ns b : List ℕ} {i at : ℕ} (l : Left ns b i at) (h : i < length ns) {kind : Kind} (kind-is : kind ≡ kindAt (kindsOf ns) i) {w : ℕ} (w-is : w ≡ widthOf kind) where
@@ -53,7 +53,7 @@ module _ {ns b : List ℕ} {i at : ℕ} (l : Left ns b i at) (h : i < length ns)
         ∙ rw (← w-is, ← word-is, ← found-is)
 
     pub stops : {r : Refusal} → found ≡ Finding.Refused r → numbers (r .code) i (r .bit) 0 ≡ told (readWords 0 (kindsOf ns) b)
-    stops {r} e = told-refused (found of i ⨾ next) (r .code) i (r .bit) (is-bad found i next r e) ∙ sym here
+    stops {r} e = told-refused (found of i ⨾ next) (is-bad found i next r e) refl ∙ sym here
 
     pub goes-on : found ≡ Finding.Accepted → Left ns b (i + 1) (at + w)
     unfolding next

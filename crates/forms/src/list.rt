@@ -15,10 +15,10 @@ ghost use Prim.Native.Nat.{_+_, _≤_, _<_};
 ghost use lib.ListN.{length, drop};
 ghost use Rattle.kinds.specs.Kinds.{widthOf};
 ghost use Rattle.history.specs.Verdict.{told};
-ghost use Rattle.history.specs.Changes.{entryOf, entryAt, checkEntry, readEntries, readList};
+ghost use Rattle.history.specs.Changes.{entryOf, entryAt, checkChange, checkEntry, readEntries, readList};
 ghost use Rattle.history.specs.Calls.{listCall};
 ghost use Rattle.tables.specs.Outlines.{kindsOf, planAs};
-ghost use Rattle.forms.specs.ListEntries.{checkChange, passed};
+ghost use Rattle.forms.specs.ListEntries.{passed};
 
 // A change list, under its table.
 pub fn check_list(table: &[u8], list: &[u8]) -> Answer

@@ -16,12 +16,12 @@ use Rattle.kinds.specs.declared.Kind.{Kind}
 use Rattle.octets.specs.Octets.{number}
 use Rattle.elements.specs.Elements.{carried, kindOf, elementCheck}
 use Rattle.history.specs.declared.Answer.{Answer}
-use Rattle.history.specs.Verdict.{Verdict, refused, done, numbers, told, Outcome, settled}
+use Rattle.history.specs.Verdict.{Verdict, refused, done, numbers, told}
 use Rattle.history.specs.Table.{Object, Table, objectBytes, objectsBytes, labelLimit, readTable}
 use Rattle.history.specs.Image.{element, _of_⨾_}
 use Rattle.history.specs.Calls.{Place, labelPlace, labelCall}
 use Rattle.history.specs.Legal.{LegalTable}
-use Rattle.history.proofs.OutputLaws.{settled-room}
+use Rattle.history.proofs.OutputLaws.{Leaves, written-leaves}
 use Rattle.history.proofs.VerdictLaws.{held, used}
 use Rattle.history.proofs.TableLaws.{table-is}
 use Rattle.tables.specs.LabelPlaces.{labelTold}
@@ -111,10 +111,8 @@ module _ {input out₀ out : List ℕ} {r : ℕ} (l : ListedInto input out₀ ou
         let both : told-text (listed input out₀) = (l .size, l .output) in
         rw (le-leb 65536 (length out₀) room) at both
 
-    pub listed-room : {a : Answer} → a ≡ numbers 0 65535 255 r → (a ≡ settled (done (listingOf input)) out₀ .answer) × (out ≡ settled (done (listingOf input)) out₀ .output)
-    listed-room e =
-        let s = settled-room (listingOf input) out₀ (omega (arith, listing-fits input)) in
-        (e ∙ ap (numbers 0 65535 255) (in-front .0) ∙ sym (ap (λ (o : Outcome). o .answer) s), in-front .1 ∙ sym (ap (λ (o : Outcome). o .output) s))
+    pub listed-room : {a : Answer} → a ≡ numbers 0 65535 255 r → Leaves (done (listingOf input)) out₀ a out
+    listed-room e = written-leaves (listingOf input) out₀ refl (omega (arith, listing-fits input)) (e ∙ ap (numbers 0 65535 255) (in-front .0)) (in-front .1)
 
     pub listed-front : take (r - 0) out ≡ listingOf input
     listed-front =

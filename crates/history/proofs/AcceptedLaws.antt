@@ -9,7 +9,7 @@ use Rattle.history.specs.Verdict.{Verdict, done, then}
 use Rattle.history.specs.Table.{Plan}
 use Rattle.history.specs.Image.{Image, readImage}
 use Rattle.history.specs.Changes.{Changes, readList}
-use Rattle.history.specs.Calls.{readPlan, imageCall, listCall, differenceCall, applyCall, joinCall, writeStateCall}
+use Rattle.history.specs.Calls.{readPlan, imageCall, listCall, differenceUnder, differenceCall, applyUnder, applyCall, joinUnder, joinCall, writeStateUnder, writeStateCall}
 use Rattle.history.proofs.VerdictLaws.{used}
 use Rattle.history.proofs.ImageLaws.{image-is}
 use Rattle.history.proofs.ListLaws.{list-is}
@@ -65,28 +65,28 @@ module _ (T : List ℕ) where
   -- .. and its other forms
   module _ {p : Plan} (t : readPlan T ≡ done p) where
     pub two-images : (A B : List ℕ) {L : List ℕ} → Bytes A → Bytes B → differenceCall T A B ≡ done L → AcceptedImage p A × AcceptedImage p B
-    unfolding differenceCall
+    unfolding differenceCall differenceUnder
     two-images A B ha hb e =
         let a = image-of p A ha _ (rw t at e) in
         (a .0, image-of p B hb _ (a .1) .0)
 
     pub taken : (A L : List ℕ) {B : List ℕ} → Bytes A → Bytes L → applyCall T A L ≡ done B → AcceptedImage p A × AcceptedList p L
-    unfolding applyCall
+    unfolding applyCall applyUnder
     taken A L ha hl e =
         let a = image-of p A ha _ (rw t at e) in
         (a .0, list-of p L hl _ (a .1) .0)
 
     pub two-lists : (L M : List ℕ) {K : List ℕ} → Bytes L → Bytes M → joinCall T L M ≡ done K → AcceptedList p L × AcceptedList p M
-    unfolding joinCall
+    unfolding joinCall joinUnder
     two-lists L M hl hm e =
         let l = list-of p L hl _ (rw t at e) in
         (l .0, list-of p M hm _ (l .1) .0)
 
     -- a list that is applied to an accepted image
     pub list-taken : (A L : List ℕ) {B : List ℕ} → AcceptedImage p A → Bytes L → applyCall T A L ≡ done B → AcceptedList p L
-    unfolding applyCall
+    unfolding applyCall applyUnder
     list-taken A L a hl e = list-of p L hl _ (rw (t, a .reads) at e) .0
 
     pub written-in : (A : List ℕ) (i : ℕ) (e : Element) (position : ℕ) {B : List ℕ} → Bytes A → writeStateCall T A i e position ≡ done B → AcceptedImage p A
-    unfolding writeStateCall
+    unfolding writeStateCall writeStateUnder
     written-in A i e position ha q = image-of p A ha _ (rw t at q) .0

@@ -9,7 +9,7 @@ use Rattle.history.specs.Table.{Plan}
 use Rattle.history.specs.Image.{Image, imageBytes, readImage}
 use Rattle.history.specs.Changes.{Changes, listBytes, readList}
 use Rattle.history.specs.Operations.{difference, applied, join, turned}
-use Rattle.history.specs.Calls.{readPlan, imageCall, listCall, differenceCall, applyCall, joinCall, turnCall}
+use Rattle.history.specs.Calls.{readPlan, imageCall, listCall, differenceUnder, differenceCall, applyUnder, applyCall, joinUnder, joinCall, turnUnder, turnCall}
 use Rattle.history.specs.Legal.{LegalImage, LegalList}
 use Rattle.history.proofs.VerdictLaws.{used}
 use Rattle.history.proofs.OperationLaws.{difference-legal, apply-difference, only-difference, result-legal, join-differences, join-legal, turned-legal, turned-difference}
@@ -64,19 +64,19 @@ module _ (T : List ℕ) {p : Plan} (t : readPlan T ≡ done p) where
   -- ---- what each call gives, once its forms are accepted
 
   pub difference-is : {A B : List ℕ} (a : AcceptedImage p A) (b : AcceptedImage p B) → differenceCall T A B ≡ done (listBytes p (difference (a .image) (b .image)))
-  unfolding differenceCall
+  unfolding differenceCall differenceUnder
   difference-is a b = rw (t, a .reads, b .reads)
 
   pub apply-is : {A L : List ℕ} (a : AcceptedImage p A) (l : AcceptedList p L) → applyCall T A L ≡ then (applied (l .list) (a .image)) (λ b. done (imageBytes p b))
-  unfolding applyCall
+  unfolding applyCall applyUnder
   apply-is a l = rw (t, a .reads, l .reads)
 
   pub join-is : {L M : List ℕ} (l : AcceptedList p L) (m : AcceptedList p M) → joinCall T L M ≡ then (join (l .list) (m .list)) (λ k. done (listBytes p k))
-  unfolding joinCall
+  unfolding joinCall joinUnder
   join-is l m = rw (t, l .reads, m .reads)
 
   pub turn-is : {L : List ℕ} (l : AcceptedList p L) → turnCall T L ≡ done (listBytes p (turned (l .list)))
-  unfolding turnCall
+  unfolding turnCall turnUnder
   turn-is l = rw (t, l .reads)
 
   -- ---- answers are accepted again

@@ -2,7 +2,7 @@
 -- Assumes nothing.
 use Prim.Native.Nat.{ℕ, zero, suc, _+_, _-_, _≤_}
 use native.Mathlib.Omega.{arith}
-use mathlib.Core.Path.{_≡_, refl, ap}
+use mathlib.Core.Path.{_≡_, refl, sym, ap, ap₂, _∙_}
 use mathlib.Core.Bool.{Bool, true, false, not, _&&_}
 use mathlib.Core.List.{List, [], _∷_, _++_}
 use lib.Dec.{eqb, leb, ltb}
@@ -16,17 +16,17 @@ use Rattle.kinds.specs.declared.Element.{Element}
 use Rattle.history.specs.declared.Answer.{Answer}
 use Rattle.octets.specs.Octets.{number}
 use Rattle.history.specs.Verdict.{Verdict, refused, done, then, _unless_⨾_, told, settled}
-use Rattle.history.specs.Form.{readForm}
+use Rattle.history.specs.Form.{isWhole, readForm}
 use Rattle.history.specs.Table.{Object, Plan, versionGood, catalogueGood, labelLimit, labelGood, repeats, ObjectEntry, objectAt, checkObject, readObjects, readTable, kindAt, sameCatalogue}
 use Rattle.elements.specs.Elements.{carried}
 use Rattle.history.specs.Image.{Image, imageVersionGood, element, _of_⨾_, widths, readWords, readImage}
-use Rattle.history.specs.Changes.{Changes, listVersion, Entry, entryAt, checkEntry, readEntries, readList}
+use Rattle.history.specs.Changes.{Changes, listVersion, Entry, entryAt, checkChange, checkEntry, readEntries, readList}
 use Rattle.history.specs.Operations.{fits, meets, lowest, resultOf, jointOf, applied, join}
-use Rattle.history.specs.Calls.{readPlan, tableCall, imageCall, listCall, differenceCall, applyCall, joinCall, turnCall, readStateCall, writeStateCall, labelCall}
+use Rattle.history.specs.Calls.{readPlan, tableCall, imageCall, listCall, differenceUnder, differenceCall, applyUnder, applyCall, joinUnder, joinCall, turnUnder, turnCall, readStateUnder, readStateCall, checkState, writeStateUnder, writeStateCall, labelCall}
 use Rattle.elements.specs.Elements.{sameKind}
 use Rattle.elements.proofs.Findings.{Found}
 use Rattle.history.proofs.ElementLaws.{code-found}
-use Rattle.history.proofs.OutputLaws.{too-short}
+use Rattle.history.proofs.OutputLaws.{Ran, succeeds, too-short}
 
 abbrev pub Coded : {A : Type 0} → Verdict A → Type 0
 Coded (refused code object bit) = (1 ≤ code) × (code ≤ 22)
@@ -56,10 +56,7 @@ coded-element k w i r h = coded-of (element k w) i r (code-found k w) h
 form-coded : (least : ℕ) (good : ℕ → Bool) (b : List ℕ) → Coded (readForm least good b)
 unfolding readForm
 form-coded least good b =
-    coded-unless _ _ _ (leb 4 (length b)) _ (omega arith) (omega arith)
-    (coded-unless _ _ _ (eqb (length b) (4 + number (take 4 b))) _ (omega arith) (omega arith)
-    (coded-unless _ _ _ (leb least (number (take 4 b))) _ (omega arith) (omega arith)
-    (coded-unless _ _ _ (good (getD b 4 0)) _ (omega arith) (omega arith) tt)))
+    coded-unless _ _ _ (isWhole least b) _ (omega arith) (omega arith) (coded-unless _ _ _ (good (getD b 4 0)) _ (omega arith) (omega arith) tt)
 
 object-coded : (version x : ℕ) (earlier : List Object) (b : List ℕ) (e : ObjectEntry) → Coded (checkObject version x earlier b e)
 unfolding checkObject
@@ -100,7 +97,7 @@ image-coded p b =
     (coded-then (readWords 0 (p .kinds) (drop 4 (f .contents))) _ (words-coded 0 (p .kinds) _) (λ ws. tt)))
 
 entry-coded : (ks : List Kind) (low : ℕ) (b : List ℕ) (e : Entry) → Coded (checkEntry ks low b e)
-unfolding checkEntry
+unfolding checkEntry checkChange
 entry-coded ks low b e =
     coded-unless _ _ _ (leb 2 (length b)) _ (omega arith) (omega arith)
     (coded-unless _ _ _ (ltb (e .object) (length ks)) _ (omega arith) (omega arith)
@@ -134,14 +131,14 @@ lowest-coded code test i [] ys c l u = tt
 lowest-coded code test i (x ∷ xs) [] c l u = tt
 lowest-coded code test i (x ∷ xs) (y ∷ ys) c l u = coded-unless _ _ _ (test x y) _ l u (lowest-coded code test (suc i) xs ys c l u)
 
-applied-coded : (l : Changes) (a : Image) → Coded (applied l a)
+pub applied-coded : (l : Changes) (a : Image) → Coded (applied l a)
 unfolding applied
 applied-coded l a =
     coded-unless _ _ _ (leb (a .position) (l .from)) _ (omega arith) (omega arith)
     (coded-unless _ _ _ (leb (l .from) (a .position)) _ (omega arith) (omega arith)
     (lowest-coded 18 fits 0 (l .each) (a .words) (resultOf l a) (omega arith) (omega arith)))
 
-join-coded : (l m : Changes) → Coded (join l m)
+pub join-coded : (l m : Changes) → Coded (join l m)
 unfolding join
 join-coded l m =
     coded-unless _ _ _ (eqb (l .to) (m .from)) _ (omega arith) (omega arith)
@@ -162,14 +159,14 @@ unfolding listCall
 list-call-coded t l = coded-then (readPlan t) _ (plan-coded t) (λ p. list-coded p l)
 
 pub difference-call-coded : (t a b : List ℕ) → Coded (differenceCall t a b)
-unfolding differenceCall
+unfolding differenceCall differenceUnder
 difference-call-coded t a b =
     coded-then (readPlan t) _ (plan-coded t) λ p.
     coded-then (readImage p a) _ (image-coded p a) λ a.
     coded-then (readImage p b) _ (image-coded p b) (λ b. tt)
 
 pub apply-call-coded : (t a l : List ℕ) → Coded (applyCall t a l)
-unfolding applyCall
+unfolding applyCall applyUnder
 apply-call-coded t a l =
     coded-then (readPlan t) _ (plan-coded t) λ p.
     coded-then (readImage p a) _ (image-coded p a) λ a.
@@ -177,7 +174,7 @@ apply-call-coded t a l =
     coded-then (applied l a) _ (applied-coded l a) (λ b. tt)
 
 pub join-call-coded : (t l m : List ℕ) → Coded (joinCall t l m)
-unfolding joinCall
+unfolding joinCall joinUnder
 join-call-coded t l m =
     coded-then (readPlan t) _ (plan-coded t) λ p.
     coded-then (readList p l) _ (list-coded p l) λ l.
@@ -185,26 +182,30 @@ join-call-coded t l m =
     coded-then (join l m) _ (join-coded l m) (λ k. tt)
 
 pub turn-call-coded : (t l : List ℕ) → Coded (turnCall t l)
-unfolding turnCall
+unfolding turnCall turnUnder
 turn-call-coded t l =
     coded-then (readPlan t) _ (plan-coded t) λ p.
     coded-then (readList p l) _ (list-coded p l) (λ l. tt)
 
 pub read-call-coded : (t a : List ℕ) (i : ℕ) → Coded (readStateCall t a i)
-unfolding readStateCall
+unfolding readStateCall readStateUnder
 read-call-coded t a i =
     coded-then (readPlan t) _ (plan-coded t) λ p.
     coded-then (readImage p a) _ (image-coded p a) λ a.
     coded-unless _ _ _ (ltb i (length (p .kinds))) _ (omega arith) (omega arith) tt
 
+pub state-coded : (ks : List Kind) (i : ℕ) (state : Element) → Coded (checkState ks i state)
+unfolding checkState
+state-coded ks i state =
+    coded-unless _ _ _ (ltb i (length ks)) _ (omega arith) (omega arith)
+    (coded-unless _ _ _ (sameKind (kindIn state) (kindAt ks i)) _ (omega arith) (omega arith) (coded-element (kindAt ks i) (wordOf state) i _ tt))
+
 pub write-call-coded : (t a : List ℕ) (i : ℕ) (state : Element) (position : ℕ) → Coded (writeStateCall t a i state position)
-unfolding writeStateCall
+unfolding writeStateCall writeStateUnder
 write-call-coded t a i state position =
     coded-then (readPlan t) _ (plan-coded t) λ p.
     coded-then (readImage p a) _ (image-coded p a) λ a.
-    coded-unless _ _ _ (ltb i (length (p .kinds))) _ (omega arith) (omega arith)
-    (coded-unless _ _ _ (sameKind (kindIn state) (kindAt (p .kinds) i)) _ (omega arith) (omega arith)
-    (coded-element (kindAt (p .kinds) i) (wordOf state) i _ tt))
+    coded-then (checkState (p .kinds) i state) _ (state-coded (p .kinds) i state) (λ w. tt)
 
 pub label-call-coded : (t : List ℕ) (i : ℕ) → Coded (labelCall t i)
 unfolding labelCall
@@ -223,6 +224,21 @@ zero-succeeds (done b) out h e = (b, refl, go (leb (length b) (length out)) refl
     go : (u : Bool) → leb (length b) (length out) ≡ u → length b ≤ length out
     go true q = leb-true _ _ q
     go false q = absurd (omega (arith, ap (λ (a : Answer). a .code) (too-short {v = done b} out refl (leb-false _ _ q) .0)))
+
+-- .. and the bytes stand in front, the rest as it was
+pub record Delivered (v : Verdict (List ℕ)) (out : List ℕ) (r : Answer) (m : List ℕ) : Type 0 where
+  pub bytes : v ≡ done (take (r .length) m)
+  pub rest : drop (r .length) m ≡ drop (r .length) out
+
+pub delivered : {v : Verdict (List ℕ)} {out : List ℕ} {r : Answer} {m : List ℕ} → Coded v → Ran v out r m → r .code ≡ 0 → Delivered v out r m
+delivered {v} {out} {r} {m} c o z =
+    let q = zero-succeeds v out c (ap (λ (a : Answer). a .code) (sym (o .answer)) ∙ z) in
+    let s = succeeds out (q .1) (q .2) in
+    let long : r .length ≡ length (q .0) = ap (λ (a : Answer). a .length) (o .answer ∙ s .answer) in
+    record {
+      bytes = q .1 ∙ ap done (sym (ap₂ take long (o .output) ∙ s .front));
+      rest = ap₂ drop long (o .output) ∙ s .rest ∙ ap (λ (n : ℕ). drop n out) (sym long);
+    }
 
 -- of any other
 pub zero-told : {A : Type 0} (v : Verdict A) → Coded v → told v .code ≡ 0 → (a : A) × (v ≡ done a)

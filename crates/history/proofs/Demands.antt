@@ -14,7 +14,7 @@ use Rattle.history.specs.Image.{Image, imageBytes}
 use Rattle.history.specs.declared.Change.the-variants.{Keep as keep}
 use Rattle.history.specs.Changes.{Changes, listBytes}
 use Rattle.history.specs.Operations.{fits, meets, zip, applied, join}
-use Rattle.history.specs.Calls.{readPlan, tableCall, imageCall, listCall, differenceCall, applyCall, joinCall, turnCall, placed, readStateCall, writeStateCall}
+use Rattle.history.specs.Calls.{readPlan, tableCall, imageCall, listCall, differenceCall, applyUnder, applyCall, joinUnder, joinCall, turnCall, placed, readStateCall, writeStateCall}
 use Rattle.history.specs.Legal.{LegalTable, LegalImage, LegalList}
 use Rattle.history.proofs.VerdictLaws.{Lowest, passed-up}
 use Rattle.history.proofs.OperationLaws.{one-version, keeps-version, names-old, names-meeting}
@@ -151,7 +151,7 @@ difference-then-apply T A B out out′ ha hb e r r′ = (succeeds out e r, succe
 -- 18: the lowest object whose old element is not the image's
 pub names-lowest-old : (T A L : List ℕ) {a : Image} {l : Changes} {j bit : ℕ} → imageCall T A ≡ done a → listCall T L ≡ done l
     → applyCall T A L ≡ refused 18 j bit → Lowest fits keep 0 (l .each) (a .words) j × (bit ≡ 255)
-unfolding imageCall listCall applyCall
+unfolding imageCall listCall applyCall applyUnder
 names-lowest-old T A L {a} {l} ea el e =
     let t = image-under T A ea .reads in
     names-old l a (passed-up (applied l a) _ (rw (t, rw t at ea, rw t at el) at e))
@@ -159,7 +159,7 @@ names-lowest-old T A L {a} {l} ea el e =
 -- 20: the lowest object whose new element in the first is not its old one in the second
 pub names-lowest-meeting : (T L M : List ℕ) {l m : Changes} {j bit : ℕ} → listCall T L ≡ done l → listCall T M ≡ done m
     → joinCall T L M ≡ refused 20 j bit → Lowest meets keep keep (l .each) (m .each) j × (bit ≡ 255)
-unfolding listCall joinCall
+unfolding listCall joinCall joinUnder
 names-lowest-meeting T L M {l} {m} el em e =
     let t = list-under T L el .reads in
     names-meeting l m (passed-up (join l m) _ (rw (t, rw t at el, rw t at em) at e))

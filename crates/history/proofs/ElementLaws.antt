@@ -10,7 +10,7 @@ use mathlib.Core.Logic.{_⊎_, inl, inr}
 use lib.Dec.{eqb, leb, ltb}
 use lib.Pow.{pow-add, pow-pos}
 use borrow.Author.Tests.{eq-eqb, lt-ltb, ltb-true, eqb-true}
-use Rattle.rows.specs.Fields.{refusal}
+use Rattle.rows.specs.Fields.{codeAt}
 use Rattle.rows.specs.declared.Finding.{Finding}
 use Rattle.kinds.specs.Kinds.{layoutNo, widthOf, kindIn}
 use Rattle.elements.specs.Elements.{sameKind, elementCheck, stateOf, wordOf}
@@ -91,7 +91,7 @@ is-same-kind j k e = eq-eqb (layoutNo j) (layoutNo k) (ap layoutNo e)
 -- ---- codes
 
 -- a state's number is accepted, or without data with another bit (12): no other code is left
-pub state-found : (k : Kind) (e : Element) → kindIn e ≡ k → (element k (wordOf e) ≡ Finding.Accepted) ⊎ (element k (wordOf e) ≡ Finding.Refused (refusal 12 0))
+pub state-found : (k : Kind) (e : Element) → kindIn e ≡ k → (element k (wordOf e) ≡ Finding.Accepted) ⊎ (element k (wordOf e) ≡ Finding.Refused (codeAt 12 0))
 unfolding element
 state-found k e s = rw (← s) (own-found e)
 

@@ -12,13 +12,13 @@ use Rattle.cases.specs.declared.ChangerAspect.{ChangerAspect}
 use Rattle.history.specs.declared.Standing.{Standing}
 use Rattle.octets.specs.Octets.{bytes}
 use Rattle.history.specs.Verdict.{refused, done, settled, numbers}
-use Rattle.history.specs.Form.{formBytes, readForm}
+use Rattle.history.specs.Form.{formBytes, isWhole, readForm}
 use Rattle.history.specs.Table.{versionGood, catalogueGood, labelLimit, labelGood, checkObject, readTable, planOf}
 use Rattle.history.specs.Image.{imageVersionGood, element, imageBytes, readImage}
 use Rattle.history.specs.declared.Change.the-variants.{Keep as keep, Swap as swap}
-use Rattle.history.specs.Changes.{listVersion, listBytes, checkEntry, readList}
+use Rattle.history.specs.Changes.{listVersion, listBytes, checkChange, checkEntry, readList}
 use Rattle.history.specs.Operations.{difference, applied, join, turned}
-use Rattle.history.specs.Calls.{readPlan, tableCall, imageCall, listCall, differenceCall, applyCall, joinCall, turnCall, readStateCall, writeStateCall, labelCall}
+use Rattle.history.specs.Calls.{readPlan, tableCall, imageCall, listCall, differenceUnder, differenceCall, applyUnder, applyCall, joinUnder, joinCall, turnUnder, turnCall, readStateUnder, readStateCall, checkState, writeStateUnder, writeStateCall, labelCall}
 use Rattle.history.specs.Standing.{fresh, counted, receiveCall}
 
 abbrev T : List ℕ
@@ -67,7 +67,7 @@ pub printed : (tableCall T ≡ done (record { version = 1; x = 1; y = 0; objects
     × (writeStateCall T A 1 (Element.ChangerSignal (record { current = true; aspect = ChangerAspect.FixedC })) 9 ≡ done C)
     × (labelCall T 1 ≡ done (record { offset = 19; size = 5 }))
     × (settled (differenceCall T A B) (replicate 23 0 ++ (5 ∷ [])) ≡ record { answer = numbers 0 65535 255 23; output = AB ++ (5 ∷ []) })
-unfolding table layouts datRule elementCheck stateOf wordOf bytes settled formBytes readForm versionGood catalogueGood labelLimit carried kindOf labelGood checkObject readTable planOf imageVersionGood element imageBytes readImage listVersion listBytes checkEntry readList difference applied join turned readPlan tableCall imageCall listCall differenceCall applyCall joinCall turnCall readStateCall writeStateCall labelCall
+unfolding table layouts datRule elementCheck stateOf wordOf bytes settled formBytes isWhole readForm versionGood catalogueGood labelLimit carried kindOf labelGood checkObject readTable planOf imageVersionGood element imageBytes readImage listVersion listBytes checkChange checkEntry readList difference applied join turned readPlan tableCall imageCall listCall differenceUnder differenceCall applyUnder applyCall joinUnder joinCall turnUnder turnCall readStateUnder readStateCall checkState writeStateUnder writeStateCall labelCall
 printed = (refl, refl, refl, refl, refl, refl, refl, refl, refl, refl, refl, refl, refl, refl)
 
 pub each-code : (tableCall (take 3 T) ≡ refused 1 65535 255)
@@ -96,12 +96,12 @@ pub each-code : (tableCall (take 3 T) ≡ refused 1 65535 255)
     × (settled (differenceCall T A B) (0 ∷ []) ≡ record { answer = numbers 21 65535 255 23; output = 0 ∷ [] })
     × (writeStateCall T A 0 (Element.ChangerSignal (record { current = true; aspect = ChangerAspect.FixedT })) 9 ≡ refused 22 0 255)
     × (writeStateCall T A 1 (Element.ChangerSignal (record { current = false; aspect = ChangerAspect.FixedT })) 9 ≡ refused 12 1 0)
-unfolding table layouts datRule elementCheck stateOf wordOf bytes settled formBytes readForm versionGood catalogueGood labelLimit carried kindOf labelGood checkObject readTable planOf imageVersionGood element imageBytes readImage listVersion listBytes checkEntry readList difference applied join turned readPlan tableCall imageCall listCall differenceCall applyCall joinCall turnCall readStateCall writeStateCall
+unfolding table layouts datRule elementCheck stateOf wordOf bytes settled formBytes isWhole readForm versionGood catalogueGood labelLimit carried kindOf labelGood checkObject readTable planOf imageVersionGood element imageBytes readImage listVersion listBytes checkChange checkEntry readList difference applied join turned readPlan tableCall imageCall listCall differenceUnder differenceCall applyUnder applyCall joinUnder joinCall turnUnder turnCall readStateUnder readStateCall checkState writeStateUnder writeStateCall
 each-code = (refl, refl, refl, refl, refl, refl, refl, refl, refl, refl, refl, refl, refl, refl, refl, refl, refl, refl, refl, refl, refl, refl, refl, refl, refl, refl)
 
 -- "A join that drops an object also applies to images that refuse the steps": the join of AB and BC drops object 0
 pub trap : (joinCall T AB BC ≡ done AC) × (applyCall T X AB ≡ refused 18 0 255) × (applyCall T X AC ≡ done Y)
-unfolding table layouts datRule elementCheck stateOf wordOf bytes formBytes readForm versionGood catalogueGood labelLimit carried kindOf labelGood checkObject readTable planOf imageVersionGood element imageBytes readImage listVersion listBytes checkEntry readList applied join readPlan applyCall joinCall
+unfolding table layouts datRule elementCheck stateOf wordOf bytes formBytes isWhole readForm versionGood catalogueGood labelLimit carried kindOf labelGood checkObject readTable planOf imageVersionGood element imageBytes readImage listVersion listBytes checkChange checkEntry readList applied join readPlan applyUnder applyCall joinUnder joinCall
 trap = (refl, refl, refl)
 
 -- a tally for each call: applied, late (with no room too), gap, and others, 21 among them; a full one stays
@@ -114,5 +114,5 @@ pub received-each : (receiveCall T A AB (A ++ (5 ∷ [])) fresh ≡ record { ans
     × (receiveCall T X AB B fresh ≡ record { answer = numbers 18 0 255 0; output = B; standing = record { applied = 0; late = 0; gap = 0; other = 1 } })
     × (receiveCall T A AB (take 13 B) fresh ≡ record { answer = numbers 21 65535 255 14; output = take 13 B; standing = record { applied = 0; late = 0; gap = 0; other = 1 } })
     × (receiveCall T A AB B brim .standing ≡ brim)
-unfolding table layouts datRule elementCheck stateOf wordOf bytes settled formBytes readForm versionGood catalogueGood labelLimit carried kindOf labelGood checkObject readTable planOf imageVersionGood element imageBytes readImage listVersion listBytes checkEntry readList applied readPlan applyCall fresh counted receiveCall
+unfolding table layouts datRule elementCheck stateOf wordOf bytes settled formBytes isWhole readForm versionGood catalogueGood labelLimit carried kindOf labelGood checkObject readTable planOf imageVersionGood element imageBytes readImage listVersion listBytes checkChange checkEntry readList applied readPlan applyUnder applyCall fresh counted receiveCall
 received-each = (refl, refl, refl, refl, refl, refl)

@@ -20,7 +20,7 @@ use Rattle.history.specs.Table.{Plan, kindAt, sameCatalogue}
 use Rattle.history.specs.Image.{element}
 use Rattle.history.specs.declared.Change.{Change}
 use Rattle.history.specs.declared.Change.the-variants.{Keep as keep, Swap as swap}
-use Rattle.history.specs.Changes.{Changes, listVersion, entriesBytes, entries, listBytes, Entry, entryOf, entryAt, checkEntry, readEntries, readList}
+use Rattle.history.specs.Changes.{Changes, listVersion, entriesBytes, entries, listBytes, Entry, entryOf, entryAt, checkChange, checkEntry, readEntries, readList}
 use Rattle.history.specs.Legal.{isAccepted, Every, nil, and, lawful, LegalList}
 use Rattle.octets.proofs.NumberLaws.{length-bytes, read-bytes, drop-bytes, drop-is, cut, below}
 use Rattle.history.proofs.VerdictLaws.{all, held, used}
@@ -37,8 +37,8 @@ behind e rest = record { object = e .object; kind = e .kind; old = e .old; new =
 
 -- what a read entry is
 record EntryIs (ks : List Kind) (low : ℕ) (b : List ℕ) (e : Entry) : Type 0 where
-  up : low ≤ e .object
-  inside : e .object < length ks
+  pub up : low ≤ e .object
+  pub inside : e .object < length ks
   kind : e .kind ≡ kindAt ks (e .object)
   law : lawful (e .kind) (swap (e .old) (e .new)) ≡ true
   whole : b ≡ bytes 2 (e .object) ++ (bytes (widthOf (e .kind)) (e .old) ++ (bytes (widthOf (e .kind)) (e .new) ++ e .rest))
@@ -65,17 +65,17 @@ entry-bytes i k b h room =
     }
 
 -- what the checks of an entry tell
-record Checked (ks : List Kind) (low : ℕ) (b : List ℕ) (e : Entry) : Type 0 where
-  two : 2 ≤ length b
-  inside : e .object < length ks
-  up : low ≤ e .object
-  room : 2 + (widthOf (e .kind) + widthOf (e .kind)) ≤ length b
-  old : isAccepted (element (e .kind) (e .old)) ≡ true
-  new : isAccepted (element (e .kind) (e .new)) ≡ true
-  other : not (eqb (e .old) (e .new)) ≡ true
+pub record Checked (ks : List Kind) (low : ℕ) (b : List ℕ) (e : Entry) : Type 0 where
+  pub two : 2 ≤ length b
+  pub inside : e .object < length ks
+  pub up : low ≤ e .object
+  pub room : 2 + (widthOf (e .kind) + widthOf (e .kind)) ≤ length b
+  pub old : isAccepted (element (e .kind) (e .old)) ≡ true
+  pub new : isAccepted (element (e .kind) (e .new)) ≡ true
+  pub other : not (eqb (e .old) (e .new)) ≡ true
 
-was-checked : (ks : List Kind) (low : ℕ) (b : List ℕ) (e : Entry) {e′ : Entry} → checkEntry ks low b e ≡ done e′ → (e ≡ e′) × Checked ks low b e
-unfolding checkEntry
+pub was-checked : (ks : List Kind) (low : ℕ) (b : List ℕ) (e : Entry) {e′ : Entry} → checkEntry ks low b e ≡ done e′ → (e ≡ e′) × Checked ks low b e
+unfolding checkEntry checkChange
 was-checked ks low b e {e′} q =
     let q₁ = held (leb 2 (length b)) _ _ _ _ q in
     let q₂ = held (ltb (e .object) (length ks)) _ _ _ _ (q₁ .1) in
@@ -97,7 +97,7 @@ was-checked ks low b e {e′} q =
     )
 
 is-checked : (ks : List Kind) (low : ℕ) (b : List ℕ) (e : Entry) → Checked ks low b e → checkEntry ks low b e ≡ done e
-unfolding checkEntry
+unfolding checkEntry checkChange
 is-checked ks low b e c =
     rw (
       le-leb 2 (length b) (c .two),

@@ -1,11 +1,11 @@
 -- "Outcomes allowed by one statement are shown equal": what a call ensures is an equation with its definition. For a call that says no
--- more than its answer, and for one that writes. Each floor above says it of its own calls (its `OneOutcome`).
+-- more than its answer, and for one that writes (`Leaves` of OutputLaws). Each floor above says it of its own calls (its `OneOutcome`).
 -- Assumes nothing.
 use Prim.Native.Nat.{ℕ}
 use mathlib.Core.Path.{_≡_, sym, _∙_}
 use mathlib.Core.List.{List}
 use Rattle.history.specs.declared.Answer.{Answer}
-use Rattle.history.specs.Verdict.{Verdict, told, settled}
+use Rattle.history.specs.Verdict.{Verdict, told}
 
 pub one-outcome : {A : Type 0} {x y z : A} → x ≡ z → y ≡ z → x ≡ y
 one-outcome p q = p ∙ sym q
@@ -16,7 +16,3 @@ one-pair p q = (one-outcome (p .0) (q .0), one-outcome (p .1) (q .1))
 -- a call that writes nothing
 abbrev pub Tells : {A : Type 0} → Verdict A → Answer → Type 0
 Tells v r = r ≡ told v
-
--- a call that writes: its answer, and the output at the end
-abbrev pub Leaves : Verdict (List ℕ) → List ℕ → Answer → List ℕ → Type 0
-Leaves v out r m = (r ≡ settled v out .answer) × (m ≡ settled v out .output)

@@ -2,15 +2,16 @@
 -- Assumes nothing.
 use Prim.Native.Nat.{ℕ, _-_, _≤_, _<_}
 use native.Mathlib.Omega.{arith}
-use mathlib.Core.Path.{_≡_, refl, sym, ap, _∙_}
+use mathlib.Core.Path.{_≡_, refl, sym, ap, ap₂, _∙_}
 use mathlib.Core.Bool.{Bool, true, false}
 use mathlib.Core.List.{List, _++_}
 use lib.Dec.{leb}
 use lib.ListN.{length, take, drop, length-append, length-drop, take-append-drop}
 use lib.Seq.{take-append-seam, drop-append-seam}
+use borrow.Rule.Slice.PartMut.{putMid}
 use borrow.Author.Tests.{le-leb, lt-leb, leb-true, leb-false}
 use Rattle.history.specs.declared.Answer.{Answer}
-use Rattle.history.specs.Verdict.{Verdict, refused, done, Outcome, numbers, settled}
+use Rattle.history.specs.Verdict.{Verdict, refused, done, then, Outcome, numbers, told, settled}
 
 -- the numbers of success, the answer's bytes in front, the rest as it was
 pub record Success (b out : List ℕ) (o : Outcome) : Type 0 where
@@ -62,13 +63,46 @@ length-output (done b) out = go (leb (length b) (length out)) refl
         )
     go false e = ap length (too-short out refl (leb-false _ _ e) .1)
 
--- ---- the same as equations, for the code that settles
+-- ---- what a call that writes leaves, for the code that settles: its answer, and the output at the end
 
-pub settled-room : (b out : List ℕ) → length b ≤ length out
-    → settled (done b) out ≡ record { answer = numbers 0 65535 255 (length b); output = b ++ drop (length b) out }
-unfolding settled
-settled-room b out h = rw (le-leb (length b) (length out) h)
+abbrev pub Leaves : Verdict (List ℕ) → List ℕ → Answer → List ℕ → Type 0
+Leaves v out r m = (r ≡ settled v out .answer) × (m ≡ settled v out .output)
 
-pub settled-short : (b out : List ℕ) → length out < length b → settled (done b) out ≡ record { answer = numbers 21 65535 255 (length b); output = out }
+-- the same for laws over what calls left
+pub record Ran (v : Verdict (List ℕ)) (out : List ℕ) (r : Answer) (m : List ℕ) : Type 0 where
+  pub answer : r ≡ settled v out .answer
+  pub output : m ≡ settled v out .output
+
+pub leaves-as : {v w : Verdict (List ℕ)} (out : List ℕ) {r : Answer} {m : List ℕ} → v ≡ w → Leaves v out r m → Leaves w out r m
+leaves-as out e q = rw e at q
+
+pub refused-leaves : (v : Verdict (List ℕ)) (out : List ℕ) {code object bit : ℕ} {r : Answer} → v ≡ refused code object bit → r ≡ numbers code object bit 0 → Leaves v out r out
 unfolding settled
-settled-short b out h = rw (lt-leb (length b) (length out) h)
+refused-leaves v out e q = rw e (q, refl)
+
+-- an answer that is not success, of a call that writes nothing, ..
+pub told-leaves : (v : Verdict (List ℕ)) (out : List ℕ) {r : Answer} → r ≡ told v → (r .code ≡ 0 → ⊥) → Leaves v out r out
+unfolding told
+told-leaves (refused code object bit) out e n = refused-leaves _ out refl e
+told-leaves (done b) out e n = absurd (n (ap (λ (r : Answer). r .code) e))
+
+-- .. is the answer of all that comes after
+pub first-leaves : {A : Type 0} (v : Verdict A) (f : A → Verdict (List ℕ)) (out : List ℕ) {r : Answer} → r ≡ told v → (r .code ≡ 0 → ⊥) → Leaves (then v f) out r out
+unfolding told
+first-leaves (refused code object bit) f out e n = refused-leaves _ out refl e
+first-leaves (done a) f out e n = absurd (n (ap (λ (r : Answer). r .code) e))
+
+module _ (b out : List ℕ) {n : ℕ} (long : length b ≡ n) {r : Answer} where
+  -- 21
+  pub short-leaves : length out < n → r ≡ numbers 21 65535 255 n → Leaves (done b) out r out
+  short-leaves h e = let s = too-short {b = b} out refl (rw long h) in (e ∙ ap (numbers 21 65535 255) (sym long) ∙ sym (s .0), sym (s .1))
+
+  pub written-leaves : n ≤ length out → r ≡ numbers 0 65535 255 n → {m : List ℕ} → m ≡ b ++ drop n out → Leaves (done b) out r m
+  unfolding settled
+  written-leaves h e q = rw (le-leb (length b) (length out) (rw long h), long) (e, q)
+
+  -- the front was lent as a part and came back as the answer's bytes
+  pub front-leaves : n ≤ length out → r ≡ numbers 0 65535 255 n → {part : List ℕ} → part ≡ b → Leaves (done b) out r (putMid 0 (n - 0) out part)
+  front-leaves h e q =
+      let all : n - 0 ≡ n = omega arith in
+      written-leaves h e (ap₂ (λ (p : List ℕ) (k : ℕ). p ++ drop k out) q all)

@@ -17,12 +17,12 @@ use Rattle.kinds.specs.declared.Kind.{Kind}
 use Rattle.kinds.specs.declared.Element.{Element}
 use Rattle.history.specs.Verdict.{Verdict, refused, done, then, refusalAt, _unless_⨾_}
 use Rattle.history.specs.Table.{Plan, kindAt}
-use Rattle.history.specs.Image.{element, imageBytes}
+use Rattle.history.specs.Image.{element, _of_⨾_, imageBytes}
 use Rattle.history.specs.Operations.{zip}
-use Rattle.history.specs.Calls.{readPlan, placed, stateAt, readStateCall, writeStateCall}
+use Rattle.history.specs.Calls.{readPlan, placed, stateAt, readStateUnder, readStateCall, checkState, writeStateUnder, writeStateCall}
 use Rattle.elements.specs.Elements.{sameKind}
 use Rattle.history.specs.Legal.{isAccepted, admits, Every, nil, and, LegalImage}
-use Rattle.history.proofs.VerdictLaws.{held}
+use Rattle.history.proofs.VerdictLaws.{held, used}
 use Rattle.history.proofs.ElementLaws.{was-accepted, is-accepted, admits-accepted, word-again, state-again, state-kind, state-admitted, same-kind, is-same-kind, state-found}
 use Rattle.history.proofs.CallLaws.{AcceptedImage, legal-image}
 
@@ -56,6 +56,28 @@ module _ {A B : Type 0} {test : A → B → Bool} where
   every-set d (and h r) zero b l t = and t r
   every-set d (and h r) (suc i) b l t = and h (every-set d r i b (omega arith) t)
 
+-- ---- a state handed in
+
+module _ (ks : List Kind) (i : ℕ) (e : Element) where
+  -- accepted: the object is there and of the state's kind, and the word is the state's
+  pub record Taken (w : ℕ) : Type 0 where
+    pub inside : i < length ks
+    pub kind : kindIn e ≡ kindAt ks i
+    pub good : isAccepted (element (kindAt ks i) (wordOf e)) ≡ true
+    pub word : wordOf e ≡ w
+
+  pub state-taken : {w : ℕ} → checkState ks i e ≡ done w → Taken w
+  unfolding checkState
+  state-taken q =
+      let q₁ = held (ltb i (length ks)) _ _ _ _ q in
+      let q₂ = held (sameKind (kindIn e) (kindAt ks i)) _ _ _ _ (q₁ .1) in
+      let q₃ = was-accepted (element (kindAt ks i) (wordOf e)) i _ (q₂ .1) in
+      record { inside = ltb-true _ _ (q₁ .0); kind = same-kind (kindIn e) (kindAt ks i) (q₂ .0); good = q₃ .0; word = cc (q₃ .1) }
+
+  pub state-checked : i < length ks → kindIn e ≡ kindAt ks i → checkState ks i e ≡ (element (kindAt ks i) (wordOf e) of i ⨾ done (wordOf e))
+  unfolding checkState
+  state-checked l s = rw (lt-ltb i (length ks) l, is-same-kind (kindIn e) (kindAt ks i) s)
+
 -- ---- the calls
 
 -- each object's state read, and written back at the position
@@ -73,11 +95,11 @@ module _ (T : List ℕ) {p : Plan} (t : readPlan T ≡ done p) where
   answered i state = refusalAt 13 i unless ltb i (length (p .kinds)) ⨾ done state
 
   read-any : {A : List ℕ} (a : AcceptedImage p A) (i : ℕ) → readStateCall T A i ≡ answered i (stateAt p (a .image) i)
-  unfolding readStateCall
+  unfolding readStateCall readStateUnder
   read-any a i = rw (t, a .reads)
 
   pub read-is : {A : List ℕ} (a : AcceptedImage p A) (i : ℕ) → i < length (p .kinds) → readStateCall T A i ≡ done (stateAt p (a .image) i)
-  unfolding readStateCall
+  unfolding readStateCall readStateUnder
   read-is a i h = rw (t, a .reads, lt-ltb i (length (p .kinds)) h)
 
   -- what a write that is not refused tells
@@ -88,14 +110,11 @@ module _ (T : List ℕ) {p : Plan} (t : readPlan T ≡ done p) where
     pub same : B ≡ imageBytes p (placed (a .image) i (wordOf e) position)
 
   pub wrote : {A B : List ℕ} (a : AcceptedImage p A) (i : ℕ) (e : Element) (position : ℕ) → writeStateCall T A i e position ≡ done B → Wrote a i e position B
-  unfolding writeStateCall
+  unfolding writeStateCall writeStateUnder
   wrote {A} {B} a i e position q =
-      let q₀ = rw (t, a .reads) at q in
-      let q₁ = held (ltb i (length (p .kinds))) _ _ _ _ q₀ in
-      let q₂ = held (sameKind (kindIn e) (kindAt (p .kinds) i)) _ _ _ _ (q₁ .1) in
-      let q₃ = was-accepted (element (kindAt (p .kinds) i) (wordOf e)) i _ (q₂ .1) in
-      let s = same-kind (kindIn e) (kindAt (p .kinds) i) (q₂ .0) in
-      record { inside = ltb-true _ _ (q₁ .0); kind = s; good = state-admitted (kindAt (p .kinds) i) e s (q₃ .0); same = cc (q₃ .1) }
+      let c = used (checkState (p .kinds) i e) _ (rw (t, a .reads) at q) in
+      let k = state-taken (p .kinds) i e (c .1) in
+      record { inside = k .inside; kind = k .kind; good = state-admitted (kindAt (p .kinds) i) e (k .kind) (k .good); same = cc (c .2, k .word) }
 
   -- the new image is accepted
   pub written-legal : {A B : List ℕ} (a : AcceptedImage p A) (i : ℕ) (e : Element) (position : ℕ) → position < 2 ^ 32 → Wrote a i e position B
@@ -108,21 +127,19 @@ module _ (T : List ℕ) {p : Plan} (t : readPlan T ≡ done p) where
 
   pub write-is : {A : List ℕ} (a : AcceptedImage p A) (i : ℕ) (e : Element) (position : ℕ) → i < length (p .kinds) → kindIn e ≡ kindAt (p .kinds) i → isAccepted (element (kindAt (p .kinds) i) (wordOf e)) ≡ true
       → writeStateCall T A i e position ≡ done (imageBytes p (placed (a .image) i (wordOf e) position))
-  unfolding writeStateCall
-  write-is a i e position l s h =
-      rw (t, a .reads, lt-ltb i (length (p .kinds)) l, is-same-kind (kindIn e) (kindAt (p .kinds) i) s)
-      (is-accepted (element (kindAt (p .kinds) i) (wordOf e)) i _ h)
+  unfolding writeStateCall writeStateUnder
+  write-is a i e position l s h = rw (t, a .reads, state-checked (p .kinds) i e l s, is-accepted (element (kindAt (p .kinds) i) (wordOf e)) i (done (wordOf e)) h)
 
   -- a state of the object's type is written, or refused with 12
   pub write-found : {A : List ℕ} (a : AcceptedImage p A) (i : ℕ) (e : Element) (position : ℕ) → i < length (p .kinds) → kindIn e ≡ kindAt (p .kinds) i
       → (writeStateCall T A i e position ≡ done (imageBytes p (placed (a .image) i (wordOf e) position))) ⊎ (writeStateCall T A i e position ≡ refused 12 i 0)
-  unfolding writeStateCall
+  unfolding writeStateCall writeStateUnder
   write-found {A = A} a i e position l s = go (state-found (kindAt (p .kinds) i) e s)
     where
       go : (element (kindAt (p .kinds) i) (wordOf e) ≡ Finding.Accepted) ⊎ (element (kindAt (p .kinds) i) (wordOf e) ≡ Finding.Refused (record { code = 12; bit = 0 }))
           → (writeStateCall T A i e position ≡ done (imageBytes p (placed (a .image) i (wordOf e) position))) ⊎ (writeStateCall T A i e position ≡ refused 12 i 0)
-      go (inl f) = inl (rw (t, a .reads, lt-ltb i (length (p .kinds)) l, is-same-kind (kindIn e) (kindAt (p .kinds) i) s, f))
-      go (inr f) = inr (rw (t, a .reads, lt-ltb i (length (p .kinds)) l, is-same-kind (kindIn e) (kindAt (p .kinds) i) s, f))
+      go (inl f) = inl (rw (t, a .reads, state-checked (p .kinds) i e l s, f))
+      go (inr f) = inr (rw (t, a .reads, state-checked (p .kinds) i e l s, f))
 
   abbrev pub written-image : {A B : List ℕ} (a : AcceptedImage p A) (i : ℕ) (e : Element) (position : ℕ) → position < 2 ^ 32 → Wrote a i e position B → AcceptedImage p B
   written-image a i e position small w = legal-image T t (written-legal a i e position small w) (w .same)

@@ -30,36 +30,42 @@ imageCall t a = then (readPlan t) λ p. readImage p a
 unfoldable pub listCall : List ℕ → List ℕ → Verdict Changes
 listCall t l = then (readPlan t) λ p. readList p l
 
--- ---- change lists
+-- ---- change lists: what the other forms give under a plan; the call reads the table first
 
-unfoldable pub differenceCall : List ℕ → List ℕ → List ℕ → Verdict (List ℕ)
-differenceCall t a b =
-    then (readPlan t) λ p.
+unfoldable pub differenceUnder : Plan → List ℕ → List ℕ → Verdict (List ℕ)
+differenceUnder p a b =
     then (readImage p a) λ a.
     then (readImage p b) λ b.
     done (listBytes p (difference a b))
 
-unfoldable pub applyCall : List ℕ → List ℕ → List ℕ → Verdict (List ℕ)
-applyCall t a l =
-    then (readPlan t) λ p.
+unfoldable pub differenceCall : List ℕ → List ℕ → List ℕ → Verdict (List ℕ)
+differenceCall t a b = then (readPlan t) λ p. differenceUnder p a b
+
+unfoldable pub applyUnder : Plan → List ℕ → List ℕ → Verdict (List ℕ)
+applyUnder p a l =
     then (readImage p a) λ a.
     then (readList p l) λ l.
     then (applied l a) λ b.
     done (imageBytes p b)
 
-unfoldable pub joinCall : List ℕ → List ℕ → List ℕ → Verdict (List ℕ)
-joinCall t l m =
-    then (readPlan t) λ p.
+unfoldable pub applyCall : List ℕ → List ℕ → List ℕ → Verdict (List ℕ)
+applyCall t a l = then (readPlan t) λ p. applyUnder p a l
+
+unfoldable pub joinUnder : Plan → List ℕ → List ℕ → Verdict (List ℕ)
+joinUnder p l m =
     then (readList p l) λ l.
     then (readList p m) λ m.
     then (join l m) λ k.
     done (listBytes p k)
 
+unfoldable pub joinCall : List ℕ → List ℕ → List ℕ → Verdict (List ℕ)
+joinCall t l m = then (readPlan t) λ p. joinUnder p l m
+
+unfoldable pub turnUnder : Plan → List ℕ → Verdict (List ℕ)
+turnUnder p l = then (readList p l) λ l. done (listBytes p (turned l))
+
 unfoldable pub turnCall : List ℕ → List ℕ → Verdict (List ℕ)
-turnCall t l =
-    then (readPlan t) λ p.
-    then (readList p l) λ l.
-    done (listBytes p (turned l))
+turnCall t l = then (readPlan t) λ p. turnUnder p l
 
 -- ---- states
 
@@ -68,26 +74,35 @@ abbrev pub stateAt : Plan → Image → ℕ → Element
 stateAt p a i = stateOf (kindAt (p .kinds) i) (getD (a .words) i 0)
 
 -- 13
-unfoldable pub readStateCall : List ℕ → List ℕ → ℕ → Verdict Element
-readStateCall t a i =
-    then (readPlan t) λ p.
+unfoldable pub readStateUnder : Plan → List ℕ → ℕ → Verdict Element
+readStateUnder p a i =
     then (readImage p a) λ a.
     refusalAt 13 i unless ltb i (length (p .kinds)) ⨾
     done (stateAt p a i)
+
+unfoldable pub readStateCall : List ℕ → List ℕ → ℕ → Verdict Element
+readStateCall t a i = then (readPlan t) λ p. readStateUnder p a i
+
+-- 13, 22; "a state handed in is checked as an element is" (12)
+unfoldable pub checkState : List Kind → ℕ → Element → Verdict ℕ
+checkState ks i state =
+    refusalAt 13 i unless ltb i (length ks) ⨾
+    refusalAt 22 i unless sameKind (kindIn state) (kindAt ks i) ⨾
+    element (kindAt ks i) (wordOf state) of i ⨾
+    done (wordOf state)
 
 -- the image with object i's word and the position anew
 abbrev pub placed : Image → ℕ → ℕ → ℕ → Image
 placed a i w position = record { version = a .version; position = position; words = set (a .words) i w }
 
--- 13, 22; "a state handed in is checked as an element is" (12)
-unfoldable pub writeStateCall : List ℕ → List ℕ → ℕ → Element → ℕ → Verdict (List ℕ)
-writeStateCall t a i state position =
-    then (readPlan t) λ p.
+unfoldable pub writeStateUnder : Plan → List ℕ → ℕ → Element → ℕ → Verdict (List ℕ)
+writeStateUnder p a i state position =
     then (readImage p a) λ a.
-    refusalAt 13 i unless ltb i (length (p .kinds)) ⨾
-    refusalAt 22 i unless sameKind (kindIn state) (kindAt (p .kinds) i) ⨾
-    element (kindAt (p .kinds) i) (wordOf state) of i ⨾
-    done (imageBytes p (placed a i (wordOf state) position))
+    then (checkState (p .kinds) i state) λ w.
+    done (imageBytes p (placed a i w position))
+
+unfoldable pub writeStateCall : List ℕ → List ℕ → ℕ → Element → ℕ → Verdict (List ℕ)
+writeStateCall t a i state position = then (readPlan t) λ p. writeStateUnder p a i state position
 
 -- ---- "the label is handed back as the very bytes of the lent table": where it stands in them
 

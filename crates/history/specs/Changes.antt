@@ -71,17 +71,22 @@ entryOf i k b = record {
 abbrev pub entryAt : List Kind → List ℕ → Entry
 entryAt ks b = entryOf (number (take 2 b)) (kindAt ks (number (take 2 b))) (drop 2 b)
 
--- an entry whose number is to be at least low: 8 (number cut), 13, 14, 8 (elements cut), old element, new element, 15
+-- old element, new element, 15
+unfoldable pub checkChange : Entry → Verdict Entry
+checkChange e =
+    element (e .kind) (e .old) of e .object ⨾
+    element (e .kind) (e .new) of e .object ⨾
+    refusalAt 15 (e .object) unless not (eqb (e .old) (e .new)) ⨾
+    done e
+
+-- an entry whose number is to be at least low: 8 (number cut), 13, 14, 8 (elements cut), then its elements
 unfoldable pub checkEntry : List Kind → ℕ → List ℕ → Entry → Verdict Entry
 checkEntry ks low b e =
     refusal 8 unless leb 2 (length b) ⨾
     refusalAt 13 (e .object) unless ltb (e .object) (length ks) ⨾
     refusalAt 14 (e .object) unless leb low (e .object) ⨾
     refusal 8 unless leb (2 + (widthOf (e .kind) + widthOf (e .kind))) (length b) ⨾
-    element (e .kind) (e .old) of e .object ⨾
-    element (e .kind) (e .new) of e .object ⨾
-    refusalAt 15 (e .object) unless not (eqb (e .old) (e .new)) ⨾
-    done e
+    checkChange e
 
 -- what n entries say of each object from low on; last 8
 abbrev pub readEntries : List Kind → ℕ → ℕ → List ℕ → Verdict (List Change)

@@ -7,7 +7,7 @@ use lib.ListN.{set}
 use Rattle.octets.specs.Octets.{bytes}
 use Rattle.rows.specs.Table.{table, layouts}
 use Rattle.elements.specs.Elements.{carried, kindOf, datRule, elementCheck}
-use Rattle.history.specs.Form.{readForm}
+use Rattle.history.specs.Form.{isWhole, readForm}
 use Rattle.history.specs.Table.{versionGood, catalogueGood, labelLimit, labelGood, checkObject, readTable, planOf}
 use Rattle.history.specs.Image.{imageVersionGood, element, readImage}
 use Rattle.text.specs.Decimal.{decimalIn, decimal}
@@ -32,5 +32,5 @@ abbrev refusal : List ℕ
 refusal = 0x72 ∷ 0x65 ∷ 0x66 ∷ 0x75 ∷ 0x73 ∷ 0x65 ∷ 0x64 ∷ 0x20 ∷ 0x31 ∷ 0x30 ∷ 0x20 ∷ 0x31 ∷ 0x20 ∷ 0x33 ∷ 0x0A ∷ []
 
 pub listings : (listingOf (T ++ A) ≡ printed) × (listingOf (T ++ set A 13 9) ≡ refusal)
-unfolding bytes table layouts carried kindOf datRule elementCheck readForm versionGood catalogueGood labelLimit labelGood checkObject readTable planOf imageVersionGood element readImage decimalIn decimal hexDigit readBoth readPanel firstLine objectLine refusedLine textOf listingOf
+unfolding bytes table layouts carried kindOf datRule elementCheck isWhole readForm versionGood catalogueGood labelLimit labelGood checkObject readTable planOf imageVersionGood element readImage decimalIn decimal hexDigit readBoth readPanel firstLine objectLine refusedLine textOf listingOf
 listings = (refl, refl)

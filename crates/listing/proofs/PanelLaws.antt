@@ -20,8 +20,8 @@ use Rattle.history.proofs.VerdictLaws.{used}
 use Rattle.history.proofs.TableLaws.{table-is}
 use Rattle.tables.specs.Outlines.{kindsOf, planAs, Outlined}
 use Rattle.tables.specs.declared.answers.Outline.{Outline}
-use Rattle.tables.proofs.CallerLaws.{kinds-length}
 use Rattle.forms.proofs.Accepted.{image-accepted}
+use Rattle.forms.proofs.KindLaws.{length-kinds}
 use Rattle.text.specs.Wrote.{Wrote}
 use Rattle.text.proofs.Laws.{then as text-then}
 use Rattle.listing.specs.Listing.{Panel, readBoth, firstLine, refusedLine, textOf}
@@ -130,7 +130,7 @@ read-as {b} {a} {ns} r hb ha =
       reads = both-read b a (t .1) plan (i .reads);
       legal = tab .legal;
       kinds = kinds;
-      count = plan-length (t .0) ∙ ap length kinds ∙ kinds-length ns;
+      count = plan-length (t .0) ∙ ap length kinds ∙ length-kinds ns;
       nine = rw b-is (table-long (t .0));
       eleven = rw a-is (image-long _ (i .image));
       x = ap (λ (c : List ℕ). getD c 5 0) b-is ∙ table-x (t .0);

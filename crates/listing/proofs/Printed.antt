@@ -4,36 +4,29 @@
 use Prim.Native.Nat.{ℕ, _+_, _≤_}
 use native.Mathlib.Omega.{arith}
 use mathlib.Core.Path.{_≡_, refl, sym, ap, _∙_}
-use mathlib.Core.Bool.{Bool}
 use mathlib.Core.List.{List, _++_}
-use lib.Dec.{eqb, leb}
 use lib.ListN.{length, take, length-append}
 use lib.Seq.{take-append-le, take-at, drop-at}
-use borrow.Author.Tests.{le-leb, leb-true, eqb-true}
+use borrow.Author.Tests.{le-leb}
 use Rattle.octets.specs.Octets.{number}
 use Rattle.history.specs.declared.Answer.{Answer}
 use Rattle.history.specs.Verdict.{Verdict, refused, done, then, told}
-use Rattle.history.specs.Form.{Form, readForm}
+use Rattle.history.specs.Form.{readForm}
 use Rattle.history.specs.Table.{Table, Plan, versionGood, readTable, planOf}
 use Rattle.history.specs.Image.{Image, readImage}
 use Rattle.history.specs.Calls.{tableCall, readPlan, imageCall}
-use Rattle.history.proofs.VerdictLaws.{held, used}
+use Rattle.history.proofs.FormLaws.{form-whole}
+use Rattle.history.proofs.VerdictLaws.{used}
 use Rattle.tables.proofs.AnswerLaws.{told-then}
 use Rattle.listing.specs.Listing.{Panel, readBoth, tableSize, readPanel, refusedLine, panelText, textOf, listingOf}
 
 -- ---- table and image, one behind the other
 
--- a form that is read fills its slice
-form-fills : (least : ℕ) (good : ℕ → Bool) (b : List ℕ) {f : Form} → readForm least good b ≡ done f → (4 ≤ length b) × (length b ≡ 4 + number (take 4 b))
-unfolding readForm
-form-fills least good b e =
-    let four = held (leb 4 (length b)) _ _ _ _ e in
-    let fills = held (eqb (length b) (4 + number (take 4 b))) _ _ _ _ (four .1) in
-    (leb-true 4 (length b) (four .0), eqb-true (length b) (4 + number (take 4 b)) (fills .0))
-
 table-fills : (t : List ℕ) {table : Table} → tableCall t ≡ done table → (4 ≤ length t) × (length t ≡ 4 + number (take 4 t))
 unfolding tableCall readTable
-table-fills t e = form-fills 5 versionGood t (used (readForm 5 versionGood t) _ e .1)
+table-fills t e =
+    let w = form-whole 5 versionGood t (used (readForm 5 versionGood t) _ e .1) in
+    (omega (arith, w .long), w .length-is)
 
 module _ (t a : List ℕ) (four : 4 ≤ length t) (fills : length t ≡ 4 + number (take 4 t)) (few : length t + length a ≤ 65536) where
   size : tableSize (t ++ a) ≡ length t

@@ -16,8 +16,7 @@ use Rattle.history.specs.Table.{Object, objectsBytes, kindAt}
 use Rattle.history.specs.Image.{wordsBytes}
 use Rattle.history.specs.Legal.{Every, and, admits}
 use Rattle.tables.specs.Outlines.{kindsOf}
-use Rattle.tables.proofs.CallerLaws.{kinds-length}
-use Rattle.forms.proofs.KindLaws.{kinds-next, kinds-end}
+use Rattle.forms.proofs.KindLaws.{length-kinds, kinds-next, kinds-end}
 use Rattle.text.specs.Wrote.{Wrote}
 use Rattle.text.proofs.Laws.{then}
 use Rattle.listing.specs.Listing.{readBoth, objectLine, linesOf}
@@ -104,7 +103,7 @@ begin {b} {a} {ns} r out at h = record {
   space = h;
   so-far = record { next = omega arith; text = refl };
   whole = lines-in r;
-  ahead = record { entries = r .entries; elements = r .elements; each = r .each; count = r .count ∙ sym (kinds-length ns); inside = r .eleven };
+  ahead = record { entries = r .entries; elements = r .elements; each = r .each; count = r .count ∙ sym (length-kinds ns); inside = r .eleven };
 }
 
 module _ {b a ns out₀ : List ℕ} {at : ℕ} {out : List ℕ} {to entry place i : ℕ} (l : Walked b a ns out₀ at out to entry place i) where

@@ -9,14 +9,11 @@ use lib.Seq.{take-all, length-take-le}
 use Rattle.octets.specs.Octets.{bytes}
 use Rattle.kinds.specs.declared.Kind.{Kind}
 use Rattle.history.specs.declared.Change.{Change}
-use Rattle.history.specs.Verdict.{done, Outcome, numbers, settled}
 use Rattle.history.specs.Form.{formBytes}
 use Rattle.history.specs.Image.{widths}
 use Rattle.history.specs.Changes.{entries, entriesBytes, listBytes}
 use Rattle.octets.proofs.NumberLaws.{length-bytes}
-use Rattle.octets.proofs.Writing.{Written, front}
 use Rattle.history.proofs.ImageLaws.{widths-few}
-use Rattle.history.proofs.OutputLaws.{settled-room, settled-short}
 use Rattle.steps.specs.declared.Walk.{Walk}
 use Rattle.tables.specs.Outlines.{kindsOf}
 use Rattle.walks.specs.Walks.{walked, walkBytes, Measured, renewal}
@@ -74,19 +71,3 @@ module _ (ks : List Kind) (b : List ℕ) (to : ℕ) (e : List ℕ) (h : length b
 
   pub length-after : length (imageAfter ks b to e) ≡ length b
   length-after = ap length (sym after-is) ∙ simp (length-append, length-bytes, length-front, length-rest) (omega arith)
-
--- ---- what is settled
-
--- no room: 21 with the length, and the output stays
-module _ (b out : List ℕ) {n : ℕ} (e : length b ≡ n) where
-  pub short-is : length out < n → {r : _} → r ≡ numbers 21 65535 255 n → r ≡ settled (done b) out .answer
-  short-is h q = q ∙ sym (ap (λ (o : Outcome). o .answer) (settled-short b out (omega arith)) ∙ ap (numbers 21 65535 255) e)
-
-  pub short-stays : length out < n → out ≡ settled (done b) out .output
-  short-stays h = sym (ap (λ (o : Outcome). o .output) (settled-short b out (omega arith)))
-
-  pub written-is : n ≤ length out → {r : _} → r ≡ numbers 0 65535 255 n → r ≡ settled (done b) out .answer
-  written-is h q = q ∙ sym (ap (λ (o : Outcome). o .answer) (settled-room b out (omega arith)) ∙ ap (numbers 0 65535 255) e)
-
-  pub written-out : n ≤ length out → {m : List ℕ} → Written out b n m → m ≡ settled (done b) out .output
-  written-out h w = front w ∙ sym (ap (λ (o : Outcome). o .output) (settled-room b out (omega arith)))

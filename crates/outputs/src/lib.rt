@@ -49,13 +49,14 @@ pub fn write_image(kinds: &[u8], image: &[u8], to: u32, entries: &[u8], out: &mu
     ensures { λ _. ⌜ now (out .exit) ≡ settled (done (imageAfter (kindsOf (now (kinds .entry))) (now (image .entry)) to (now (entries .entry)))) (now (out .entry)) .output ⌝ }
 {
     let need = image.len();
+    let bytes = need as u32;
     if out.len() < need {
-        return short(need as u32);
+        return short(bytes);
     }
     octets::copy(&mut out[0..7], &image[0..7]);
     octets::put(&mut out[7..11], to);
     put_elements(&mut out[11..need], kinds, &image[11..need], entries);
-    written(need as u32)
+    written(bytes)
 }
 
 // Fills the part with the elements after the entries.

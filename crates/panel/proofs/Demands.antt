@@ -4,32 +4,29 @@
 -- Assumes nothing.
 use Prim.Native.Nat.{ℕ, _^_, _≤_, _<_}
 use native.Mathlib.Omega.{arith}
-use mathlib.Core.Path.{_≡_, sym, ap, ap₂, _∙_}
-use mathlib.Core.List.{List}
+use mathlib.Core.Path.{_≡_, sym, ap, _∙_}
+use mathlib.Core.List.{List, _++_}
 use lib.ListN.{length, take, drop}
+use borrow.Author.Tests.{le-leb}
 use Rattle.octets.specs.Octets.{Bytes, number}
 use Rattle.kinds.specs.declared.Element.{Element}
 use Rattle.history.specs.declared.Answer.{Answer}
 use Rattle.history.specs.Verdict.{Verdict, refused, done, then, numbers, settled}
 use Rattle.history.specs.Table.{Plan}
 use Rattle.history.specs.Image.{Image, readImage}
-use Rattle.history.specs.Calls.{readPlan, imageCall, readStateCall, writeStateCall}
-use Rattle.history.proofs.CodeLaws.{write-call-coded, zero-succeeds}
+use Rattle.history.specs.Calls.{readPlan, imageCall, readStateUnder, readStateCall, writeStateCall}
+use Rattle.history.proofs.CodeLaws.{write-call-coded, Delivered, delivered}
 use Rattle.history.proofs.Demands.{write-then-read, others-stay, read-then-write}
-use Rattle.history.proofs.OutputLaws.{succeeds, refusal-stays}
+use Rattle.history.proofs.OutputLaws.{Ran, refusal-stays}
 use Rattle.history.proofs.ImageLaws.{image-is}
 use Rattle.history.proofs.VerdictLaws.{used}
 use Rattle.panel.specs.declared.read.Reading.{Reading}
 use Rattle.panel.specs.Readings.{readingOf}
 use Rattle.panel.proofs.ElementPlaces.{image-position}
 
--- what `read_state` ensures of its reading, and `write_state` of its answer and its output
+-- what `read_state` ensures of its reading
 abbrev pub Read : List ℕ → List ℕ → ℕ → Reading → Type 0
 Read T A i s = s ≡ readingOf (readStateCall T A i)
-
-pub record Wrote (T A : List ℕ) (i : ℕ) (e : Element) (position : ℕ) (out : List ℕ) (r : Answer) (out′ : List ℕ) : Type 0 where
-  pub answer : r ≡ settled (writeStateCall T A i e position) out .answer
-  pub output : out′ ≡ settled (writeStateCall T A i e position) out .output
 
 -- a reading that is a state
 state-read : (v : Verdict Element) (e : Element) → Reading.State e ≡ readingOf v → v ≡ done e
@@ -40,58 +37,42 @@ state-read (done s) e q = cc
 -- .. was read from an accepted image, whose position stands in its bytes 7 to 10
 read-image : (T A : List ℕ) (i : ℕ) (e : Element) → Bytes A → readStateCall T A i ≡ done e
     → (a : Image) × (imageCall T A ≡ done a) × (a .position ≡ number (take 4 (drop 7 A)))
-unfolding readStateCall imageCall
+unfolding readStateCall readStateUnder imageCall
 read-image T A i e h q =
     let t = used (readPlan T) _ q in
     let a = used (readImage (t .0) A) _ (t .2) in
     let w = image-is (t .0) A h (a .1) in
     (a .0, ap (λ (v : Verdict Plan). then v (λ p. readImage p A)) (t .1) ∙ a .1, sym (ap (λ (b : List ℕ). number (take 4 (drop 7 b))) (w .1) ∙ image-position (w .0)))
 
-module _ {T A : List ℕ} {i : ℕ} {e : Element} {position : ℕ} {out : List ℕ} {r : Answer} {out′ : List ℕ} (w : Wrote T A i e position out r out′) where
+module _ (T A : List ℕ) (i : ℕ) (e : Element) (position : ℕ) {out : List ℕ} {r : Answer} {m : List ℕ} (w : Ran (writeStateCall T A i e position) out r m) where
   -- a refusal writes no output
-  pub refused-writes-nothing : (r .code ≡ 0 → ⊥) → out′ ≡ out
+  pub refused-writes-nothing : (r .code ≡ 0 → ⊥) → m ≡ out
   refused-writes-nothing n = w .output ∙ refusal-stays (writeStateCall T A i e position) out (λ z. n (ap (λ (a : Answer). a .code) (w .answer) ∙ z))
 
   module _ (ok : r .code ≡ 0) where
-    -- what was written, and that it stands at the front
-    written : (B : List ℕ) × (writeStateCall T A i e position ≡ done B) × (take (r .length) out′ ≡ B) × (drop (r .length) out′ ≡ drop (r .length) out)
-    written =
-        let q = zero-succeeds (writeStateCall T A i e position) out (write-call-coded T A i e position) (ap (λ (a : Answer). a .code) (sym (w .answer)) ∙ ok) in
-        let s = succeeds out (q .1) (q .2) in
-        let n : r .length ≡ length (q .0) = ap (λ (a : Answer). a .length) (w .answer ∙ s .answer) in (
-          q .0,
-          q .1,
-          ap₂ (λ (n : ℕ) (l : List ℕ). take n l) n (w .output) ∙ s .front,
-          ap₂ (λ (n : ℕ) (l : List ℕ). drop n l) n (w .output) ∙ s .rest ∙ ap (λ (n : ℕ). drop n out) (sym n),
-        )
+    written : Delivered (writeStateCall T A i e position) out r m
+    written = delivered (write-call-coded T A i e position) w ok
 
     -- the rest stays
-    pub rest-stays : drop (r .length) out′ ≡ drop (r .length) out
-    rest-stays = written .3
+    pub rest-stays : drop (r .length) m ≡ drop (r .length) out
+    rest-stays = written .rest
 
     module _ (h : Bytes A) (small : position < 2 ^ 32) where
       -- a state written is read
-      pub read-after-write : {s : Reading} → Read T (take (r .length) out′) i s → s ≡ Reading.State e
+      pub read-after-write : {s : Reading} → Read T (take (r .length) m) i s → s ≡ Reading.State e
       unfolding readingOf
-      read-after-write q =
-          q ∙ ap (λ (b : List ℕ). readingOf (readStateCall T b i)) (written .2) ∙ ap readingOf (write-then-read T A i e position h small (written .1))
+      read-after-write q = q ∙ ap readingOf (write-then-read T A i e position h small (written .bytes))
 
       -- every other object is read as before, refusals too
-      pub others-after-write : (j : ℕ) → (j ≡ i → ⊥) → {s u : Reading} → Read T (take (r .length) out′) j s → Read T A j u → s ≡ u
-      others-after-write j n q p =
-          q ∙ ap (λ (b : List ℕ). readingOf (readStateCall T b j)) (written .2) ∙ ap readingOf (others-stay T A i e position h small (written .1) j n) ∙ sym p
+      pub others-after-write : (j : ℕ) → (j ≡ i → ⊥) → {s u : Reading} → Read T (take (r .length) m) j s → Read T A j u → s ≡ u
+      others-after-write j n q p = q ∙ ap readingOf (others-stay T A i e position h small (written .bytes) j n) ∙ sym p
 
 -- what was read, written at the image's own position where there is room, gives the image's bytes
-pub write-after-read : (T A : List ℕ) (i : ℕ) (e : Element) (out : List ℕ) {r : Answer} {out′ : List ℕ} → Bytes A → Read T A i (Reading.State e) → length A ≤ length out
-    → Wrote T A i e (number (take 4 (drop 7 A))) out r out′ → (r ≡ numbers 0 65535 255 (length A)) × (take (r .length) out′ ≡ A) × (drop (r .length) out′ ≡ drop (r .length) out)
-write-after-read T A i e out {r} h q room w =
+pub write-after-read : (T A : List ℕ) (i : ℕ) (e : Element) (out : List ℕ) {r : Answer} {m : List ℕ} → Bytes A → Read T A i (Reading.State e) → length A ≤ length out
+    → Ran (writeStateCall T A i e (number (take 4 (drop 7 A)))) out r m → (r ≡ numbers 0 65535 255 (length A)) × (m ≡ A ++ drop (length A) out)
+unfolding settled
+write-after-read T A i e out h q room w =
     let v = state-read (readStateCall T A i) e q in
     let a = read-image T A i e h v in
     let same : writeStateCall T A i e (number (take 4 (drop 7 A))) ≡ done A = ap (writeStateCall T A i e) (sym (a .2)) ∙ read-then-write T A i h (a .1) v in
-    let s = succeeds out same room in
-    let r-is : r ≡ numbers 0 65535 255 (length A) = w .answer ∙ s .answer in
-    let n : r .length ≡ length A = ap (λ (a : Answer). a .length) r-is in (
-      r-is,
-      ap₂ (λ (n : ℕ) (l : List ℕ). take n l) n (w .output) ∙ s .front,
-      ap₂ (λ (n : ℕ) (l : List ℕ). drop n l) n (w .output) ∙ s .rest ∙ ap (λ (n : ℕ). drop n out) (sym n),
-    )
+    (rw (le-leb (length A) (length out) room) at (rw same at (w .answer)), rw (le-leb (length A) (length out) room) at (rw same at (w .output)))

@@ -22,7 +22,7 @@ use Rattle.history.proofs.ImageLaws.{length-words, widths-few}
 use Rattle.tables.specs.Outlines.{kindsOf}
 use Rattle.forms.proofs.KindLaws.{length-kinds}
 use Rattle.panel.specs.Places.{placeIn, Sized}
-use Rattle.panel.specs.Writings.{over, renewed}
+use Rattle.panel.specs.Writings.{over, imageAnew}
 
 -- ---- bytes laid over others
 
@@ -130,8 +130,8 @@ module _ {p : Plan} {a : Image} (legal : LegalImage p a) where
           ∙ ap (λ (b : List ℕ). front p a (length (contents p a)) ++ b)
           (over-here (bytes 4 (a .position)) (bytes 4 position) (wordsBytes (p .kinds) (a .words)) (length-bytes 4 position ∙ sym (length-bytes 4 (a .position))))
 
-      pub image-renewed : renewed (imageBytes p a) position (placeIn (p .kinds) i) (widthOf (kindAt (p .kinds) i)) w ≡ imageBytes p (placed a i w position)
-      unfolding renewed front
+      pub image-renewed : imageAnew (imageBytes p a) position (placeIn (p .kinds) i) (widthOf (kindAt (p .kinds) i)) w ≡ imageBytes p (placed a i w position)
+      unfolding imageAnew front
       image-renewed =
           let n : ℕ = length (contents p a) in
           let word : List ℕ = bytes (widthOf (kindAt (p .kinds) i)) w in

@@ -22,7 +22,7 @@ use Rattle.history.specs.declared.Answer.{Answer}
 use Rattle.history.specs.Verdict.{Verdict, refused, done, then, refusalAt, _unless_⨾_, numbers, told}
 use Rattle.history.specs.Table.{kindAt}
 use Rattle.history.specs.Image.{element, readImage}
-use Rattle.history.specs.Calls.{readPlan, readStateCall, stateAt}
+use Rattle.history.specs.Calls.{stateAt, readStateUnder, readStateCall}
 use Rattle.history.specs.Legal.{admits, Every, nil, and}
 use Rattle.history.proofs.CallLaws.{AcceptedImage}
 use Rattle.history.proofs.ElementLaws.{admits-accepted}
@@ -33,7 +33,7 @@ use Rattle.forms.proofs.Accepted.{image-accepted}
 use Rattle.forms.proofs.KindLaws.{length-kinds}
 use Rattle.forms.proofs.UnderPlan.{table-refused, under-plan}
 use Rattle.panel.specs.declared.read.Reading.{Reading}
-use Rattle.panel.specs.Readings.{readingOf, answerIn, readUnder}
+use Rattle.panel.specs.Readings.{readingOf, answerIn}
 use Rattle.panel.specs.Places.{placeIn, Sized}
 use Rattle.panel.proofs.ElementPlaces.{image-long, image-number}
 
@@ -51,16 +51,14 @@ reading-told (done s) = refl
 
 -- ---- the table
 
-by-plan : (T A : List ℕ) (i : ℕ) → readStateCall T A i ≡ then (readPlan T) (λ p. readUnder p A i)
-unfolding readStateCall readUnder
-by-plan T A i = refl
-
 module _ {T : List ℕ} {r : Outline} (o : Outlined T r) (A : List ℕ) (i : ℕ) where
   pub table-read : (r .answer .code ≡ 0 → ⊥) → Reading.Refused (r .answer) ≡ readingOf (readStateCall T A i)
-  table-read bad = refusal-read _ (table-refused o bad (λ p. readUnder p A i)) bad ∙ ap readingOf (sym (by-plan T A i))
+  unfolding readStateCall
+  table-read bad = refusal-read _ (table-refused o bad (λ p. readStateUnder p A i)) bad
 
-  pub read-by-plan : r .answer .code ≡ 0 → readingOf (readUnder (planAs (r .x) (r .y) (take (r .count) (r .kinds))) A i) ≡ readingOf (readStateCall T A i)
-  read-by-plan good = ap readingOf (sym (by-plan T A i ∙ under-plan o good (λ p. readUnder p A i)))
+  pub read-by-plan : r .answer .code ≡ 0 → readingOf (readStateUnder (planAs (r .x) (r .y) (take (r .count) (r .kinds))) A i) ≡ readingOf (readStateCall T A i)
+  unfolding readStateCall
+  read-by-plan good = ap readingOf (sym (under-plan o good (λ p. readStateUnder p A i)))
 
 -- ---- the image
 
@@ -76,8 +74,8 @@ never-refused k w r h e =
     omega arith
 
 module _ (x y : ℕ) (ns A : List ℕ) (i : ℕ) {r : Answer} (r-is : r ≡ told (readImage (planAs x y ns) A)) where
-  pub image-read : (r .code ≡ 0 → ⊥) → Reading.Refused r ≡ readingOf (readUnder (planAs x y ns) A i)
-  unfolding readUnder
+  pub image-read : (r .code ≡ 0 → ⊥) → Reading.Refused r ≡ readingOf (readStateUnder (planAs x y ns) A i)
+  unfolding readStateUnder
   image-read bad =
       refusal-read _ (r-is ∙ told-first (readImage (planAs x y ns) A) _ (λ z. bad (ap (λ (a : Answer). a .code) r-is ∙ z))) bad
 
@@ -85,15 +83,15 @@ module _ (x y : ℕ) (ns A : List ℕ) (i : ℕ) {r : Answer} (r-is : r ≡ told
     pub taken : AcceptedImage (planAs x y ns) A
     taken = image-accepted (planAs x y ns) A h (ap (λ (a : Answer). a .code) (sym r-is) ∙ good)
 
-    under : readUnder (planAs x y ns) A i ≡ (refusalAt 13 i unless ltb i (length (kindsOf ns)) ⨾ done (stateAt (planAs x y ns) (taken .image) i))
-    unfolding readUnder
+    under : readStateUnder (planAs x y ns) A i ≡ (refusalAt 13 i unless ltb i (length (kindsOf ns)) ⨾ done (stateAt (planAs x y ns) (taken .image) i))
+    unfolding readStateUnder
     under = rw (taken .reads)
 
     -- 13
-    pub other-object : length ns ≤ i → {s : Answer} → s ≡ numbers 13 i 255 0 → Reading.Refused s ≡ readingOf (readUnder (planAs x y ns) A i)
+    pub other-object : length ns ≤ i → {s : Answer} → s ≡ numbers 13 i 255 0 → Reading.Refused s ≡ readingOf (readStateUnder (planAs x y ns) A i)
     unfolding readingOf
     other-object l {s} e =
-        let none : readUnder (planAs x y ns) A i ≡ refusalAt 13 i = under ∙ rw (le-ltb i (length (kindsOf ns)) (omega (arith, length-kinds ns))) in
+        let none : readStateUnder (planAs x y ns) A i ≡ refusalAt 13 i = under ∙ rw (le-ltb i (length (kindsOf ns)) (omega (arith, length-kinds ns))) in
         ap Reading.Refused e ∙ sym (ap readingOf none)
 
     module _ (l : i < length ns) where
@@ -112,10 +110,10 @@ module _ (x y : ℕ) (ns A : List ℕ) (i : ℕ) {r : Answer} (r-is : r ≡ told
         admitted : admits kind word ≡ true
         admitted = rw (kind-is, own-word) (admitted-at (taken .legal .words) i inside-kinds)
 
-        pub state-is : (e : Element) → State.Read e ≡ stateRead kind word → Reading.State e ≡ readingOf (readUnder (planAs x y ns) A i)
+        pub state-is : (e : Element) → State.Read e ≡ stateRead kind word → Reading.State e ≡ readingOf (readStateUnder (planAs x y ns) A i)
         unfolding readingOf
         state-is e s =
-            let own : readUnder (planAs x y ns) A i ≡ done (stateAt (planAs x y ns) (taken .image) i) = under ∙ rw (lt-ltb i (length (kindsOf ns)) inside-kinds) in
+            let own : readStateUnder (planAs x y ns) A i ≡ done (stateAt (planAs x y ns) (taken .image) i) = under ∙ rw (lt-ltb i (length (kindsOf ns)) inside-kinds) in
             ap Reading.State (read-read kind word e s .1 ∙ ap₂ stateOf kind-is own-word) ∙ sym (ap readingOf own)
 
         pub no-refusal : (f : Refusal) → State.Refused f ≡ stateRead kind word → ⊥

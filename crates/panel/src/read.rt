@@ -11,9 +11,9 @@ use tables::refused_bit;
 ghost use mathlib.Core.Path.{_≡_};
 ghost use Prim.Native.Nat.{_≤_};
 ghost use lib.ListN.{length};
-ghost use Rattle.history.specs.Calls.{readStateCall};
+ghost use Rattle.history.specs.Calls.{readStateUnder, readStateCall};
 ghost use Rattle.tables.specs.Outlines.{planAs};
-ghost use Rattle.panel.specs.Readings.{readingOf, answerIn, readUnder};
+ghost use Rattle.panel.specs.Readings.{readingOf, answerIn};
 
 // What reading a state gives: the state, or a refusal's numbers and no state.
 pub enum Reading {
@@ -50,7 +50,7 @@ pub fn read_state(table: &[u8], image: &[u8], object: u16) -> Reading
 // The same, under what is known of the table.
 fn read_under(x: u8, y: u8, kinds: &[u8], image: &[u8], object: u16) -> Reading
     requires { ⌜ length (now kinds) ≤ 1024 ⌝ }
-    ensures { λ r. ⌜ r ≡ readingOf (readUnder (planAs x y (now (kinds .entry))) (now (image .entry)) object) ⌝ }
+    ensures { λ r. ⌜ r ≡ readingOf (readStateUnder (planAs x y (now (kinds .entry))) (now (image .entry)) object) ⌝ }
 {
     let answer = check_image_under(x, y, kinds, image);
     if answer.code != 0 {

@@ -16,10 +16,10 @@ ghost use mathlib.Core.Path.{_≡_};
 ghost use Prim.Native.Nat.{_≤_, _-_};
 ghost use lib.ListN.{length};
 ghost use Rattle.history.specs.Verdict.{done, told, settled};
-ghost use Rattle.history.specs.Calls.{writeStateCall};
+ghost use Rattle.history.specs.Calls.{checkState, writeStateUnder, writeStateCall};
 ghost use Rattle.tables.specs.Outlines.{kindsOf, planAs};
 ghost use Rattle.panel.specs.Places.{Sized};
-ghost use Rattle.panel.specs.Writings.{checkState, writeUnder, elementAnew, renewed};
+ghost use Rattle.panel.specs.Writings.{elementAnew, imageAnew};
 
 // The image with an object's state and the position anew, at the front of the output.
 pub fn write_state(
@@ -57,8 +57,8 @@ fn write_under(
     out: &mut [u8],
 ) -> Answer
     requires { ⌜ length (now kinds) ≤ 1024 ⌝ }
-    ensures { λ r. ⌜ r ≡ settled (writeUnder (planAs x y (now (kinds .entry))) (now (image .entry)) object state position) (now (out .entry)) .answer ⌝ }
-    ensures { λ _. ⌜ now (out .exit) ≡ settled (writeUnder (planAs x y (now (kinds .entry))) (now (image .entry)) object state position) (now (out .entry)) .output ⌝ }
+    ensures { λ r. ⌜ r ≡ settled (writeStateUnder (planAs x y (now (kinds .entry))) (now (image .entry)) object state position) (now (out .entry)) .answer ⌝ }
+    ensures { λ _. ⌜ now (out .exit) ≡ settled (writeStateUnder (planAs x y (now (kinds .entry))) (now (image .entry)) object state position) (now (out .entry)) .output ⌝ }
 {
     let answer = check_image_under(x, y, kinds, image);
     if answer.code != 0 {
@@ -120,8 +120,8 @@ fn put_image(
     out: &mut [u8],
 ) -> Answer
     requires { ⌜ (11 ≤ at) × (at ≤ end) × (end ≤ length (now image)) × (length (now image) ≤ 4107) ⌝ }
-    ensures { λ r. ⌜ r ≡ settled (done (renewed (now (image .entry)) position at (end - at) word)) (now (out .entry)) .answer ⌝ }
-    ensures { λ _. ⌜ now (out .exit) ≡ settled (done (renewed (now (image .entry)) position at (end - at) word)) (now (out .entry)) .output ⌝ }
+    ensures { λ r. ⌜ r ≡ settled (done (imageAnew (now (image .entry)) position at (end - at) word)) (now (out .entry)) .answer ⌝ }
+    ensures { λ _. ⌜ now (out .exit) ≡ settled (done (imageAnew (now (image .entry)) position at (end - at) word)) (now (out .entry)) .output ⌝ }
 {
     let size = image.len();
     if out.len() < size {
@@ -134,7 +134,7 @@ fn put_image(
 // Fills the part with the image, then with the new position, then with the new element.
 fn renew(part: &mut [u8], image: &[u8], position: u32, at: usize, end: usize, word: u32)
     requires { ⌜ (11 ≤ at) × (at ≤ end) × (end ≤ length (now image)) × (length (now part) ≡ length (now image)) ⌝ }
-    ensures { λ _. ⌜ now (part .exit) ≡ renewed (now (image .entry)) position at (end - at) word ⌝ }
+    ensures { λ _. ⌜ now (part .exit) ≡ imageAnew (now (image .entry)) position at (end - at) word ⌝ }
 {
     octets::copy(part, image);
     octets::put(&mut part[7..11], position);

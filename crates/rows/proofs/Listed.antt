@@ -12,7 +12,7 @@ use lib.Dec.{T, leb, eqb, eqb→eq}
 use lib.ListN.{length, getD, length-append, List·getD-eq-default}
 use lib.Seq.{getD-append-seam, append-snoc}
 use Rattle.rows.specs.Table.{Row}
-use Rattle.rows.specs.Fields.{refusal, fieldOf, fieldRead, orElse, checkRows, valuesOf, composeOf, bitNo}
+use Rattle.rows.specs.Fields.{codeAt, fieldOf, fieldRead, orElse, checkRows, valuesOf, composeOf, bitNo}
 use Rattle.rows.specs.declared.Field.{Field}
 use Rattle.rows.specs.declared.Finding.{Finding}
 use Rattle.rows.proofs.Tests.{both-left, both-right}
@@ -55,7 +55,7 @@ within-step : (w : ℕ) (r : Row) (next : Finding) → orElse (fieldRead w r) ne
 within-step w r next = go (leb (fieldOf w r) (r .top)) refl
   where
     go : (b : Bool) → leb (fieldOf w r) (r .top) ≡ b
-        → orElse (cond b (Field.Value (fieldOf w r)) (Field.Refused (refusal (cond (eqb (r .top) 0) 10 11) (r .low)))) next ≡ Finding.Accepted → (fieldOf w r ≤ r .top) × (next ≡ Finding.Accepted)
+        → orElse (cond b (Field.Value (fieldOf w r)) (Field.Refused (codeAt (cond (eqb (r .top) 0) 10 11) (r .low)))) next ≡ Finding.Accepted → (fieldOf w r ≤ r .top) × (next ≡ Finding.Accepted)
     go true e h = (leb-true _ _ e, h)
     go false e h = let z : _≡_ {A = ℕ} 0 1 = cc in absurd (omega arith)
 
@@ -65,7 +65,7 @@ accepted-within w (r ∷ rs) e = let s = within-step w r (checkRows w rs) e in (
 
 pub within-accepted : (w : ℕ) (rs : List Row) → Within rs (valuesOf w rs) → checkRows w rs ≡ Finding.Accepted
 within-accepted w [] h = refl
-within-accepted w (r ∷ rs) h = ap (λ (b : Bool). orElse (cond b (Field.Value (fieldOf w r)) (Field.Refused (refusal (cond (eqb (r .top) 0) 10 11) (r .low)))) (checkRows w rs)) (le-leb _ _ (h .0)) ∙ within-accepted w rs (h .1)
+within-accepted w (r ∷ rs) h = ap (λ (b : Bool). orElse (cond b (Field.Value (fieldOf w r)) (Field.Refused (codeAt (cond (eqb (r .top) 0) 10 11) (r .low)))) (checkRows w rs)) (le-leb _ _ (h .0)) ∙ within-accepted w rs (h .1)
 
 -- the number 0 has nothing but zeros
 pub zero-within : (rs : List Row) → Within rs (valuesOf 0 rs)

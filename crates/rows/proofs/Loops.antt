@@ -13,7 +13,7 @@ use borrow.Author.Tests.{eq-eqb, ne-eqb}
 use lib.Seq.{set-append-seam, append-snoc, drop-cons}
 use Rattle.rows.specs.Table.{Row, rowAt, rowsFrom, numberAt, table}
 use Rattle.rows.specs.Covering.{bearing}
-use Rattle.rows.specs.Fields.{fieldOf, fieldRead, orElse, checkRows, valuesOf, composeOf, padded, onFinding, fieldsRead, refusedFields}
+use Rattle.rows.specs.Fields.{fieldOf, fieldRead, orElse, findingOf, checkRows, valuesOf, composeOf, filled, padded, onFinding, fieldsRead, refusedFields}
 use Rattle.rows.specs.declared.Fields.{Fields}
 use Rattle.rows.specs.declared.Refusal.{Refusal}
 use Rattle.rows.specs.declared.Field.{Field}
@@ -31,9 +31,9 @@ pub values-length : (w n i : ℕ) → length (valuesOf w (rowsFrom i n)) ≡ n
 values-length w zero i = refl
 values-length w (suc n) i = ap suc (values-length w n (suc i))
 
--- values in the first of n places, zeros behind them, and one more
+-- one more
 pub fill-store : (n : ℕ) (vs : List ℕ) (v : ℕ) → length vs < n
-    → set (vs ++ replicate (n - length vs) 0) (length vs) v ≡ (vs ++ (v ∷ [])) ++ replicate (n - length (vs ++ (v ∷ []))) 0
+    → set (filled n vs) (length vs) v ≡ filled n (vs ++ (v ∷ []))
 fill-store n vs v h =
     let m = n - suc (length vs) in
     let e : n - length vs ≡ suc m = omega arith in
@@ -61,18 +61,19 @@ value-is w r v e = picked (leb (fieldOf w r) (r .top)) (fieldOf w r) v _ e
 pub record Checking (w : ℕ) (all rest : List Row) : Type 0 where
   pub to-come : checkRows w all ≡ checkRows w rest
 
-module _ {w : ℕ} {all rest more : List Row} {r : Row} (c : Checking w all rest) (e : rest ≡ r ∷ more) where
-  next : (f : Field) → fieldRead w r ≡ f → checkRows w all ≡ orElse f (checkRows w more)
-  next f q = c .to-come ∙ ap (checkRows w) e ∙ ap (λ (f : Field). orElse f (checkRows w more)) q
+-- where the field f of the next row has been read
+module _ {w : ℕ} {all rest more : List Row} {r : Row} (c : Checking w all rest) (e : rest ≡ r ∷ more) {f : Field} (q : f ≡ fieldRead w r) where
+  next : {g : Field} → f ≡ g → checkRows w all ≡ orElse g (checkRows w more)
+  next t = c .to-come ∙ ap (checkRows w) e ∙ ap (λ (f : Field). orElse f (checkRows w more)) (sym q ∙ t)
 
-  pub goes-on : (v : ℕ) → fieldRead w r ≡ Field.Value v → Checking w all more
-  goes-on v q = record { to-come = next (Field.Value v) q }
+  pub goes-on : {v : ℕ} → f ≡ Field.Value v → Checking w all more
+  goes-on t = record { to-come = next t }
 
-  pub stops : (x : Refusal) → fieldRead w r ≡ Field.Refused x → checkRows w all ≡ Finding.Refused x
-  stops x q = next (Field.Refused x) q
+  pub stops : {x : Refusal} → f ≡ Field.Refused x → findingOf f ≡ checkRows w all
+  stops t = ap findingOf t ∙ sym (next t)
 
-pub checked : {w : ℕ} {all rest : List Row} → Checking w all rest → rest ≡ [] → checkRows w all ≡ Finding.Accepted
-checked {w} c e = c .to-come ∙ ap (checkRows w) e
+pub checked : {w : ℕ} {all rest : List Row} → Checking w all rest → rest ≡ [] → Finding.Accepted ≡ checkRows w all
+checked {w} c e = sym (c .to-come ∙ ap (checkRows w) e)
 
 -- the rows that bear a number, with the next in front, or none
 module _ (number i : ℕ) where
@@ -84,11 +85,11 @@ module _ (number i : ℕ) where
       ap (bearing number i) n
       ∙ ap₂ (λ (b : Bool) (j : ℕ). cond b (rowAt i ∷ bearing number j (107 - (i + 1))) []) e i-is
 
-  pub bears-next : i < 107 → numberAt i ≡ number → bearing number i (107 - i) ≡ rowAt i ∷ bearing number (i + 1) (107 - (i + 1))
-  bears-next h e = bears true (eq-eqb (numberAt i) number e) h
+  pub bears-next : {n : ℕ} → i < 107 → n ≡ numberAt i → n ≡ number → bearing number i (107 - i) ≡ rowAt i ∷ bearing number (i + 1) (107 - (i + 1))
+  bears-next h is e = bears true (eq-eqb (numberAt i) number (sym is ∙ e)) h
 
-  pub bears-none : i < 107 → (numberAt i ≡ number → ⊥) → bearing number i (107 - i) ≡ []
-  bears-none h e = bears false (ne-eqb (numberAt i) number e) h
+  pub bears-none : {n : ℕ} → i < 107 → n ≡ numberAt i → (n ≡ number → ⊥) → bearing number i (107 - i) ≡ []
+  bears-none h is e = bears false (ne-eqb (numberAt i) number (λ z. e (is ∙ z))) h
 
   pub bears-end : 107 ≤ i → bearing number i (107 - i) ≡ []
   bears-end h =
@@ -107,18 +108,18 @@ starts w first count =
     let e′ : count - 0 ≡ count = omega arith in
     record { bound = omega arith; checking = record { to-come = ap₂ (λ (i n : ℕ). checkRows w (rowsFrom i n)) (sym e) (sym e′) }; so-far = refl }
 
-pub turn : {w first count : ℕ} {values : List ℕ} {k : ℕ} → Reading w first count values k → k < count → count ≤ 24 → (v : ℕ)
-    → fieldRead w (rowAt (first + k)) ≡ Field.Value v → Reading w first count (set values k v) (k + 1)
-turn {w} {first} {count} {values} {k} r h small v e =
+pub turn : {w first count : ℕ} {values : List ℕ} {k : ℕ} → Reading w first count values k → k < count → count ≤ 24 → {f : Field} → f ≡ fieldRead w (rowAt (first + k))
+    → {v : ℕ} → f ≡ Field.Value v → Reading w first count (set values k v) (k + 1)
+turn {w} {first} {count} {values} {k} r h small q {v} t =
     let n = values-length w k first in
     let xs = valuesOf w (rowsFrom first k) in
     record {
       bound = omega arith;
-      checking = goes-on (r .checking) (rows-next first count k h) v e;
+      checking = goes-on (r .checking) (rows-next first count k h) q t;
       so-far =
           ap₂ (λ (l : List ℕ) (i : ℕ). set l i v) (r .so-far) (sym n)
           ∙ fill-store 24 xs v (omega arith)
-          ∙ ap (λ (x : ℕ). padded (xs ++ (x ∷ []))) (value-is w (rowAt (first + k)) v e)
+          ∙ ap (λ (x : ℕ). padded (xs ++ (x ∷ []))) (value-is w (rowAt (first + k)) v (sym q ∙ t))
           ∙ ap padded (sym (values-snoc w (rowsFrom first k) (rowAt (first + k))) ∙ ap (valuesOf w) (sym (rows-snoc k first)) ∙ ap (λ (j : ℕ). valuesOf w (rowsFrom first j)) (sym (add-one k)));
     }
 
@@ -126,10 +127,10 @@ turn {w} {first} {count} {values} {k} r h small v e =
 answer : ℕ → List Row → Finding → Fields
 answer w rs v = record { finding = v; values = onFinding v (padded (valuesOf w rs)) (λ r. replicate 24 0) }
 
-pub refused : {w first count : ℕ} {values : List ℕ} {k : ℕ} → Reading w first count values k → k < count → (x : Refusal)
-    → fieldRead w (rowAt (first + k)) ≡ Field.Refused x → refusedFields (Field.Refused x) ≡ fieldsRead w (rowsFrom first count)
+pub refused : {w first count : ℕ} {values : List ℕ} {k : ℕ} → Reading w first count values k → k < count → {f : Field} → f ≡ fieldRead w (rowAt (first + k))
+    → {x : Refusal} → f ≡ Field.Refused x → refusedFields f ≡ fieldsRead w (rowsFrom first count)
 unfolding answer
-refused {w} {first} {count} {values} {k} r h x e = sym (ap (answer w (rowsFrom first count)) (stops (r .checking) (rows-next first count k h) x e))
+refused {w} {first} {count} {values} {k} r h q t = ap refusedFields t ∙ sym (ap (answer w (rowsFrom first count)) (next (r .checking) (rows-next first count k h) q t))
 
 pub ends : {w first count : ℕ} {values : List ℕ} {k : ℕ} → Reading w first count values k → count ≤ k
     → _≡_ {A = Fields} (record { finding = Finding.Accepted; values = values }) (fieldsRead w (rowsFrom first count))
@@ -138,7 +139,7 @@ ends {w} {first} {count} {values} {k} r h =
     let e : k ≡ count = omega (arith, r .bound) in
     let z : count - k ≡ 0 = omega arith in
     let p : values ≡ padded (valuesOf w (rowsFrom first count)) = r .so-far ∙ ap (λ (j : ℕ). padded (valuesOf w (rowsFrom first j))) e in
-    (λ i. record { finding = Finding.Accepted; values = p i }) ∙ sym (ap (answer w (rowsFrom first count)) (checked (r .checking) (ap (rowsFrom (first + k)) z)))
+    (λ i. record { finding = Finding.Accepted; values = p i }) ∙ ap (answer w (rowsFrom first count)) (checked (r .checking) (ap (rowsFrom (first + k)) z))
 
 -- what the composing loop keeps: the sum so far and what is still to come make the whole
 pub record Composing (vs : List ℕ) (first count word k : ℕ) : Type 0 where

@@ -15,15 +15,15 @@ use Rattle.rows.specs.declared.Fields.{Fields}
 abbrev pub fieldOf : ℕ → Row → ℕ
 fieldOf w r = w / 2 ^ r .low % 2 ^ r .width
 
-abbrev pub refusal : ℕ → ℕ → Refusal
-refusal code bit = record { code = code; bit = bit }
+abbrev pub codeAt : ℕ → ℕ → Refusal
+codeAt code bit = record { code = code; bit = bit }
 
 -- one field: its value, or 10 (reserved bit 1) or 11 (value not listed) with the field's lowest bit
 abbrev pub fieldRead : ℕ → Row → Field
 fieldRead w r =
     cond (leb (fieldOf w r) (r .top))
     (Field.Value (fieldOf w r))
-    (Field.Refused (refusal (cond (eqb (r .top) 0) 10 11) (r .low)))
+    (Field.Refused (codeAt (cond (eqb (r .top) 0) 10 11) (r .low)))
 
 -- a refused field is passed up at once
 abbrev pub orElse : Field → Finding → Finding
@@ -45,9 +45,12 @@ composeOf [] vs = 0
 composeOf (r ∷ rs) [] = 0
 composeOf (r ∷ rs) (v ∷ vs) = v * 2 ^ r .low + composeOf rs vs
 
--- the values in the first of 24 places, zeros behind them
+-- numbers in the first of n places, zeros behind them; an element's values have 24
+abbrev pub filled : ℕ → List ℕ → List ℕ
+filled n vs = vs ++ replicate (n - length vs) 0
+
 abbrev pub padded : List ℕ → List ℕ
-padded vs = vs ++ replicate (24 - length vs) 0
+padded vs = filled 24 vs
 
 abbrev pub onFinding : {A : Type 0} → Finding → A → (Refusal → A) → A
 onFinding Finding.Accepted good bad = good
@@ -61,9 +64,12 @@ fieldsRead w rs =
       values = onFinding (checkRows w rs) (padded (valuesOf w rs)) (λ r. replicate 24 0);
     }
 
--- what a refused field leaves of them all
+-- what is found of one field, and what a refused one leaves of them all
+abbrev pub findingOf : Field → Finding
+findingOf f = orElse f Finding.Accepted
+
 abbrev pub refusedFields : Field → Fields
-refusedFields f = record { finding = orElse f Finding.Accepted; values = replicate 24 0 }
+refusedFields f = record { finding = findingOf f; values = replicate 24 0 }
 
 -- one bit takes 0 or 1
 abbrev pub bitNo : Bool → ℕ

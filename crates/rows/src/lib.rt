@@ -5,7 +5,7 @@ ghost use mathlib.Core.Path.{_≡_};
 ghost use Prim.Native.Nat.{_<_, _≤_, _+_, _-_, _*_};
 ghost use Rattle.rows.specs.Table.{table, rowTotal, cellAt, rowAt, rowsFrom};
 ghost use Rattle.rows.specs.Covering.{bearing};
-ghost use Rattle.rows.specs.Fields.{fieldRead, checkRows, fieldsRead, refusedFields, composeOf};
+ghost use Rattle.rows.specs.Fields.{fieldRead, findingOf, checkRows, fieldsRead, refusedFields, composeOf};
 
 // A row each: layout, lowest bit, width, highest admitted value (0: reserved). Written by catalogue/write.py.
 const ROWS: [u8; 428] = [
@@ -506,16 +506,24 @@ fn read_field(rows: &[u8; 428], word: u32, row: usize) -> Field
     }
 }
 
+// What is found of one field.
+fn finding_of(field: Field) -> Finding
+    ensures { λ r. ⌜ r ≡ findingOf field ⌝ }
+{
+    match field {
+        Field::Value(_) => Finding::Accepted,
+        Field::Refused(r) => Finding::Refused(r),
+    }
+}
+
 // The answer of a refused field.
 fn refused_fields(field: Field) -> Fields
     ensures { λ r. ⌜ r ≡ refusedFields field ⌝ }
 {
-    let values = [0u32; 24];
-    let finding = match field {
-        Field::Value(_) => Finding::Accepted,
-        Field::Refused(r) => Finding::Refused(r),
-    };
-    Fields { finding, values }
+    Fields {
+        finding: finding_of(field),
+        values: [0u32; 24],
+    }
 }
 
 // The fields of the rows first, first + 1, .. in an element's number, from bit 0 up, until one is refused.
@@ -551,9 +559,9 @@ pub fn check_rows(word: u32, number: u8, first: usize) -> Finding
             return Finding::Accepted;
         }
         let field = read_field(&rows, word, row);
-        if let Field::Refused(r) = field {
-            return Finding::Refused(r);
-        }
+        let Field::Value(_) = field else {
+            return finding_of(field);
+        };
         row += 1;
     }
     Finding::Accepted

@@ -5,7 +5,8 @@ use mathlib.Core.Path.{_≡_, refl, sym, _∙_}
 use mathlib.Core.Bool.{Bool, true, false, not}
 use mathlib.Core.List.{List}
 use borrow.Author.Tests.{not-true, not-false}
-use Rattle.history.specs.Verdict.{Verdict, refused, done, then, told, settled}
+use Rattle.history.specs.declared.Answer.{Answer}
+use Rattle.history.specs.Verdict.{Verdict, refused, done, then, numbers, told}
 
 -- what `if !t` says of the definition that t equals
 pub no : {t u : Bool} → t ≡ u → not t ≡ true → u ≡ false
@@ -14,16 +15,20 @@ no {t} {u} e h = sym e ∙ not-true t h
 pub yes : {t u : Bool} → t ≡ u → not t ≡ false → u ≡ true
 yes {t} {u} e h = sym e ∙ not-false t h
 
+-- the answer of a verdict that is known
+pub told-refused : {A : Type 0} (v : Verdict A) {code object bit : ℕ} {r : Answer} → v ≡ refused code object bit → r ≡ numbers code object bit 0 → r ≡ told v
+unfolding told
+told-refused v e q = rw e q
+
+pub told-done : {A : Type 0} (v : Verdict A) {a : A} {r : Answer} → v ≡ done a → r ≡ numbers 0 65535 255 0 → r ≡ told v
+unfolding told
+told-done v e q = rw e q
+
 -- a refusal is the answer of all that comes after
 pub told-first : {A B : Type 0} (v : Verdict A) (f : A → Verdict B) → (told v .code ≡ 0 → ⊥) → told v ≡ told (then v f)
 unfolding told
 told-first (refused code object bit) f n = refl
 told-first (done a) f n = absurd (n refl)
-
-pub settled-first : {A : Type 0} (v : Verdict A) (f : A → Verdict (List ℕ)) (out : List ℕ) → (told v .code ≡ 0 → ⊥) → settled (then v f) out ≡ record { answer = told v; output = out }
-unfolding told settled
-settled-first (refused code object bit) f out n = refl
-settled-first (done a) f out n = absurd (n refl)
 
 -- what is made of a value doesn't show in the answer
 pub told-then : {A B : Type 0} (v : Verdict A) (f : A → B) → told (then v (λ a. done (f a))) ≡ told v

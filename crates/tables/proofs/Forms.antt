@@ -10,9 +10,8 @@ use lib.ListN.{length, take, drop, getD, length-drop}
 use lib.Seq.{take-all}
 use borrow.Author.Tests.{eq-eqb, ne-eqb}
 use Rattle.history.specs.Verdict.{Verdict, done, then, refusal, _unless_⨾_}
-use Rattle.history.specs.Form.{Form, readForm}
-use Rattle.tables.specs.Whole.{isWhole, isUnder}
-use Rattle.tables.proofs.WholeLaws.{form-whole}
+use Rattle.history.specs.Form.{Form, isWhole, readForm}
+use Rattle.tables.specs.Under.{isUnder}
 
 module _ (x y : ℕ) (b : List ℕ) where
   pub other-x : (getD b 5 0 ≡ x → ⊥) → isUnder x y b ≡ false
@@ -41,5 +40,5 @@ then-tests false t a next = refl
 
 pub form-then : {A : Type 0} (least : ℕ) (good : ℕ → Bool) (b : List ℕ) (next : Form → Verdict A)
     → then (readForm least good b) next ≡ (refusal 1 unless isWhole least b ⨾ refusal 2 unless good (getD b 4 0) ⨾ next (formIn b))
-form-then least good b next =
-    ap (λ (v : Verdict Form). then v next) (form-whole least good b) ∙ then-tests (isWhole least b) (good (getD b 4 0)) (formIn b) next
+unfolding readForm
+form-then least good b next = then-tests (isWhole least b) (good (getD b 4 0)) (formIn b) next

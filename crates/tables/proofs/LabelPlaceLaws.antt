@@ -1,4 +1,4 @@
--- A label's place by the entries' places is the place that the meaning gives; and each answer to a label request.
+-- A label's place by the entries' places is the place that the meaning gives; each answer to a label request; and the bytes that it names.
 -- Assumes nothing.
 use Prim.Native.Nat.{ℕ, zero, suc, _+_, _≤_, _<_}
 use native.Mathlib.Omega.{arith}
@@ -11,10 +11,12 @@ use lib.Dec.{ltb}
 use lib.ListN.{length, getD, take, length-append, List·getD-append}
 use lib.Seq.{take-all, take-append-le, getD-append-seam}
 use borrow.Author.Tests.{lt-ltb, le-ltb}
+use Rattle.octets.specs.Octets.{Bytes}
 use Rattle.history.specs.declared.Answer.{Answer}
 use Rattle.history.specs.Verdict.{Verdict, refused, done, then, refusalAt, _unless_⨾_, numbers, told}
 use Rattle.history.specs.Table.{Object, Table, object, objectsBytes}
 use Rattle.history.specs.Calls.{tableCall, Place, labelPlace, labelCall}
+use Rattle.history.proofs.LabelLaws.{LabelIs, label-is}
 use Rattle.tables.specs.declared.place.LabelAt.{LabelAt}
 use Rattle.tables.specs.Places.{countIn, placeOf}
 use Rattle.tables.specs.LabelPlaces.{noLabel, labelTold, LabelFound}
@@ -131,3 +133,19 @@ module _ (b : List ℕ) (i : ℕ) (z : told (tableCall b) .code ≡ 0) where
         inside = omega (arith, acc .each i h .all);
         place = λ q. call;
       }
+
+-- ---- what a caller goes by
+
+place-empty : (v : Verdict Place) (r : LabelAt) → r ≡ labelTold v → (r .answer .code ≡ 0 → ⊥) → (r .offset ≡ 0) × (r .size ≡ 0)
+unfolding labelTold told
+place-empty (refused code object bit) r e n = (ap (λ (r : LabelAt). r .offset) e, ap (λ (r : LabelAt). r .size) e)
+place-empty (done p) r e n = absurd (n (ap (λ (r : LabelAt). r .answer .code) e))
+
+module _ {b : List ℕ} {i : ℕ} {r : LabelAt} (l : LabelFound b i r) where
+  -- refused: no bytes
+  pub label-empty : (r .answer .code ≡ 0 → ⊥) → (r .offset ≡ 0) × (r .size ≡ 0)
+  label-empty = place-empty (labelCall b i) r (l .whole)
+
+  -- accepted: the bytes are the object's label
+  pub label-bytes : r .answer .code ≡ 0 → Bytes b → LabelIs b i (record { offset = r .offset; size = r .size })
+  label-bytes z h = label-is b h i (l .place z)

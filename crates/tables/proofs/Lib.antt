@@ -10,5 +10,4 @@ pub mod TurnLaws
 pub mod TableLaws
 pub mod PlanLaws
 pub mod LabelPlaceLaws
-pub mod CallerLaws
 pub mod OneOutcome

@@ -6,7 +6,9 @@ use native.Mathlib.Numerals.{add-one}
 use mathlib.Core.Path.{_≡_, refl, sym, ap, ap₂, _∙_}
 use mathlib.Core.List.{List, [], _∷_, _++_, map, map-append}
 use lib.ListN.{length, getD, take, set, replicate, length-append, length-map, length-replicate}
-use lib.Seq.{set-append-seam, append-snoc, take-at}
+use lib.Seq.{take-at}
+use Rattle.rows.specs.Fields.{filled}
+use Rattle.rows.proofs.Loops.{fill-store}
 use Rattle.kinds.specs.Kinds.{layoutNo}
 use Rattle.kinds.specs.declared.Kind.{Kind}
 use Rattle.elements.specs.Elements.{kindOf}
@@ -16,7 +18,7 @@ use Rattle.history.specs.Verdict.{Verdict, refused, done, told}
 use Rattle.history.specs.Table.{Object, Table, planOf}
 use Rattle.history.specs.Calls.{tableCall, readPlan}
 use Rattle.tables.specs.Places.{countIn, placeOf}
-use Rattle.tables.specs.Outlines.{kindsOf, planAs, padded, layoutsIn, outlineOf, Outlined}
+use Rattle.tables.specs.Outlines.{kindsOf, planAs, layoutsIn, outlineOf, Outlined}
 use Rattle.tables.proofs.PlaceLaws.{objectOf, objectsBelow, length-below, place-next}
 use Rattle.tables.proofs.TableLaws.{Accepted, accepted, table-of}
 
@@ -29,18 +31,8 @@ kinds-back (k ∷ ks) = ap₂ _∷_ (kind-numbered k) (kinds-back ks)
 
 -- ---- zeros behind
 
-pub padded-length : (ns : List ℕ) → length ns ≤ 1024 → length (padded ns) ≡ 1024
-padded-length ns h = length-append ns (replicate (1024 - length ns) 0) ∙ omega (arith, length-replicate {A = ℕ} (1024 - length ns) 0)
-
-pad-store : (ns : List ℕ) (n : ℕ) → length ns < 1024 → set (padded ns) (length ns) n ≡ padded (ns ++ (n ∷ []))
-pad-store ns n h =
-    let m = 1024 - suc (length ns) in
-    let e : 1024 - length ns ≡ suc m = omega arith in
-    let e′ : 1024 - length (ns ++ (n ∷ [])) ≡ m = omega (arith, length-append ns (n ∷ [])) in
-    ap (λ (k : ℕ). set (ns ++ replicate k 0) (length ns) n) e
-    ∙ set-append-seam ns 0 (replicate m 0) n
-    ∙ sym (append-snoc ns n (replicate m 0))
-    ∙ ap (λ (k : ℕ). (ns ++ (n ∷ [])) ++ replicate k 0) (sym e′)
+pub places-length : (ns : List ℕ) → length ns ≤ 1024 → length (filled 1024 ns) ≡ 1024
+places-length ns h = length-append ns (replicate (1024 - length ns) 0) ∙ omega (arith, length-replicate {A = ℕ} (1024 - length ns) 0)
 
 -- ---- the loop
 
@@ -65,7 +57,7 @@ pub record Filling (b : List ℕ) (count : ℕ) (kinds : List ℕ) (i at : ℕ) 
   pub bound : i ≤ count
   pub few : count ≤ 1024
   pub place : at ≡ placeOf b i
-  pub so-far : kinds ≡ padded (layoutsBelow b i)
+  pub so-far : kinds ≡ filled 1024 (layoutsBelow b i)
 
 pub begin : (b : List ℕ) (count : ℕ) → told (tableCall b) .code ≡ 0 → count ≡ countIn b → Filling b count (replicate 1024 0) 0 9
 unfolding placeOf
@@ -84,22 +76,22 @@ turn {b} {count} {kinds} {i} {at} f h n e m e′ =
       place = omega (arith, place-next b i at (f .place));
       so-far =
           ap₂ (λ (ks : List ℕ) (k : ℕ). set ks k n) (f .so-far) (sym l)
-          ∙ pad-store (layoutsBelow b i) n (omega (arith, f .few))
-          ∙ ap (λ (n : ℕ). padded (layoutsBelow b i ++ (n ∷ []))) (e ∙ ap (λ (p : ℕ). layoutNo (kindOf (getD b 5 0) (getD b p 0))) (f .place))
-          ∙ ap padded (sym (layouts-next b i) ∙ ap (layoutsBelow b) (sym (add-one i)));
+          ∙ fill-store 1024 (layoutsBelow b i) n (omega (arith, f .few))
+          ∙ ap (λ (n : ℕ). filled 1024 (layoutsBelow b i ++ (n ∷ []))) (e ∙ ap (λ (p : ℕ). layoutNo (kindOf (getD b 5 0) (getD b p 0))) (f .place))
+          ∙ ap (filled 1024) (sym (layouts-next b i) ∙ ap (layoutsBelow b) (sym (add-one i)));
     }
 
-layouts-are : (b : List ℕ) {t : Table} → Accepted b t → padded (layoutsBelow b (countIn b)) ≡ layoutsIn (done t)
+layouts-are : (b : List ℕ) {t : Table} → Accepted b t → filled 1024 (layoutsBelow b (countIn b)) ≡ layoutsIn (done t)
 unfolding layoutsIn planOf
 layouts-are b {t} a =
-    ap₂ (λ (x : ℕ) (os : List Object). padded (map layoutNo (map (λ (o : Object). kindOf x (o .type)) os))) (sym (a .x)) (sym (a .objects))
+    ap₂ (λ (x : ℕ) (os : List Object). filled 1024 (map layoutNo (map (λ (o : Object). kindOf x (o .type)) os))) (sym (a .x)) (sym (a .objects))
 
-pub filled : {b : List ℕ} {count : ℕ} {kinds : List ℕ} {i at : ℕ} → Filling b count kinds i at → count ≤ i → count ≡ countIn b → told (tableCall b) .code ≡ 0
+pub all-filled : {b : List ℕ} {count : ℕ} {kinds : List ℕ} {i at : ℕ} → Filling b count kinds i at → count ≤ i → count ≡ countIn b → told (tableCall b) .code ≡ 0
     → kinds ≡ layoutsIn (tableCall b)
-filled {b} {count} {kinds} {i} {at} f h e z =
+all-filled {b} {count} {kinds} {i} {at} f h e z =
     let t = table-of b z in
     let i-is : i ≡ countIn b = omega (arith, f .bound) in
-    f .so-far ∙ ap (λ (k : ℕ). padded (layoutsBelow b k)) i-is ∙ layouts-are b (accepted b (t .1)) ∙ ap layoutsIn (sym (t .1))
+    f .so-far ∙ ap (λ (k : ℕ). filled 1024 (layoutsBelow b k)) i-is ∙ layouts-are b (accepted b (t .1)) ∙ ap layoutsIn (sym (t .1))
 
 -- ---- the outline
 
@@ -131,7 +123,7 @@ module _ (b : List ℕ) (a : Answer) (e : a ≡ told (tableCall b)) where
       let kinds : List Kind = planOf (t .0) .kinds in
       let size : length (map layoutNo kinds) ≡ n =
       length-map kinds layoutNo ∙ length-map (t .0 .objects) (λ (o : Object). kindOf (t .0 .x) (o .type)) ∙ acc .count ∙ sym n-is in
-      let here : ks ≡ padded (map layoutNo kinds) = ks-is ∙ ap layoutsIn (t .1) in
+      let here : ks ≡ filled 1024 (map layoutNo kinds) = ks-is ∙ ap layoutsIn (t .1) in
       let front : take n ks ≡ map layoutNo kinds = ap (take n) here ∙ take-at (map layoutNo kinds) (replicate (1024 - length (map layoutNo kinds)) 0) n size in
       let answer : a ≡ told (done (t .0)) = e ∙ ap told (t .1) in
       let count : n ≡ length (t .0 .objects) = n-is ∙ sym (acc .count) in
@@ -139,6 +131,6 @@ module _ (b : List ℕ) (a : Answer) (e : a ≡ told (tableCall b)) where
         whole = (λ i. record { answer = answer i; x = sym (acc .x) i; y = sym (acc .y) i; count = count i; kinds = here i }) ∙ ap outlineOf (sym (t .1));
         answer = e;
         few = omega (arith, acc .few);
-        room = ap length here ∙ padded-length (map layoutNo kinds) (omega (arith, acc .few));
+        room = ap length here ∙ places-length (map layoutNo kinds) (omega (arith, acc .few));
         plan = λ z. plan-is b (t .1) ∙ ap done (λ i. record { x = acc .x i; y = acc .y i; kinds = (sym (kinds-back kinds) ∙ ap kindsOf (sym front)) i });
       }

@@ -13,15 +13,15 @@ use lib.Seq.{drop-drop}
 use borrow.Author.Tests.{lt-leb, le-leb, leb-true}
 use Rattle.history.specs.declared.Answer.{Answer}
 use Rattle.history.specs.Verdict.{Verdict, done, then, refusal, _unless_⨾_, numbers, told}
-use Rattle.history.specs.Form.{Form}
+use Rattle.history.specs.Form.{isWhole}
 use Rattle.history.specs.Table.{Object, Table, versionGood, catalogueGood, readTable}
 use Rattle.history.specs.Calls.{tableCall}
+use Rattle.history.proofs.FormLaws.{whole}
 use Rattle.history.proofs.VerdictLaws.{held, used}
-use Rattle.tables.specs.Whole.{isWhole}
 use Rattle.tables.specs.Places.{countIn, placeOf, entryCheck, entriesIn}
 use Rattle.history.proofs.CodeLaws.{table-call-coded, zero-told}
 use Rattle.tables.proofs.AnswerLaws.{told-then}
-use Rattle.tables.proofs.WholeLaws.{whole, form-whole}
+use Rattle.tables.proofs.Forms.{form-then}
 use Rattle.tables.proofs.EntryLaws.{GoodEntry, good-entry}
 use Rattle.tables.proofs.PlaceLaws.{objectsBelow, repeatsBelow, entriesCheck, length-below}
 use Rattle.tables.proofs.TurnLaws.{entries-are}
@@ -41,14 +41,9 @@ module _ (b : List ℕ) where
       then (entriesIn b (countIn b)) λ os.
       done (tableWith b os)
 
-  two-tests : (t₁ t₂ : Bool) (f : Form) (g : Form → Verdict Table) → then (refusal 1 unless t₁ ⨾ refusal 2 unless t₂ ⨾ done f) g ≡ (refusal 1 unless t₁ ⨾ refusal 2 unless t₂ ⨾ g f)
-  two-tests false t₂ f g = refl
-  two-tests true false f g = refl
-  two-tests true true f g = refl
-
   in-order : tableCall b ≡ inOrder
   unfolding tableCall readTable entriesIn
-  in-order = rw (form-whole 5 versionGood b) (two-tests (isWhole 5 b) (versionGood (getD b 4 0)) _ _ ∙ rw (drop-drop 2 7 b))
+  in-order = form-then 5 versionGood b _ ∙ rw (drop-drop 2 7 b)
 
   -- ---- each answer from the tests that lead there
 

@@ -1,4 +1,4 @@
-pub mod Whole
+pub mod Under
 pub mod Places
 pub mod Outlines
 pub mod LabelPlaces

@@ -1,9 +1,10 @@
 -- What the other forms go by, as the code hands it on: X, Y, the count, and each object's layout number.
 -- Assumes nothing.
-use Prim.Native.Nat.{ℕ, _-_, _≤_}
+use Prim.Native.Nat.{ℕ, _≤_}
 use mathlib.Core.Path.{_≡_}
-use mathlib.Core.List.{List, [], _++_, map}
-use lib.ListN.{length, take, replicate}
+use mathlib.Core.List.{List, [], map}
+use lib.ListN.{length, take}
+use Rattle.rows.specs.Fields.{filled}
 use Rattle.kinds.specs.Kinds.{layoutNo}
 use Rattle.kinds.specs.declared.Kind.{Kind}
 use Rattle.elements.specs.Elements.{kindNumbered}
@@ -20,18 +21,14 @@ kindsOf ns = map kindNumbered ns
 abbrev pub planAs : ℕ → ℕ → List ℕ → Plan
 planAs x y ns = record { x = x; y = y; kinds = kindsOf ns }
 
--- the numbers in the first places of 1,024, zeros behind them
-abbrev pub padded : List ℕ → List ℕ
-padded ns = ns ++ replicate (1024 - length ns) 0
-
--- the layout numbers of a read table, in table order
+-- the layout numbers of a read table, in table order, in the first of 1,024 places
 unfoldable pub layoutsIn : Verdict Table → List ℕ
-layoutsIn (refused code object bit) = padded []
-layoutsIn (done t) = padded (map layoutNo (planOf t .kinds))
+layoutsIn (refused code object bit) = filled 1024 []
+layoutsIn (done t) = filled 1024 (map layoutNo (planOf t .kinds))
 
 -- the answer; of a read table X, Y, count and layout numbers; else zeros
 unfoldable pub outlineOf : Verdict Table → Outline
-outlineOf (refused code object bit) = record { answer = told {A = Table} (refused code object bit); x = 0; y = 0; count = 0; kinds = padded [] }
+outlineOf (refused code object bit) = record { answer = told {A = Table} (refused code object bit); x = 0; y = 0; count = 0; kinds = filled 1024 [] }
 outlineOf (done t) = record { answer = told (done t); x = t .x; y = t .y; count = length (t .objects); kinds = layoutsIn (done t) }
 
 -- the whole outcome, and what callers go by

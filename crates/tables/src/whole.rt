@@ -2,7 +2,8 @@
 ghost use mathlib.Core.Path.{_≡_};
 ghost use Prim.Native.Nat.{_≤_, _<_};
 ghost use lib.ListN.{length, getD};
-ghost use Rattle.tables.specs.Whole.{isWhole, isUnder};
+ghost use Rattle.history.specs.Form.{isWhole};
+ghost use Rattle.tables.specs.Under.{isUnder};
 
 // The byte at a place, as a number to count by.
 pub fn byte_at(s: &[u8], at: usize) -> usize

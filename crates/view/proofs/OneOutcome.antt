@@ -9,7 +9,7 @@ use Rattle.history.specs.declared.Answer.{Answer}
 use Rattle.history.specs.Calls.{tableCall, Place, labelCall}
 use Rattle.history.proofs.OneOutcome.{one-outcome, Tells}
 use Rattle.view.specs.declared.TableView.{TableView}
-use Rattle.view.specs.Parts.{countOf, placeOf, Part}
+use Rattle.view.specs.Parts.{countOf, givenPlace, Part}
 
 -- a place has one part
 one-part : {s r r′ : RefT (List ℕ)} {p : Place} → Part s r p → Part s r′ p → (r .ptr ≡ r′ .ptr) × (now r ≡ now r′)
@@ -29,7 +29,7 @@ module _ (T : RefT (List ℕ)) where
   one-view-answer = one-outcome
 
   -- `label` of a view of T, `table_label` and `label_part` of T
-  pub one-label : (i : ℕ) {r r′ : RefT (List ℕ)} → Part T r (placeOf (labelCall (now T) i)) → Part T r′ (placeOf (labelCall (now T) i)) → (r .ptr ≡ r′ .ptr) × (now r ≡ now r′)
+  pub one-label : (i : ℕ) {r r′ : RefT (List ℕ)} → Part T r (givenPlace (labelCall (now T) i)) → Part T r′ (givenPlace (labelCall (now T) i)) → (r .ptr ≡ r′ .ptr) × (now r ≡ now r′)
   one-label i = one-part
 
   pub one-label-answer : (i : ℕ) {r r′ : Answer} → Tells (labelCall (now T) i) r → Tells (labelCall (now T) i) r′ → r ≡ r′

@@ -19,7 +19,7 @@ use Rattle.tables.specs.Outlines.{outlineOf, Outlined}
 use Rattle.tables.specs.LabelPlaces.{labelTold, LabelFound}
 use Rattle.tables.specs.declared.answers.Outline.{Outline}
 use Rattle.tables.specs.declared.place.LabelAt.{LabelAt}
-use Rattle.view.specs.Parts.{countOf, placeOf, Part}
+use Rattle.view.specs.Parts.{countOf, givenPlace, Part}
 
 -- ---- the count
 
@@ -36,33 +36,33 @@ counted {T} o = ap (λ (r : Outline). r .count) (o .whole) ∙ outline-count (ta
 abbrev at : LabelAt → Place
 at r = record { offset = r .offset; size = r .size }
 
-told-place : (v : Verdict Place) → at (labelTold v) ≡ placeOf v
-unfolding labelTold placeOf
+told-place : (v : Verdict Place) → at (labelTold v) ≡ givenPlace v
+unfolding labelTold givenPlace
 told-place (refused code object bit) = refl
 told-place (done p) = refl
 
-pub found-place : {T : List ℕ} {i : ℕ} {r : LabelAt} → LabelFound T i r → at r ≡ placeOf (labelCall T i)
+pub found-place : {T : List ℕ} {i : ℕ} {r : LabelAt} → LabelFound T i r → at r ≡ givenPlace (labelCall T i)
 found-place {T} {i} l = ap at (l .whole) ∙ told-place (labelCall T i)
 
 -- the part that the code makes of the place
 pub found-part : {T : RefT (List ℕ)} {i : ℕ} {r : LabelAt} (part : RefT (List ℕ)) → LabelFound (now T) i r
-    → part .ptr ≡ (T .ptr .0, r .offset + T .ptr .1) → now part ≡ take (r .offset + r .size - r .offset) (drop (r .offset) (now T)) → Part T part (placeOf (labelCall (now T) i))
+    → part .ptr ≡ (T .ptr .0, r .offset + T .ptr .1) → now part ≡ take (r .offset + r .size - r .offset) (drop (r .offset) (now T)) → Part T part (givenPlace (labelCall (now T) i))
 found-part {T} {i} {r} part l p b =
     let all : r .offset + r .size - r .offset ≡ r .size = omega arith in
     subst (Part T part) (found-place l) (record { place = p; bytes = b ∙ ap (λ (n : ℕ). take n (drop (r .offset) (now T))) all })
 
 -- ---- what a caller goes by
 
-own-place : (v : Verdict Place) (p : Place) → v ≡ done p → placeOf v ≡ p
-unfolding placeOf
-own-place v p e = ap placeOf e
+own-place : (v : Verdict Place) (p : Place) → v ≡ done p → givenPlace v ≡ p
+unfolding givenPlace
+own-place v p e = ap givenPlace e
 
-empty-place : (v : Verdict Place) (b : List ℕ) → (told v .code ≡ 0 → ⊥) → take (placeOf v .size) (drop (placeOf v .offset) b) ≡ []
-unfolding placeOf told
+empty-place : (v : Verdict Place) (b : List ℕ) → (told v .code ≡ 0 → ⊥) → take (givenPlace v .size) (drop (givenPlace v .offset) b) ≡ []
+unfolding givenPlace told
 empty-place (refused code object bit) b n = refl
 empty-place (done p) b n = absurd (n refl)
 
-module _ {T part : RefT (List ℕ)} (i : ℕ) (p : Part T part (placeOf (labelCall (now T) i))) {r : Answer} (r-is : r ≡ told (labelCall (now T) i)) where
+module _ {T part : RefT (List ℕ)} (i : ℕ) (p : Part T part (givenPlace (labelCall (now T) i))) {r : Answer} (r-is : r ≡ told (labelCall (now T) i)) where
   -- refused: the part is empty
   pub refused-empty : (r .code ≡ 0 → ⊥) → now part ≡ []
   refused-empty bad = p .bytes ∙ empty-place (labelCall (now T) i) (now T) (λ z. bad (ap (λ (a : Answer). a .code) r-is ∙ z))

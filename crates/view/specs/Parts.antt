@@ -16,9 +16,9 @@ countOf (refused code object bit) = 0
 countOf (done t) = length (t .objects)
 
 -- the label's place; of a refused request the empty one at the front
-unfoldable pub placeOf : Verdict Place → Place
-placeOf (refused code object bit) = record { offset = 0; size = 0 }
-placeOf (done p) = p
+unfoldable pub givenPlace : Verdict Place → Place
+givenPlace (refused code object bit) = record { offset = 0; size = 0 }
+givenPlace (done p) = p
 
 -- r is the part of s at a place: in s's own block, that far on, with its bytes
 pub record Part (s r : RefT (List ℕ)) (p : Place) : Type 0 where

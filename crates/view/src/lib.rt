@@ -7,7 +7,7 @@ use tables::outline;
 ghost use mathlib.Core.Path.{_≡_};
 ghost use Rattle.history.specs.Verdict.{told};
 ghost use Rattle.history.specs.Calls.{tableCall, labelCall};
-ghost use Rattle.view.specs.Parts.{countOf, placeOf, Part};
+ghost use Rattle.view.specs.Parts.{countOf, givenPlace, Part};
 
 // A lent table, and how many objects it has; none where it is not accepted.
 pub struct TableView<'a> {
@@ -25,14 +25,14 @@ pub fn open<'a>(table: &'a [u8]) -> TableView<'a>
 
 // The label of an object of the view's table; `label_answer` gives the numbers of this call.
 pub fn label<'a>(view: TableView<'a>, object: u16) -> &'a [u8]
-    ensures { λ r. ⌜ Part (view .entry .table) r (placeOf (labelCall (now (view .entry .table)) object)) ⌝ }
+    ensures { λ r. ⌜ Part (view .entry .table) r (givenPlace (labelCall (now (view .entry .table)) object)) ⌝ }
 {
     label_part(view.table, object)
 }
 
 // The same of a table itself: whoever calls this has no view in hand.
 pub fn table_label(table: &[u8], object: u16) -> &[u8]
-    ensures { λ r. ⌜ Part (table .entry) r (placeOf (labelCall (now (table .entry)) object)) ⌝ }
+    ensures { λ r. ⌜ Part (table .entry) r (givenPlace (labelCall (now (table .entry)) object)) ⌝ }
 {
     label(open(table), object)
 }
@@ -53,7 +53,7 @@ pub fn label_answer(table: &[u8], object: u16) -> Answer
 
 // The part of a label request: the label, or nothing where the request is refused.
 pub fn label_part(table: &[u8], object: u16) -> &[u8]
-    ensures { λ r. ⌜ Part (table .entry) r (placeOf (labelCall (now (table .entry)) object)) ⌝ }
+    ensures { λ r. ⌜ Part (table .entry) r (givenPlace (labelCall (now (table .entry)) object)) ⌝ }
 {
     let found = label_place(table, object);
     let start = found.offset;

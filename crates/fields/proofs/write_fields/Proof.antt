@@ -5,8 +5,9 @@ use borrow.Author.Needs.{needs}
 use Rattle.kinds.specs.Kinds.{rowsOf, elementOf}
 use Rattle.kinds.specs.declared.Element.{Element}
 use Rattle.history.specs.Calls.{writeStateCall}
+use Rattle.history.proofs.OutputLaws.{leaves-as}
 use Rattle.fields.specs.Fields.{named}
-use Rattle.fields.proofs.CallLaws.{no-kind, no-value, writes, refused-settles, state-refuses, written-settles}
+use Rattle.fields.proofs.CallLaws.{no-kind, no-value, writes, refused-settles, state-refuses}
 use Rattle.fields.proofs.write_fields.Statement.{statement}
 use Rattle.fields.proofs.write_fields.Tie as tie
 
@@ -41,9 +42,9 @@ returns-3 c =
     let of-sort = sym (sorted .sort-of .ensures) ∙ valued .before .before .sort .given .1 in
     let found = sym (checked .check-values .ensures ∙ ap (named (rowsOf kind)) (valued .values-in .ensures)) ∙ made .before .enum-told2 .given .1 in
     let state = made .element-of .ensures ∙ ap (elementOf kind) (valued .values-in .ensures) in
-    written-settles
-    (writes (a .table .now) (a .image .now) (a .object) (a .number) (a .fields) (a .position) of-sort found
-    ∙ ap (λ (e : Element). writeStateCall (a .table .now) (a .image .now) (a .object) e (a .position)) (sym state)) (a .out .now) (wrote .write-state .ensures)
+    leaves-as (a .out .now)
+    (ap (λ (e : Element). writeStateCall (a .table .now) (a .image .now) (a .object) e (a .position)) state
+    ∙ sym (writes (a .table .now) (a .image .now) (a .object) (a .number) (a .fields) (a .position) of-sort found)) (wrote .write-state .ensures)
 
 pub write-fields-spec : {M : Type 1} → statement M
 write-fields-spec =

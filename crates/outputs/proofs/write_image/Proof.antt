@@ -6,13 +6,14 @@ use lib.ListN.{length}
 use borrow.Author.Needs.{needs}
 use Rattle.tables.specs.Outlines.{kindsOf}
 use Rattle.octets.proofs.Writing.{start, append-at, append-put, as-done}
+use Rattle.history.proofs.OutputLaws.{short-leaves, written-leaves}
 use Rattle.outputs.specs.Outputs.{imageAfter}
-use Rattle.outputs.proofs.Heads.{few-bytes, length-front, length-rest, length-after, after-is, short-is, short-stays, written-is, written-out}
+use Rattle.outputs.proofs.Heads.{few-bytes, length-front, length-rest, length-after, after-is}
 use Rattle.outputs.proofs.write_image.Statement.{statement}
 use Rattle.outputs.proofs.write_image.Tie as tie
 
-cast-short : tie.Need-cast-short
-cast-short c = let s = c .before .before .before .before .before in omega (arith, few-bytes (s .args .kinds .now) (s .args .image .now) (s .pre .0) (s .pre .1))
+cast-bytes : tie.Need-cast-bytes
+cast-bytes c = let s = c .before .before .before .before in omega (arith, few-bytes (s .args .kinds .now) (s .args .image .now) (s .pre .0) (s .pre .1))
 
 returns : tie.Need-returns
 returns c =
@@ -21,10 +22,7 @@ returns c =
     let a = s .args in
     let l = imageAfter (kindsOf (a .kinds .now)) (a .image .now) (a .to) (a .entries .now) in
     let long = length-after (kindsOf (a .kinds .now)) (a .image .now) (a .to) (a .entries .now) (s .pre .1) in
-    (short-is l (a .out .now) long (c₁ .if1 .taken) (c .short .ensures), short-stays l (a .out .now) long (c₁ .if1 .taken))
-
-cast-written : tie.Need-cast-written
-cast-written c = let s = c .before .before .before .before .before .before .before .before .before .before .before .before .before .before .before .before .before .before .before in omega (arith, few-bytes (s .args .kinds .now) (s .args .image .now) (s .pre .0) (s .pre .1))
+    short-leaves l (a .out .now) long (c₁ .if1 .taken) (c .short .ensures)
 
 returns-2 : tie.Need-returns-2
 returns-2 c =
@@ -40,13 +38,13 @@ returns-2 c =
     let w₁ = append-at (start (a .out .now)) (c₃ .copy .ensures) 7 (omega (arith, length-front (kindsOf (a .kinds .now)) (a .image .now) (a .to) (a .entries .now) (s .pre .1))) (omega arith) in
     let w₂ = append-put w₁ (a .to) 11 (c₂ .put .ensures) (omega arith) (omega arith) in
     let w₃ = append-at w₂ (c₁ .put-elements .ensures) (length (a .image .now)) (omega (arith, length-rest (kindsOf (a .kinds .now)) (a .image .now) (a .to) (a .entries .now) (s .pre .1))) room in
-    (written-is l (a .out .now) long room (c .written .ensures), written-out l (a .out .now) long room (as-done w₃ (after-is (kindsOf (a .kinds .now)) (a .image .now) (a .to) (a .entries .now) (s .pre .1))))
+    written-leaves l (a .out .now) long room (c .written .ensures) (as-done w₃ (after-is (kindsOf (a .kinds .now)) (a .image .now) (a .to) (a .entries .now) (s .pre .1)) .is)
 
 pub write-image-spec : {M : Type 1} → statement M
 write-image-spec =
     tie.close
     (tie.spec
-    cast-short
+    cast-bytes
     (λ c κs. search needs)
     returns
     (λ c. search needs)
@@ -67,7 +65,6 @@ write-image-spec =
     (λ c. search needs)
     (λ c. search needs)
     (λ c κs. search needs)
-    cast-written
     (λ c κs. search needs)
     (λ c. search needs)
     returns-2)

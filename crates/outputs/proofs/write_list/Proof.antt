@@ -6,8 +6,9 @@ use native.Mathlib.Omega.{arith}
 use lib.ListN.{length}
 use borrow.Author.Needs.{needs}
 use Rattle.octets.proofs.Writing.{start, append-at, as-done}
+use Rattle.history.proofs.OutputLaws.{short-leaves, written-leaves}
 use Rattle.outputs.specs.Outputs.{walkList}
-use Rattle.outputs.proofs.Heads.{length-head, list-is, length-list, short-is, short-stays, written-is, written-out}
+use Rattle.outputs.proofs.Heads.{length-head, list-is, length-list}
 use Rattle.outputs.proofs.write_list.Statement.{statement}
 use Rattle.outputs.proofs.write_list.Tie as tie
 
@@ -19,7 +20,7 @@ returns c =
     let a = c₃ .args in
     let l = walkList (a .walk) (a .x) (a .y) (a .kinds .now) (a .from) (a .to) (a .first .now) (a .second .now) in
     let long = length-list (a .walk) (a .x) (a .y) (a .kinds .now) (a .from) (a .to) (a .first .now) (a .second .now) (c₂ .measure .ensures) in
-    (short-is l (a .out .now) long (c₁ .if1 .taken) (c .short .ensures), short-stays l (a .out .now) long (c₁ .if1 .taken))
+    short-leaves l (a .out .now) long (c₁ .if1 .taken) (c .short .ensures)
 
 returns-2 : tie.Need-returns-2
 returns-2 c =
@@ -38,7 +39,7 @@ returns-2 c =
     let room : 17 + size ≤ length (a .out .now) = c₃ .if1 .left in
     let w₁ = append-at (start (a .out .now)) (c₂ .put-head .ensures) 17 (omega (arith, length-head (13 + size) (a .x) (a .y) (a .from) (a .to) count)) (omega arith) in
     let w₂ = append-at w₁ (c₁ .put-changes .ensures) (17 + size) (omega (arith, m .ensures .bytes)) room in
-    (written-is l (a .out .now) long room (c .written .ensures), written-out l (a .out .now) long room (as-done w₂ (sym is)))
+    written-leaves l (a .out .now) long room (c .written .ensures) (as-done w₂ (sym is) .is)
 
 pub write-list-spec : {M : Type 1} → statement M
 write-list-spec =

@@ -7,7 +7,7 @@ use Prim.Native.Nat.{ℕ, _*_, _/_, _%_, _^_, _<_, _≤_}
 use lib.Pow.{pow-pos}
 use lib.Dec.{eqb}
 use Rattle.rows.specs.Table.{Row, rowAt}
-use Rattle.rows.specs.Fields.{refusal, fieldOf, fieldRead}
+use Rattle.rows.specs.Fields.{codeAt, fieldOf, fieldRead}
 use Rattle.rows.specs.declared.Field.{Field}
 use native.Mathlib.Omega.{arith}
 use Rattle.rows.proofs.Rows.{Good, row-good, one-shl}
@@ -21,10 +21,10 @@ module _ (w : ℕ) {l d t : ℕ} {r : Row} (el : l ≡ r .low) (ed : d ≡ r .wi
   value-law : w / 2 ^ l % (1 * 2 ^ d % 4294967296) ≤ t → Field.Value (w / 2 ^ l % (1 * 2 ^ d % 4294967296)) ≡ fieldRead w r
   value-law h = rw field-law (simp (le-leb (fieldOf w r) (r .top) (rw (field-law, et) at h)))
 
-  reserved-law : t < w / 2 ^ l % (1 * 2 ^ d % 4294967296) → t ≡ 0 → Field.Refused (refusal 10 l) ≡ fieldRead w r
+  reserved-law : t < w / 2 ^ l % (1 * 2 ^ d % 4294967296) → t ≡ 0 → Field.Refused (codeAt 10 l) ≡ fieldRead w r
   reserved-law h z = rw el (simp (lt-leb (fieldOf w r) (r .top) (rw (field-law, et) at h), eq-eqb (r .top) 0 (sym et ∙ z)))
 
-  unlisted-law : t < w / 2 ^ l % (1 * 2 ^ d % 4294967296) → (t ≡ 0 → ⊥) → Field.Refused (refusal 11 l) ≡ fieldRead w r
+  unlisted-law : t < w / 2 ^ l % (1 * 2 ^ d % 4294967296) → (t ≡ 0 → ⊥) → Field.Refused (codeAt 11 l) ≡ fieldRead w r
   unlisted-law h z = rw el (simp (lt-leb (fieldOf w r) (r .top) (rw (field-law, et) at h), ne-eqb (r .top) 0 (λ e. z (et ∙ e))))
 
 shr-value : tie.Need-shr-value

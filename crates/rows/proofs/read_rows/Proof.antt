@@ -2,8 +2,7 @@
 -- Assumes nothing.
 use borrow.Author.Needs.{needs}
 use Prim.Native.Nat.{_-_}
-use mathlib.Core.Path.{_∙_, sym, ap}
-use Rattle.rows.specs.Fields.{refusedFields}
+use mathlib.Core.Path.{_∙_}
 use native.Mathlib.Omega.{arith}
 use Rattle.rows.proofs.Loops.{Reading, starts, turn, refused, ends}
 use Rattle.rows.proofs.read_rows.Statement.{statement}
@@ -38,10 +37,9 @@ refused-fields-requires c κs = search needs
 
 returns : tie.Need-returns Inv-loop μ-loop
 returns c =
-    let told = c .before .enum-told .given in
-    let tested = c .before .before .before .before .before in
-    c .refused-fields .ensures ∙ ap refusedFields (told .1)
-    ∙ refused (tested .before .loop .inv) (tested .loop-test .taken) _ (sym (c .before .before .before .read-field .ensures) ∙ told .1)
+    let read = c .before .before .before in
+    let tested = read .before .before in
+    c .refused-fields .ensures ∙ refused (tested .before .loop .inv) (tested .loop-test .taken) (read .read-field .ensures) (c .before .enum-told .given .1)
 
 mul-values : tie.Need-mul-values Inv-loop μ-loop
 mul-values c = omega arith
@@ -57,9 +55,10 @@ loop-less c = omega arith
 
 loop-again : tie.Need-loop-again Inv-loop μ-loop
 loop-again c =
-    let tested = c .before .before .before .before .before in
+    let read = c .before .before .before in
+    let tested = read .before .before in
     let entered = tested .before .before .before in
-    turn (tested .before .loop .inv) (tested .loop-test .taken) (entered .pre .1) _ (sym (c .before .before .before .read-field .ensures) ∙ c .before .field .given .1)
+    turn (tested .before .loop .inv) (tested .loop-test .taken) (entered .pre .1) (read .read-field .ensures) (c .before .field .given .1)
 
 returns-2 : tie.Need-returns-2 Inv-loop μ-loop
 returns-2 c = ends (c .before .loop .inv) (c .loop-test .left)

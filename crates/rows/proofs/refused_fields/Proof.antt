@@ -1,22 +1,11 @@
--- `rows::refused_fields` meets its contract, arm by arm.
+-- `rows::refused_fields` meets its contract: what is found of the field, and zeros.
 -- Assumes nothing.
-use mathlib.Core.Path.{sym, ap}
-use Rattle.rows.specs.Fields.{refusedFields}
 use borrow.Author.Needs.{needs}
 use Rattle.rows.proofs.refused_fields.Statement.{statement}
 use Rattle.rows.proofs.refused_fields.Tie as tie
 
-enum-told : tie.Need-enum-told
-enum-told c = search needs
-
-enum-known-field : tie.Need-enum-known-field
-enum-known-field c = search needs
-
 returns : tie.Need-returns
-returns c = sym (ap refusedFields (c .enum-told .given .1))
-
-returns-2 : tie.Need-returns-2
-returns-2 c = sym (ap refusedFields (c .before .field .given .1))
+returns c = rw (c .finding-of .ensures)
 
 pub refused-fields-spec : {M : Type 1} → statement M
-refused-fields-spec = tie.close (tie.spec enum-told enum-known-field returns returns-2)
+refused-fields-spec = tie.close (tie.spec (λ c κs. search needs) returns)

@@ -43,7 +43,7 @@ use denote.Triple.Walked.{says, Stays, stay-none, walkOf, goes-none, Walks, ends
 use denote.Exit.{yes}
 use denote.Triple.Clauses.{ensured, lasts}
 use Rattle.history.specs.Calls.{labelCall}
-use Rattle.view.specs.Parts.{placeOf, Part}
+use Rattle.view.specs.Parts.{givenPlace, Part}
 use Rattle.view.specs.declared.TableView.{TableView}
 use Rattle.view.proofs.TableView as T
 use Rattle.view.proofs.TableView.Laws as T′
@@ -77,7 +77,7 @@ module _ {M : Type 1} (𝓤 : URA M) (H : Heap 𝓤) (A : Atoms 𝓤) (W : Given
 
   -- what the callee ensures of its result
   abbrev Said : RefT (List ℕ) → Type 0
-  Said r = Part (d .table) r (placeOf (labelCall (now (d .table)) n))
+  Said r = Part (d .table) r (givenPlace (labelCall (now (d .table)) n))
 
   abbrev Arg : Type 0
   Arg = TableView × (ℕ × Unit {0})

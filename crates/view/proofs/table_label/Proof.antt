@@ -38,7 +38,7 @@ use denote.Triple.Walked.{says, Stays, stay-none, stay-none-slice, walkOf, goes-
 use denote.Exit.{yes}
 use denote.Triple.Clauses.{ensured, lasts}
 use Rattle.history.specs.Calls.{tableCall, labelCall}
-use Rattle.view.specs.Parts.{countOf, placeOf, Part}
+use Rattle.view.specs.Parts.{countOf, givenPlace, Part}
 use Rattle.view.specs.declared.TableView.{TableView}
 use Rattle.view.proofs.TableView as T
 use Rattle.view.proofs.TableView.Laws as T′
@@ -96,7 +96,7 @@ module _ {M : Type 1} (𝓤 : URA M) (H : Heap 𝓤) (A : Atoms 𝓤) (W : Given
 
   -- what a view's label is
   abbrev Said : TableView → RefT (List ℕ) → Type 0
-  Said r t = Part (r .table) t (placeOf (labelCall (now (r .table)) n))
+  Said r t = Part (r .table) t (givenPlace (labelCall (now (r .table)) n))
 
   abbrev made : TableView
   made = record { table = s; count = countOf (tableCall (now s)) }

@@ -4,7 +4,7 @@ use borrow.Author.Needs.{needs}
 use Prim.Native.Nat.{ℕ, _-_}
 use native.Mathlib.Omega.{arith}
 use mathlib.Core.Path.{_∙_, sym, ap}
-use Rattle.rows.specs.Fields.{refusal}
+use Rattle.rows.specs.Fields.{codeAt}
 use Rattle.rows.specs.declared.Finding.{Finding}
 use Rattle.fields.proofs.Loops.{Checking, checking, goes-on, stops, checked}
 use Rattle.fields.proofs.walk.check_rows.Statement.{statement}
@@ -28,7 +28,7 @@ returns : tie.Need-returns Inv-loop μ-loop
 returns c =
     let tested = c .before .before .before .before .before in
     let top = c .before .before .before .highest .ensures in
-    ap (λ (bit : ℕ). Finding.Refused (refusal 11 bit)) (c .lowest .ensures)
+    ap (λ (bit : ℕ). Finding.Refused (codeAt 11 bit)) (c .lowest .ensures)
     ∙ sym (stops (tested .before .loop .inv) (tested .loop-test .taken) (omega arith) (omega (arith, top)))
 
 loop-again : tie.Need-loop-again Inv-loop μ-loop

@@ -13,22 +13,22 @@ outline-requires c κs = search needs
 returns : tie.Need-returns
 returns c =
     let known = c .before .before .before in
-    image-refused (known .outline .ensures) (λ e. omega arith) (known .before .before .before .args .image .now)
+    image-refused (known .outline .ensures) (λ e. omega arith) _
 
 array-share-prefix-kinds : tie.Need-array-share-prefix-kinds
 array-share-prefix-kinds c = search needs
 
 slice-aggregate-check-image-under : tie.Need-slice-aggregate-check-image-under
-slice-aggregate-check-image-under c = kinds-counted (c .before .before .before .before .before .outline .ensures)
+slice-aggregate-check-image-under c = search kinds-counted
 
 check-image-under-requires : tie.Need-check-image-under-requires
-check-image-under-requires c κs = few-kinds (c .before .before .before .before .before .outline .ensures)
+check-image-under-requires c κs = search few-kinds
 
 returns-2 : tie.Need-returns-2
 returns-2 c =
     let test = c .before .before .before in
     let known = test .before .before .before in
-    c .check-image-under .ensures ∙ image-under (known .outline .ensures) (omega arith) (known .before .before .before .args .image .now)
+    c .check-image-under .ensures ∙ image-under (known .outline .ensures) (omega arith) _
 
 pub check-image-spec : {M : Type 1} → statement M
 check-image-spec =

@@ -4,7 +4,7 @@ use native.Mathlib.Omega.{arith}
 use mathlib.Core.Path.{_∙_}
 use borrow.Author.Needs.{needs}
 use Rattle.tables.proofs.AnswerLaws.{no, yes}
-use Rattle.tables.proofs.WholeLaws.{whole}
+use Rattle.history.proofs.FormLaws.{whole}
 use Rattle.forms.proofs.ImageAnswers.{not-whole, other-version, not-under, other-size, by-words}
 use Rattle.forms.proofs.image.check_image_under.Statement.{statement}
 use Rattle.forms.proofs.image.check_image_under.Tie as tie

@@ -13,22 +13,22 @@ outline-requires c κs = search needs
 returns : tie.Need-returns
 returns c =
     let known = c .before .before .before in
-    list-refused (known .outline .ensures) (λ e. omega arith) (known .before .before .before .args .list .now)
+    list-refused (known .outline .ensures) (λ e. omega arith) _
 
 array-share-prefix-kinds : tie.Need-array-share-prefix-kinds
 array-share-prefix-kinds c = search needs
 
 slice-aggregate-check-list-under : tie.Need-slice-aggregate-check-list-under
-slice-aggregate-check-list-under c = kinds-counted (c .before .before .before .before .before .outline .ensures)
+slice-aggregate-check-list-under c = search kinds-counted
 
 check-list-under-requires : tie.Need-check-list-under-requires
-check-list-under-requires c κs = few-kinds (c .before .before .before .before .before .outline .ensures)
+check-list-under-requires c κs = search few-kinds
 
 returns-2 : tie.Need-returns-2
 returns-2 c =
     let test = c .before .before .before in
     let known = test .before .before .before in
-    c .check-list-under .ensures ∙ list-under (known .outline .ensures) (omega arith) (known .before .before .before .args .list .now)
+    c .check-list-under .ensures ∙ list-under (known .outline .ensures) (omega arith) _
 
 pub check-list-spec : {M : Type 1} → statement M
 check-list-spec =

@@ -4,7 +4,7 @@ use native.Mathlib.Omega.{arith}
 use mathlib.Core.Path.{_∙_}
 use borrow.Author.Needs.{needs}
 use Rattle.tables.proofs.AnswerLaws.{no, yes}
-use Rattle.tables.proofs.WholeLaws.{whole}
+use Rattle.history.proofs.FormLaws.{whole}
 use Rattle.forms.proofs.ListAnswers.{not-whole, other-version, not-under, by-entries}
 use Rattle.forms.proofs.list.check_list_under.Statement.{statement}
 use Rattle.forms.proofs.list.check_list_under.Tie as tie

@@ -14,22 +14,22 @@ outline-requires c κs = search needs
 returns : tie.Need-returns
 returns c =
     let known = c .before .before .before in
-    table-read (known .outline .ensures) (known .before .before .before .args .image .now) (known .before .before .before .args .object) (λ e. omega arith)
+    table-read (known .outline .ensures) _ _ (λ e. omega arith)
 
 array-share-prefix-kinds : tie.Need-array-share-prefix-kinds
 array-share-prefix-kinds c = search needs
 
 slice-aggregate-read-under : tie.Need-slice-aggregate-read-under
-slice-aggregate-read-under c = kinds-counted (c .before .before .before .before .before .outline .ensures)
+slice-aggregate-read-under c = search kinds-counted
 
 read-under-requires : tie.Need-read-under-requires
-read-under-requires c κs = few-kinds (c .before .before .before .before .before .outline .ensures)
+read-under-requires c κs = search few-kinds
 
 returns-2 : tie.Need-returns-2
 returns-2 c =
     let test = c .before .before .before in
     let known = test .before .before .before in
-    c .read-under .ensures ∙ read-by-plan (known .outline .ensures) (known .before .before .before .args .image .now) (known .before .before .before .args .object) (omega arith)
+    c .read-under .ensures ∙ read-by-plan (known .outline .ensures) _ _ (omega arith)
 
 pub read-state-spec : {M : Type 1} → statement M
 read-state-spec =

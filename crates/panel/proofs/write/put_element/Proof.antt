@@ -1,7 +1,8 @@
 -- `panel::write::put_element` meets its contract: the element's own bytes are anew.
 -- Assumes nothing.
 use Rattle.panel.proofs.ElementPlaces.{inside}
-use Rattle.panel.proofs.WriteLaws.{settles-as, anew-at}
+use Rattle.history.proofs.OutputLaws.{leaves-as}
+use Rattle.panel.proofs.WriteLaws.{anew-at}
 use borrow.Author.Needs.{needs}
 use Rattle.panel.proofs.write.put_element.Statement.{statement}
 use Rattle.panel.proofs.write.put_element.Tie as tie
@@ -31,7 +32,7 @@ returns c =
     let wide = c .before .before .before .before in
     let place = wide .before .before in
     let s = place .before .before .before .before in
-    settles-as (s .args .out .now) (anew-at (s .pre) (place .element-place .ensures .0) (wide .before .kind-at .ensures) (wide .width .ensures .0) (s .args .position) (s .args .word)) (c .before .before .put-image .ensures)
+    leaves-as (s .args .out .now) (anew-at (s .pre) (place .element-place .ensures .0) (wide .before .kind-at .ensures) (wide .width .ensures .0) (s .args .position) (s .args .word)) (c .before .before .put-image .ensures)
 
 pub put-element-spec : {M : Type 1} → statement M
 put-element-spec =

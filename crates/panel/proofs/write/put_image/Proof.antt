@@ -2,9 +2,9 @@
 -- Assumes nothing.
 use Prim.Native.Nat.{_-_}
 use native.Mathlib.Omega.{arith}
-use lib.ListN.{length}
-use Rattle.panel.specs.Writings.{renewed}
-use Rattle.panel.proofs.WriteLaws.{renewed-long, short-settles, room-settles}
+use Rattle.history.proofs.OutputLaws.{short-leaves, front-leaves}
+use Rattle.panel.specs.Writings.{imageAnew}
+use Rattle.panel.proofs.WriteLaws.{renewed-long}
 use borrow.Author.Needs.{needs}
 use Rattle.panel.proofs.write.put_image.Statement.{statement}
 use Rattle.panel.proofs.write.put_image.Tie as tie
@@ -19,7 +19,7 @@ returns : tie.Need-returns
 returns c =
     let s = c .before .before .before .before in
     let a = s .args in
-    short-settles (renewed (a .image .now) (a .position) (a .at) (a .end - a .at) (a .word)) (a .out .now) (length (a .image .now))
+    short-leaves (imageAnew (a .image .now) (a .position) (a .at) (a .end - a .at) (a .word)) (a .out .now)
     (renewed-long (a .image .now) (a .position) (a .at) (a .end - a .at) (a .word) (omega (arith, s .pre)) (omega (arith, s .pre))) (c .before .if1 .taken) (c .short .ensures)
 
 sub-renew : tie.Need-sub-renew
@@ -47,7 +47,7 @@ returns-2 : tie.Need-returns-2
 returns-2 c =
     let s = c .before .before .before .before .before .before .before .before in
     let a = s .args in
-    room-settles (renewed (a .image .now) (a .position) (a .at) (a .end - a .at) (a .word)) (a .out .now) (length (a .image .now))
+    front-leaves (imageAnew (a .image .now) (a .position) (a .at) (a .end - a .at) (a .word)) (a .out .now)
     (renewed-long (a .image .now) (a .position) (a .at) (a .end - a .at) (a .word) (omega (arith, s .pre)) (omega (arith, s .pre))) (c .before .before .before .before .before .if1 .left) (c .written .ensures)
     (c .before .before .before .renew .ensures)
 

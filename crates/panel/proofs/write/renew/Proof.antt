@@ -3,7 +3,7 @@
 use native.Mathlib.Omega.{arith}
 use Rattle.octets.specs.Octets.{bytes}
 use Rattle.octets.proofs.NumberLaws.{length-bytes}
-use Rattle.panel.specs.Writings.{over, renewed}
+use Rattle.panel.specs.Writings.{over, imageAnew}
 use Rattle.panel.proofs.WriteLaws.{put-part, over-long}
 use borrow.Author.Needs.{needs}
 use Rattle.panel.proofs.write.renew.Statement.{statement}
@@ -40,7 +40,7 @@ same-length : tie.Need-same-length
 same-length c = search needs
 
 returns : tie.Need-returns
-unfolding renewed
+unfolding imageAnew
 returns c =
     let second = c .before .before in
     let first = second .before .before .before .before in

@@ -2,7 +2,8 @@
 -- Assumes nothing.
 use native.Mathlib.Omega.{arith}
 use Rattle.forms.proofs.UnderPlan.{kinds-counted, few-kinds}
-use Rattle.panel.proofs.WriteLaws.{settles-as, table-writes, write-by-plan}
+use Rattle.history.proofs.OutputLaws.{leaves-as}
+use Rattle.panel.proofs.WriteLaws.{table-writes, write-by-plan}
 use borrow.Author.Needs.{needs}
 use Rattle.panel.proofs.write.write_state.Statement.{statement}
 use Rattle.panel.proofs.write.write_state.Tie as tie
@@ -13,27 +14,25 @@ outline-requires c κs = search needs
 returns : tie.Need-returns
 returns c =
     let known = c .before .before .before in
-    let a = known .before .before .before .before .args in
-    table-writes (known .outline .ensures) (a .image .now) (a .object) (a .state) (a .position) (a .out .now) (λ e. omega arith)
+    table-writes (known .outline .ensures) _ _ _ _ _ (λ e. omega arith)
 
 array-share-prefix-kinds : tie.Need-array-share-prefix-kinds
 array-share-prefix-kinds c = search needs
 
 slice-aggregate-write-under : tie.Need-slice-aggregate-write-under
-slice-aggregate-write-under c = kinds-counted (c .before .before .before .before .before .outline .ensures)
+slice-aggregate-write-under c = search kinds-counted
 
 write-under-requires : tie.Need-write-under-requires
-write-under-requires c κs = few-kinds (c .before .before .before .before .before .before .outline .ensures)
+write-under-requires c κs = search few-kinds
 
 same-length : tie.Need-same-length
 same-length c = search needs
 
 returns-2 : tie.Need-returns-2
 returns-2 c =
-    let test = c .before .before .before .before .before .before in
-    let known = test .before .before .before in
-    let a = known .before .before .before .before .args in
-    settles-as (a .out .now) (write-by-plan (known .outline .ensures) (a .image .now) (a .object) (a .state) (a .position) (a .out .now) (omega arith)) (c .before .before .write-under .ensures)
+    let under = c .before .before in
+    let known = under .before .before .before .before .before .before .before in
+    leaves-as _ (write-by-plan (known .outline .ensures) _ _ _ _ (omega arith)) (under .write-under .ensures)
 
 pub write-state-spec : {M : Type 1} → statement M
 write-state-spec =

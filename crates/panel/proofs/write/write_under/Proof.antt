@@ -1,7 +1,8 @@
 -- `panel::write::write_under` meets its contract: the image's refusal, then the state's, then the image with its element anew.
 -- Assumes nothing.
 use native.Mathlib.Omega.{arith}
-use Rattle.panel.proofs.WriteLaws.{settles-as, image-writes, state-writes, write-sized, write-is}
+use Rattle.history.proofs.OutputLaws.{leaves-as}
+use Rattle.panel.proofs.WriteLaws.{image-writes, state-writes, write-sized, write-is}
 use borrow.Author.Needs.{needs}
 use Rattle.panel.proofs.write.write_under.Statement.{statement}
 use Rattle.panel.proofs.write.write_under.Tie as tie
@@ -50,7 +51,7 @@ returns-3 c =
     let checked = found .before .before .before in
     let known = checked .before .before in
     let a = known .before .before .args in
-    settles-as (a .out .now)
+    leaves-as (a .out .now)
     (write-is (a .x) (a .y) (a .kinds .now) (a .image .now) (a .object) (a .state) (a .position) (a .out .now) (checked .check-image-under .ensures) (λ i. known .shared-slice-known2 .given i .fits) (omega arith)
     (found .check-state .ensures) (omega arith) (word .word-of .ensures))
     (c .before .before .put-element .ensures)

@@ -5,7 +5,7 @@ use native.Mathlib.Omega.{arith}
 use borrow.Author.Needs.{needs}
 use Rattle.tables.proofs.EntryLaws.{GoodEntry}
 use Rattle.tables.proofs.TableLaws.{entry-at}
-use Rattle.tables.proofs.PlanLaws.{Filling, begin, turn, filled}
+use Rattle.tables.proofs.PlanLaws.{Filling, begin, turn, all-filled}
 use Rattle.tables.proofs.plan.kinds_of.Statement.{statement}
 use Rattle.tables.proofs.plan.kinds_of.Tie as tie
 
@@ -50,7 +50,7 @@ loop-again : tie.Need-loop-again Inv-loop μ-loop
 loop-again c = turn (c .before .before .before .before .before .loop .inv) (omega arith) _ (c .before .layout-of .ensures) _ (c .entry-size .ensures .0)
 
 returns : tie.Need-returns Inv-loop μ-loop
-returns c = filled (c .before .loop .inv) (omega arith) (c .before .before .before .pre .1) (c .before .before .before .pre .0)
+returns c = all-filled (c .before .loop .inv) (omega arith) (c .before .before .before .pre .1) (c .before .before .before .pre .0)
 
 pub kinds-of-spec : {M : Type 1} → statement M
 kinds-of-spec =

@@ -1,0 +1,48 @@
+-- The four calls on change lists as one, by what is walked for. What each means is `history`'s.
+-- Assumes nothing.
+use Prim.Native.Nat.{ℕ}
+use mathlib.Core.List.{List}
+use Rattle.history.specs.declared.Answer.{Answer}
+use Rattle.history.specs.Verdict.{Verdict, then, numbers, told}
+use Rattle.history.specs.Table.{Plan}
+use Rattle.history.specs.Image.{readImage}
+use Rattle.history.specs.Changes.{readList}
+use Rattle.history.specs.Calls.{readPlan, differenceUnder, applyUnder, joinUnder, turnUnder}
+use Rattle.history.proofs.CallLaws.{AcceptedImage, AcceptedList}
+use Rattle.steps.specs.declared.Walk.{Walk}
+
+-- the forms in the order given; turning back has one
+unfoldable pub walkUnder : Walk → Plan → List ℕ → List ℕ → Verdict (List ℕ)
+walkUnder Walk.Difference p a b = differenceUnder p a b
+walkUnder Walk.Apply p a l = applyUnder p a l
+walkUnder Walk.Join p l m = joinUnder p l m
+walkUnder Walk.Turn p l m = turnUnder p l
+
+unfoldable pub walkCall : Walk → List ℕ → List ℕ → List ℕ → Verdict (List ℕ)
+walkCall walk t a b = then (readPlan t) λ p. walkUnder walk p a b
+
+-- what the check of the first form tells, and that of the second
+unfoldable pub firstTold : Walk → Plan → List ℕ → Answer
+firstTold Walk.Difference p b = told (readImage p b)
+firstTold Walk.Apply p b = told (readImage p b)
+firstTold Walk.Join p b = told (readList p b)
+firstTold Walk.Turn p b = told (readList p b)
+
+unfoldable pub secondTold : Walk → Plan → List ℕ → Answer
+secondTold Walk.Difference p b = told (readImage p b)
+secondTold Walk.Apply p b = told (readList p b)
+secondTold Walk.Join p b = told (readList p b)
+secondTold Walk.Turn p b = numbers 0 65535 255 0
+
+-- what an accepted one is
+unfoldable pub FirstAccepted : Walk → Plan → List ℕ → Type 0
+FirstAccepted Walk.Difference p b = AcceptedImage p b
+FirstAccepted Walk.Apply p b = AcceptedImage p b
+FirstAccepted Walk.Join p b = AcceptedList p b
+FirstAccepted Walk.Turn p b = AcceptedList p b
+
+unfoldable pub SecondAccepted : Walk → Plan → List ℕ → Type 0
+SecondAccepted Walk.Difference p b = AcceptedImage p b
+SecondAccepted Walk.Apply p b = AcceptedList p b
+SecondAccepted Walk.Join p b = AcceptedList p b
+SecondAccepted Walk.Turn p b = Unit {0}
