@@ -132,7 +132,7 @@ def rows_table():
         f'    layout {l.number} {l.first} {len(l.rows)} {l.bytes} {"true" if l.dat else "false"} ∷\n' for l in LAYOUTS)
     return f'''-- Every row of every layout, {TOTAL} rows of layout, lowest bit, width and highest admitted value (0: reserved), in one constant
 -- table; and the layouts, each with its number, its first row, how many, its width in bytes and whether bit 0 is DAT.
--- Written by catalogue/write.py. Assumes nothing.
+-- Written by catalogue/write.py.
 use mathlib.Core.Bool.{{Bool, true, false}}
 use mathlib.Core.List.{{List, [], _∷_}}
 use Prim.Native.Nat.{{ℕ, zero, suc, _+_, _*_}}
@@ -216,7 +216,7 @@ impl {e} {{
 
 def cases_specs():
     text = '''-- Each multi-valued field's own named cases, in the order of their values; a case's value, and the case of a value.
--- Written by catalogue/write.py. Assumes nothing.
+-- Written by catalogue/write.py.
 use mathlib.Core.List.{List, [], _∷_}
 use Prim.Native.Nat.{ℕ}
 use lib.ListN.{getD}
@@ -353,7 +353,7 @@ fn bits_of(values: [u32; 24]) -> Bits
 
 def states_specs():
     text = '''-- Each type's state from its fields' values in the rows' order, and a state's values (a reserved row's is 0).
--- Written by catalogue/write.py. Assumes nothing.
+-- Written by catalogue/write.py.
 use mathlib.Core.List.{List, [], _∷_}
 use Prim.Native.Nat.{ℕ}
 use lib.ListN.{getD}
@@ -363,7 +363,7 @@ use Rattle.rows.specs.Fields.{bitNo}
     text += f'use Rattle.cases.specs.Cases.{{{names(low(e) + x for e in ENUMS for x in ("Of", "No"))}}}\n'
     for s in STRUCTS + ['Bits']:
         text += f'use Rattle.states.specs.declared.{s}.{{{s}}}\n'
-    text += '\n-- the bits at the places where a type has one\nabbrev pub bitsOf : List ℕ → Bits\nbitsOf vs = record {\n'
+    text += '\n-- b3 is whether the value of row 3 is 1: for each place among the rows at which some type has a field of one bit\nabbrev pub bitsOf : List ℕ → Bits\nbitsOf vs = record {\n'
     text += ''.join(f'  b{k} = eqb (getD vs {k} 0) 1;\n' for k in BITS) + '}\n'
     for l in LAYOUTS:
         text += f'\nabbrev pub {l.key}Of : List ℕ → {l.struct}\n{l.key}Of vs = record {{\n'
@@ -406,8 +406,14 @@ use Rattle.rows.proofs.Listed.{listedFrom, bit-listed, bit-back, reserved-liste
     return text
 
 
+def moments(read, step=1):
+    """The place right after each reading, and the lines that name it: from the last, c, back, each by way of the next."""
+    at = [f'at-{name.replace("_", "-")}' for name in read[:-1]] + ['c']
+    return at, ''.join(f'    let {earlier} = {later}{before(step)} in\n' for earlier, later in reversed(list(zip(at, at[1:]))))
+
+
 def of_values_proof(l):
-    calls, named = 2 * len(l.named) + 1, 0
+    at, lines = moments([r.name for r in l.named], 2)
     uses = f'''use mathlib.Core.Path.{{_∙_, ap}}
 use lib.Dec.{{lit<}}
 use Rattle.cases.specs.Cases.{{{names(dict.fromkeys(low(r.type) + 'Of' for r in l.named))}}}
@@ -416,48 +422,50 @@ use Rattle.cases.specs.Cases.{{{names(dict.fromkeys(low(r.type) + 'Of' for r in
 -- Written by catalogue/write.py. Assumes nothing.
 {uses}{ties('states', l.struct + '.of_values')}
 returns : tie.Need-returns
-returns c = λ i.
-    let bits = (c{before(calls - 1)} .bits-of .ensures) i in
+returns c =
+{lines}    λ i.
+    let bits = ({at[0]}{before(2 if l.named else 0)} .bits-of .ensures) i in
     record {{
 '''
     for r in l.fields:
         if r.bit:
             value = f'bits .b{r.place}'
         else:
-            named += 1
-            back = calls - 1 - 2 * named
-            value = (f'(c{before(back)} .{nth("of", named)} .ensures '
-                     f'∙ ap {low(r.type)}Of (c{before(back + 1)} .{nth("value", named)} .ensures)) i')
+            i = l.named.index(r)
+            value = (f'({at[i]} .{nth("of", i + 1)} .ensures '
+                     f'∙ ap {low(r.type)}Of ({at[i]} .before .{nth("value", i + 1)} .ensures)) i')
         text += f'      {r.key} = {value};\n'
     return text + '    }\n\n' + spec_end('of-values', [CALL] + [LISTED, CALL] * len(l.named) + ['returns'])
 
 
 def bits_of_proof():
+    at, lines = moments([f'b{k}' for k in BITS])
     text = f'''-- `states::bits_of` meets its contract: each bit by what its reader ensures.
 -- Written by catalogue/write.py. Assumes nothing.
 use lib.Dec.{{lit<}}
 {ties('states', 'bits_of')}
 returns : tie.Need-returns
-returns c = λ i. record {{
+returns c =
+{lines}    λ i.
+    record {{
 '''
-    for i, k in enumerate(BITS, 1):
-        text += f'  b{k} = (c{before(len(BITS) - i)} .{nth("bit", i)} .ensures) i;\n'
-    return text + '}\n\n' + spec_end('bits-of', [LISTED] * len(BITS) + ['returns'])
+    for i, k in enumerate(BITS):
+        text += f'      b{k} = ({at[i]} .{nth("bit", i + 1)} .ensures) i;\n'
+    return text + '    }\n\n' + spec_end('bits-of', [LISTED] * len(BITS) + ['returns'])
 
 
 def values_proof(l):
-    m, place, done, parts, answers = len(l.fields), 0, 0, [], []
+    at, lines = moments([r.name for r in l.fields])
+    done, parts, answers = 0, [], []
     for r in l.rows:
         if r.reserved:
             parts.append('0')
-            continue
-        place += 1
-        if r.bit:
+        elif r.bit:
             parts.append(f'bitNo (s .{r.key})')
             answers.append(SEARCH)
         else:
             done += 1
-            parts.append(f'(c{before(m - place)} .{nth("number", done)} .ensures) i')
+            parts.append(f'({at[l.fields.index(r)]} .{nth("number", done)} .ensures) i')
             answers.append(CALL)
     return f'''-- `states::{l.struct}::values` meets its contract: each named field by what its number ensures.
 -- Written by catalogue/write.py. Assumes nothing.
@@ -467,7 +475,7 @@ use Rattle.rows.specs.Fields.{{padded, bitNo}}
 {ties('states', l.struct + '.values')}
 returns : tie.Need-returns
 returns c =
-    let s = c{before(m)} .args .self in
+{lines}    let s = {at[0]} .before .args .self in
     λ i.
     padded
     ({' ∷ '.join(parts)} ∷
@@ -550,7 +558,7 @@ def kinds_specs():
     kinds = ' ∷ '.join(f'Kind.{s}' for s in STRUCTS)
     text = '''-- An element state is one of the types, each with its own struct: the kinds, the layout of each, and the state of any kind from
 -- its fields' values.
--- Written by catalogue/write.py. Assumes nothing.
+-- Written by catalogue/write.py.
 use mathlib.Core.Bool.{cond}
 use mathlib.Core.List.{List, [], _∷_}
 use Prim.Native.Nat.{ℕ}
@@ -583,12 +591,12 @@ abbrev pub rowsOf : Kind → List Row
 rowsOf k = layoutRows (layoutOf k)
 
 -- the kind whose layout has a number
-abbrev pub lookup : ℕ → List Kind → Sort
-lookup n [] = Sort.Other
-lookup n (k ∷ ks) = cond (eqb n (layoutNo k)) (Sort.Carried k) (lookup n ks)
+abbrev pub sortIn : ℕ → List Kind → Sort
+sortIn n [] = Sort.Other
+sortIn n (k ∷ ks) = cond (eqb n (layoutNo k)) (Sort.Carried k) (sortIn n ks)
 
 abbrev pub sortNumbered : ℕ → Sort
-sortNumbered n = lookup n kinds
+sortNumbered n = sortIn n kinds
 
 abbrev pub elementOf : Kind → List ℕ → Element
 {''.join(f"elementOf Kind.{l.struct} vs = Element.{l.struct} ({l.key}Of vs){chr(10)}" for l in LAYOUTS)}
@@ -607,7 +615,7 @@ use mathlib.Core.Bool.{Bool, cond}
 use mathlib.Core.List.{List, [], _∷_}
 use Prim.Native.Nat.{ℕ}
 use borrow.Author.Tests.{ne-eqb}
-use Rattle.kinds.specs.Kinds.{layoutNo, lookup}
+use Rattle.kinds.specs.Kinds.{layoutNo, sortIn}
 use Rattle.kinds.specs.declared.Kind.{Kind}
 use Rattle.kinds.specs.declared.Sort.{Sort}
 
@@ -615,9 +623,9 @@ abbrev pub Apart : ℕ → List Kind → Type 0
 Apart n [] = Unit
 Apart n (k ∷ ks) = (n ≡ layoutNo k → ⊥) × Apart n ks
 
-pub vain : (n : ℕ) (ks : List Kind) → Apart n ks → Sort.Other ≡ lookup n ks
+pub vain : (n : ℕ) (ks : List Kind) → Apart n ks → Sort.Other ≡ sortIn n ks
 vain n [] a = refl
-vain n (k ∷ ks) a = vain n ks (a .1) ∙ sym (ap (λ (b : Bool). cond b (Sort.Carried k) (lookup n ks)) (ne-eqb n (layoutNo k) (a .0)))
+vain n (k ∷ ks) a = vain n ks (a .1) ∙ sym (ap (λ (b : Bool). cond b (Sort.Carried k) (sortIn n ks)) (ne-eqb n (layoutNo k) (a .0)))
 '''
 
 

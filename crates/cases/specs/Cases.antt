@@ -1,5 +1,5 @@
 -- Each multi-valued field's own named cases, in the order of their values; a case's value, and the case of a value.
--- Written by catalogue/write.py. Assumes nothing.
+-- Written by catalogue/write.py.
 use mathlib.Core.List.{List, [], _∷_}
 use Prim.Native.Nat.{ℕ}
 use lib.ListN.{getD}

@@ -3,16 +3,17 @@
 use Prim.Native.Nat.{ℕ}
 use mathlib.Core.Path.{_≡_, refl, sym, ap, subst, _∙_}
 use mathlib.Core.List.{List}
-use lib.ListN.{take}
-use Rattle.octets.specs.Octets.{Bytes}
+use lib.ListN.{take, getD}
+use mir.Syntax.{w8}
+use mir.Val.{Fits}
 use Rattle.history.specs.declared.Answer.{Answer}
-use Rattle.history.specs.Verdict.{Verdict, told}
+use Rattle.history.specs.Verdict.{told}
 use Rattle.history.specs.Table.{Plan}
 use Rattle.history.specs.Image.{readImage}
 use Rattle.history.specs.Changes.{readList}
 use Rattle.history.specs.Calls.{differenceUnder, differenceCall, applyUnder, applyCall, joinUnder, joinCall, turnUnder, turnCall}
 use Rattle.history.proofs.CallLaws.{AcceptedImage, AcceptedList}
-use Rattle.history.proofs.OutputLaws.{Leaves, leaves-as, first-leaves}
+use Rattle.history.proofs.OutputLaws.{Leaves, first-leaves}
 use Rattle.steps.specs.declared.Walk.{Walk}
 use Rattle.tables.specs.declared.answers.Outline.{Outline}
 use Rattle.tables.specs.Outlines.{planAs, Outlined}
@@ -59,15 +60,14 @@ module _ {walk w : Walk} (p : Plan) (b : List ℕ) (is : walk ≡ w) where
 
 -- ---- the table
 
-module _ {T : List ℕ} {o : Outline} (k : Outlined T o) (walk : Walk) (A B out : List ℕ) where
-  pub table-stops : (o .answer .code ≡ 0 → ⊥) → Leaves (walkCall walk T A B) out (o .answer) out
+module _ {T : List ℕ} {o : Outline} (k : Outlined T o) (walk : Walk) (A B : List ℕ) where
+  pub table-stops : (out : List ℕ) → (o .answer .code ≡ 0 → ⊥) → Leaves (walkCall walk T A B) out (o .answer) out
   unfolding walkCall
-  table-stops n = table-leaves k n (λ p. walkUnder walk p A B) out
+  table-stops out n = table-leaves k n (λ p. walkUnder walk p A B) out
 
-  pub table-goes : o .answer .code ≡ 0 → {r : Answer} {m : List ℕ} → Leaves (walkUnder walk (planAs (o .x) (o .y) (take (o .count) (o .kinds))) A B) out r m
-      → Leaves (walkCall walk T A B) out r m
+  pub table-goes : o .answer .code ≡ 0 → walkUnder walk (planAs (o .x) (o .y) (take (o .count) (o .kinds))) A B ≡ walkCall walk T A B
   unfolding walkCall
-  table-goes z q = leaves-as out (sym (under-plan k z (λ p. walkUnder walk p A B))) q
+  table-goes z = sym (under-plan k z (λ p. walkUnder walk p A B))
 
 -- ---- the other forms
 
@@ -86,12 +86,13 @@ module _ (p : Plan) (A B out : List ℕ) {r : Answer} where
   second-stops Walk.Join l e n = rw (l .reads) (first-leaves (readList p B) _ out e n)
   second-stops Walk.Turn l e n = absurd (n (ap (λ (a : Answer). a .code) e))
 
-module _ (p : Plan) (b : List ℕ) (h : Bytes b) {r : Answer} (z : r .code ≡ 0) where
+-- h is what is known of the bytes of a slice
+module _ (p : Plan) (b : List ℕ) (h : (i : ℕ) → Fits w8 (getD b i 0)) {r : Answer} (z : r .code ≡ 0) where
   image : r ≡ told (readImage p b) → AcceptedImage p b
-  image e = image-accepted p b h (ap (λ (a : Answer). a .code) (sym e) ∙ z)
+  image e = image-accepted p b (λ i. h i .fits) (ap (λ (a : Answer). a .code) (sym e) ∙ z)
 
   list : r ≡ told (readList p b) → AcceptedList p b
-  list e = list-accepted p b h (ap (λ (a : Answer). a .code) (sym e) ∙ z)
+  list e = list-accepted p b (λ i. h i .fits) (ap (λ (a : Answer). a .code) (sym e) ∙ z)
 
   pub first-accepted : (walk : Walk) → r ≡ firstTold walk p b → FirstAccepted walk p b
   unfolding firstTold FirstAccepted

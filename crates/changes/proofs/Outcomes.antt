@@ -4,7 +4,7 @@ use Prim.Native.Nat.{ℕ, _+_, _≤_, _<_}
 use native.Mathlib.Omega.{arith}
 use mathlib.Core.Path.{_≡_, sym, ap, _∙_}
 use mathlib.Core.Bool.{true, false}
-use mathlib.Core.List.{List}
+use mathlib.Core.List.{List, zipWith}
 use lib.Dec.{eqb, leb}
 use lib.ListN.{length, take, drop}
 use borrow.Author.Tests.{eq-eqb, ne-eqb, le-leb, lt-leb}
@@ -14,7 +14,7 @@ use Rattle.history.specs.Verdict.{Verdict, done, then, refusal, refusalAt, numb
 use Rattle.history.specs.Image.{Image, widths, wordsBytes, imageBytes}
 use Rattle.history.specs.Changes.{Changes, listBytes}
 use Rattle.history.specs.Calls.{differenceUnder, applyUnder, joinUnder, turnUnder}
-use Rattle.history.specs.Operations.{after, zip, resultOf, jointOf, difference, applied, join, turned}
+use Rattle.history.specs.Operations.{after, resultOf, jointOf, difference, applied, join, turned}
 use Rattle.history.proofs.CallLaws.{AcceptedImage, AcceptedList}
 use Rattle.history.proofs.CodeLaws.{Coded, applied-coded, join-coded, zero-told}
 use Rattle.history.proofs.ImageLaws.{length-words}
@@ -103,11 +103,11 @@ module _ (x y : ℕ) (ns : List ℕ) (few : length ns ≤ 1024) where
     after-is : {e : List ℕ} {to : ℕ} → e ≡ drop 17 L → to ≡ number (take 4 (drop 11 L)) → imageAfter (kindsOf ns) A to e ≡ imageBytes (planAs x y ns) (resultOf (l .list) (a .image))
     unfolding imageAfter
     after-is {e} {to} ee et =
-        let renewed-is : renewal 0 (kindsOf ns) e (drop 11 A) ≡ wordsBytes (kindsOf ns) (zip after (l .list .each) (a .image .words)) =
+        let renewed-is : renewal 0 (kindsOf ns) e (drop 11 A) ≡ wordsBytes (kindsOf ns) (zipWith after (l .list .each) (a .image .words)) =
         rw (ee, entries-at l, words-at a) (renewal-is 0 bound (l .legal .each) (a .legal .words)) in
-        let long : length (wordsBytes (kindsOf ns) (zip after (l .list .each) (a .image .words))) ≡ widths (kindsOf ns) =
+        let long : length (wordsBytes (kindsOf ns) (zipWith after (l .list .each) (a .image .words))) ≡ widths (kindsOf ns) =
         ap length (sym renewed-is) ∙ length-renewal (kindsOf ns) 0 e (drop 11 A) (ap length (words-at a) ∙ length-words (a .legal .words)) in
-        rw (renewed-is, et, to-at l) (image-again a (l .list .to) (zip after (l .list .each) (a .image .words)) long)
+        rw (renewed-is, et, to-at l) (image-again a (l .list .to) (zipWith after (l .list .each) (a .image .words)) long)
 
     module _ {position from : ℕ} (ep : position ≡ number (take 4 (drop 7 A))) (ef : from ≡ number (take 4 (drop 7 L))) where
       pub apply-late : from < position → applyUnder (planAs x y ns) A L ≡ refusal 16

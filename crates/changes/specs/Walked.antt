@@ -1,5 +1,4 @@
 -- The four calls on change lists as one, by what is walked for. What each means is `history`'s.
--- Assumes nothing.
 use Prim.Native.Nat.{ℕ}
 use mathlib.Core.List.{List}
 use Rattle.history.specs.declared.Answer.{Answer}
@@ -11,15 +10,15 @@ use Rattle.history.specs.Calls.{readPlan, differenceUnder, applyUnder, joinUnde
 use Rattle.history.proofs.CallLaws.{AcceptedImage, AcceptedList}
 use Rattle.steps.specs.declared.Walk.{Walk}
 
--- the forms in the order given; turning back has one
+-- the forms in the order given (apply: the image, then the list); turning back has one
 unfoldable pub walkUnder : Walk → Plan → List ℕ → List ℕ → Verdict (List ℕ)
-walkUnder Walk.Difference p a b = differenceUnder p a b
-walkUnder Walk.Apply p a l = applyUnder p a l
-walkUnder Walk.Join p l m = joinUnder p l m
-walkUnder Walk.Turn p l m = turnUnder p l
+walkUnder Walk.Difference p A B = differenceUnder p A B
+walkUnder Walk.Apply p A L = applyUnder p A L
+walkUnder Walk.Join p L M = joinUnder p L M
+walkUnder Walk.Turn p L M = turnUnder p L
 
 unfoldable pub walkCall : Walk → List ℕ → List ℕ → List ℕ → Verdict (List ℕ)
-walkCall walk t a b = then (readPlan t) λ p. walkUnder walk p a b
+walkCall walk T A B = then (readPlan T) λ p. walkUnder walk p A B
 
 -- what the check of the first form tells, and that of the second
 unfoldable pub firstTold : Walk → Plan → List ℕ → Answer

@@ -1,12 +1,9 @@
 -- The answers of the functions over elements, from what their callees ensure.
 -- Assumes nothing.
-use mathlib.Core.Path.{_≡_, _∙_, refl, sym, ap, ap₂}
-use mathlib.Core.Bool.{Bool, true, false, cond}
+use mathlib.Core.Path.{_≡_, _∙_, sym, ap, ap₂}
+use mathlib.Core.Bool.{Bool, true, false}
 use mathlib.Core.List.{List}
 use Prim.Native.Nat.{ℕ, _+_, _%_, _<_, _≤_}
-use native.Mathlib.Omega.{arith}
-use borrow.Author.Tests.{eq-eqb, ne-eqb}
-use lib.Dec.{eqb}
 use lib.ListN.{replicate}
 use Rattle.rows.specs.Table.{rowTotal, rowsFrom}
 use Rattle.rows.specs.Fields.{codeAt, checkRows, valuesOf, composeOf, padded, onFinding, fieldsRead}
@@ -20,32 +17,25 @@ use Rattle.kinds.specs.declared.Kind.{Kind}
 use Rattle.kinds.specs.declared.Element.{Element}
 use Rattle.elements.specs.declared.State.{State}
 use Rattle.elements.proofs.Covering.{cover}
+use Rattle.elements.proofs.DatLaws.{dat-absent, dat-one, dat-none, dat-stale}
 use Rattle.elements.proofs.Laws.{word-small, compose-padded}
 
--- the rule of DAT by its three tests
-dat : Bool → Bool → Bool → Finding
-dat has one none = cond has (cond one Finding.Accepted (cond none Finding.Accepted (Finding.Refused (codeAt 12 0)))) Finding.Accepted
-
+-- the rule of DAT, from what `layout` ensures
 module _ (k : Kind) (w : ℕ) (l : Layout) (is : l ≡ layoutOf k) where
-  tested : {has one none : Bool} → l .dat ≡ has → eqb (w % 2) 1 ≡ one → eqb w 0 ≡ none → dat has one none ≡ datRule k w
-  unfolding dat datRule
-  tested a b c = λ i. dat ((sym a ∙ ap (λ (m : Layout). m .dat) is) i) (sym b i) (sym c i)
+  of-layout : {has : Bool} → l .dat ≡ has → layoutOf k .dat ≡ has
+  of-layout e = ap (λ (m : Layout). m .dat) (sym is) ∙ e
 
-  pub dat-absent : l .dat ≡ false → Finding.Accepted ≡ datRule k w
-  unfolding dat
-  dat-absent e = tested e refl refl
+  pub no-dat : l .dat ≡ false → Finding.Accepted ≡ datRule k w
+  no-dat e = sym (dat-absent k w (of-layout e))
 
-  pub dat-one : l .dat ≡ true → w % 2 ≡ 1 → Finding.Accepted ≡ datRule k w
-  unfolding dat
-  dat-one e h = tested e (eq-eqb _ _ h) refl
+  pub current : l .dat ≡ true → w % 2 ≡ 1 → Finding.Accepted ≡ datRule k w
+  current e h = sym (dat-one k w (of-layout e) h)
 
-  pub dat-none : l .dat ≡ true → (w % 2 ≡ 1 → ⊥) → w ≡ 0 → Finding.Accepted ≡ datRule k w
-  unfolding dat
-  dat-none e h z = tested e (ne-eqb _ _ h) (eq-eqb _ _ z)
+  pub without-data : l .dat ≡ true → (w % 2 ≡ 1 → ⊥) → w ≡ 0 → Finding.Accepted ≡ datRule k w
+  without-data e h z = sym (dat-none k w (of-layout e) h z)
 
-  pub dat-stale : l .dat ≡ true → (w % 2 ≡ 1 → ⊥) → (w ≡ 0 → ⊥) → Finding.Refused (codeAt 12 0) ≡ datRule k w
-  unfolding dat
-  dat-stale e h z = tested e (ne-eqb _ _ h) (ne-eqb _ _ z)
+  pub stale : l .dat ≡ true → (w % 2 ≡ 1 → ⊥) → (w ≡ 0 → ⊥) → Finding.Refused (codeAt 12 0) ≡ datRule k w
+  stale e h z = sym (dat-stale k w (record { dat = of-layout e; silent = h; other = z }))
 
 -- from what is found of the fields
 module _ (k : Kind) (w : ℕ) (f : Finding) (e : f ≡ checkRows w (rowsOf k)) where

@@ -2,8 +2,8 @@
 -- Assumes nothing.
 use Prim.Native.Nat.{_-_}
 use mathlib.Core.Path.{_≡_, refl}
+use Rattle.rows.specs.Fields.{bearing}
 use Rattle.rows.specs.Table.{table, layouts, rowTotal}
-use Rattle.rows.specs.Covering.{bearing}
 use Rattle.kinds.specs.Kinds.{layoutOf, layoutNo, rowsOf}
 use Rattle.kinds.specs.declared.Kind.{Kind}
 

@@ -4,7 +4,7 @@ use mathlib.Core.Path.{_≡_, ap}
 use Prim.Native.Nat.{ℕ, _*_, _<_}
 use Rattle.rows.specs.Covering.{holding}
 use Rattle.rows.proofs.Covering.{Covered, layout-covered, held-once}
-use Rattle.kinds.specs.Kinds.{place, layoutOf, layoutNo, widthOf, rowsOf, sortNumbered}
+use Rattle.kinds.specs.Kinds.{place, layoutOf, layoutNo, widthOf, rowsOf}
 use Rattle.elements.specs.Elements.{carriedKind, kindNumbered}
 use Rattle.kinds.specs.declared.Kind.{Kind}
 use Rattle.kinds.proofs.KindLaws.{placed, kind-found}

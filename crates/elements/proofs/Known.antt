@@ -2,8 +2,6 @@
 -- Assumes nothing.
 use mathlib.Core.Path.{_≡_, refl}
 use mathlib.Core.Bool.{true, false}
-use mathlib.Core.List.{List, [], _∷_}
-use Prim.Native.Nat.{ℕ}
 use Rattle.rows.specs.Table.{table, layouts}
 use Rattle.cases.specs.declared.ChangerAspect.{ChangerAspect}
 use Rattle.cases.specs.declared.SignalKind.{SignalKind}

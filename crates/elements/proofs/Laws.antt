@@ -40,7 +40,7 @@ word-small e = lt-of-lt-of-le (word-fits e) (pow-mono {j = 32} (let g = cover (k
 -- a state's kind is the one that it is read as
 pub state-kind : (k : Kind) (w : ℕ) → kindIn (stateOf k w) ≡ k
 unfolding stateOf
-state-kind k w = element-kind k (padded (valuesOf w (rowsOf k)))
+state-kind k w = element-kind k _
 
 -- ---- the round trips
 
@@ -63,7 +63,7 @@ fields-word k w h ok =
     ∙ ap (composeOf (rowsOf k)) (listed-from (rowsOf k) [] vs (replicate (24 - length vs) 0) (accepted-within w (rowsOf k) ok))
     ∙ compose-values (rowsOf k) (8 * widthOf k) w (cover k .tiling) h
 
-accepted-fields : (k : Kind) (w : ℕ) → elementCheck k w ≡ Finding.Accepted → checkRows w (rowsOf k) ≡ Finding.Accepted
+pub accepted-fields : (k : Kind) (w : ℕ) → elementCheck k w ≡ Finding.Accepted → checkRows w (rowsOf k) ≡ Finding.Accepted
 unfolding elementCheck
 accepted-fields k w = go (checkRows w (rowsOf k))
   where
@@ -91,7 +91,7 @@ read-written e h =
     let s = stateOf (kindIn e) (wordOf e) in
     ap (λ (f : Finding). onFinding f (State.Read s) State.Refused) h ∙ ap State.Read (state-word-state e)
 
--- the number 0 is accepted, and is that of the state without data
+-- the number 0 is that of the state whose fields are all 0
 pub zero-word : (k : Kind) → wordOf (elementOf k []) ≡ 0
 unfolding stateOf
 zero-word k = ap wordOf (sym (zero-state k)) ∙ fields-word k 0 (pow-pos (8 * widthOf k)) (zero-accepted (rowsOf k))

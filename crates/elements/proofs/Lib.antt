@@ -1,5 +1,6 @@
 pub mod Covering
 pub mod Laws
+pub mod DatLaws
 pub mod Findings
 pub mod Answers
 pub mod Bearing

@@ -1,5 +1,4 @@
 -- Which types are carried, the check of an element (fields from bit 0 up, then 12), and a state as a number and back.
--- Assumes nothing.
 use mathlib.Core.Bool.{Bool, true, false, cond}
 use Prim.Native.Nat.{ℕ, _%_}
 use lib.Dec.{eqb}

@@ -1,5 +1,4 @@
 -- Known elements: those that the paper marks P, each with its kind, its number and what is found.
--- Assumes nothing.
 use mathlib.Core.List.{List, [], _∷_, map}
 use Prim.Native.Nat.{ℕ}
 use Rattle.rows.specs.Fields.{codeAt}

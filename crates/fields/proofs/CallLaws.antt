@@ -11,7 +11,7 @@ use borrow.Author.Tests.{eq-eqb, ne-eqb, eqb-true}
 use Rattle.rows.specs.Table.{layouts}
 use Rattle.rows.specs.declared.Finding.{Finding}
 use Rattle.rows.specs.declared.Refusal.{Refusal}
-use Rattle.kinds.specs.Kinds.{layoutNo, rowsOf, kindIn, kinds, lookup, sortNumbered, elementOf}
+use Rattle.kinds.specs.Kinds.{layoutNo, rowsOf, kindIn, kinds, sortIn, sortNumbered, elementOf}
 use Rattle.kinds.specs.declared.Kind.{Kind}
 use Rattle.kinds.specs.declared.Element.{Element}
 use Rattle.kinds.specs.declared.Sort.{Sort}
@@ -44,11 +44,11 @@ all-refuse f (done s) h = h s
 
 -- ---- numbers of kinds
 
-lookup-no : (n : ℕ) {k : Kind} (ks : List Kind) → lookup n ks ≡ Sort.Carried k → n ≡ layoutNo k
-lookup-no n [] e = absurd (let z : _≡_ {A = ℕ} 0 1 = cc in omega arith)
-lookup-no n {k} (j ∷ js) e = at (eqb n (layoutNo j)) refl (lookup-no n js) e
+sort-no : (n : ℕ) {k : Kind} (ks : List Kind) → sortIn n ks ≡ Sort.Carried k → n ≡ layoutNo k
+sort-no n [] e = absurd (let z : _≡_ {A = ℕ} 0 1 = cc in omega arith)
+sort-no n {k} (j ∷ js) e = at (eqb n (layoutNo j)) refl (sort-no n js) e
   where
-    at : (b : Bool) → eqb n (layoutNo j) ≡ b → (lookup n js ≡ Sort.Carried k → n ≡ layoutNo k) → cond b (Sort.Carried j) (lookup n js) ≡ Sort.Carried k → n ≡ layoutNo k
+    at : (b : Bool) → eqb n (layoutNo j) ≡ b → (sortIn n js ≡ Sort.Carried k → n ≡ layoutNo k) → cond b (Sort.Carried j) (sortIn n js) ≡ Sort.Carried k → n ≡ layoutNo k
     at true q rest e = eqb-true n (layoutNo j) q ∙ ap layoutNo (the-kind e)
       where
         the-kind : Sort.Carried j ≡ Sort.Carried k → j ≡ k
@@ -57,7 +57,7 @@ lookup-no n {k} (j ∷ js) e = at (eqb n (layoutNo j)) refl (lookup-no n js) e
 
 -- a carried number is its kind's, and no other kind has it
 pub its-number : {n : ℕ} {k : Kind} → sortNumbered n ≡ Sort.Carried k → n ≡ layoutNo k
-its-number {n} e = lookup-no n kinds e
+its-number {n} e = sort-no n kinds e
 
 its-kind : {n : ℕ} {k : Kind} (j : Kind) → sortNumbered n ≡ Sort.Carried k → n ≡ layoutNo j → j ≡ k
 its-kind j e q =
@@ -82,10 +82,10 @@ numbers-small Kind.ElectricLock = omega arith
 numbers-small Kind.GeneralNotices = omega arith
 numbers-small Kind.ControlBoundary = omega arith
 
-none-large : (n : ℕ) → 255 < n → (ks : List Kind) → lookup n ks ≡ Sort.Other
+none-large : (n : ℕ) → 255 < n → (ks : List Kind) → sortIn n ks ≡ Sort.Other
 none-large n h [] = refl
 none-large n h (k ∷ ks) =
-    ap (λ (b : Bool). cond b (Sort.Carried k) (lookup n ks)) (ne-eqb n (layoutNo k) (λ e. omega (arith, numbers-small k)))
+    ap (λ (b : Bool). cond b (Sort.Carried k) (sortIn n ks)) (ne-eqb n (layoutNo k) (λ e. omega (arith, numbers-small k)))
     ∙ none-large n h ks
 
 pub no-sort : (n : ℕ) → 255 < n → Sort.Other ≡ sortNumbered n
@@ -155,19 +155,6 @@ module _ (t a : List ℕ) (i number : ℕ) (fields : List ℕ) (position : ℕ) 
       named (rowsOf k) (valuesIn k fields) of i ⨾
       writeStateCall t a i (elementOf k (valuesIn k fields)) position
 
-  pub no-kind : sortNumbered number ≡ Sort.Other → writeFieldsCall t a i number fields position ≡ stateRefused t a i number 22 255
-  unfolding writeFieldsCall stateRefused
-  no-kind e =
-      of-kinds valued (λ k. refused 22 i 255) (readStateCall t a i)
-      (λ j. ap (λ (b : Bool). refusalAt 22 i unless b ⨾ valued j) (not-its number j e) ∙ sym (ap (λ (b : Bool). refusalAt 22 i unless b ⨾ refused 22 i 255) (not-its number j e)))
-
-  pub no-value : {k : Kind} (r : Refusal) → sortNumbered number ≡ Sort.Carried k → named (rowsOf k) (valuesIn k fields) ≡ Finding.Refused r
-      → writeFieldsCall t a i number fields position ≡ stateRefused t a i number (r .code) (r .bit)
-  unfolding writeFieldsCall stateRefused
-  no-value {k} r e f =
-      of-kinds valued (λ k. refused (r .code) i (r .bit)) (readStateCall t a i)
-      (only valued (λ k. refused (r .code) i (r .bit)) e (ap (λ (v : Finding). v of i ⨾ writeStateCall t a i (elementOf k (valuesIn k fields)) position) f))
-
   -- 22 once or twice
   twice : (v : Verdict ℕ) (f : ℕ → Verdict (List ℕ)) (b : Bool) → (refusalAt 22 i unless b ⨾ then (refusalAt 22 i unless b ⨾ v) f) ≡ then (refusalAt 22 i unless b ⨾ v) f
   twice v f true = refl
@@ -212,6 +199,29 @@ module _ (t a : List ℕ) (i number : ℕ) (fields : List ℕ) (position : ℕ) 
       of-kinds valued (λ j. written) (readStateCall t a i) (only valued (λ j. written) e (ap (λ (v : Finding). v of i ⨾ written) f))
       ∙ ap (λ (n : ℕ). then (readStateCall t a i) (λ was. refusalAt 22 i unless eqb n (layoutNo (kindIn was)) ⨾ written)) no
       ∙ after-reading s
+
+  -- over what the code has in hand: the number's sort, the values, what is found of them, the state
+  module _ {s : Sort} (s-is : s ≡ sortNumbered number) where
+    pub no-kind : s ≡ Sort.Other → writeFieldsCall t a i number fields position ≡ stateRefused t a i number 22 255
+    unfolding writeFieldsCall stateRefused
+    no-kind e =
+        let not-it : (j : Kind) → eqb number (layoutNo j) ≡ false = λ j. not-its number j (sym s-is ∙ e) in
+        of-kinds valued (λ k. refused 22 i 255) (readStateCall t a i)
+        (λ j. ap (λ (b : Bool). refusalAt 22 i unless b ⨾ valued j) (not-it j) ∙ sym (ap (λ (b : Bool). refusalAt 22 i unless b ⨾ refused 22 i 255) (not-it j)))
+
+    module _ {k : Kind} (k-is : s ≡ Sort.Carried k) {vs : List ℕ} (vs-is : vs ≡ valuesIn k fields) {f : Finding} (f-is : f ≡ named (rowsOf k) vs) where
+      found : {g : Finding} → f ≡ g → named (rowsOf k) (valuesIn k fields) ≡ g
+      found e = sym (f-is ∙ ap (named (rowsOf k)) vs-is) ∙ e
+
+      pub no-value : {r : Refusal} → f ≡ Finding.Refused r → writeFieldsCall t a i number fields position ≡ stateRefused t a i number (r .code) (r .bit)
+      unfolding writeFieldsCall stateRefused
+      no-value {r} e =
+          of-kinds valued (λ k. refused (r .code) i (r .bit)) (readStateCall t a i)
+          (only valued (λ k. refused (r .code) i (r .bit)) (sym s-is ∙ k-is) (ap (λ (v : Finding). v of i ⨾ writeStateCall t a i (elementOf k (valuesIn k fields)) position) (found e)))
+
+      pub state-writes : f ≡ Finding.Accepted → {e : Element} → e ≡ elementOf k vs → writeStateCall t a i e position ≡ writeFieldsCall t a i number fields position
+      state-writes g e-is =
+          ap (λ (e : Element). writeStateCall t a i e position) (e-is ∙ ap (elementOf k) vs-is) ∙ sym (writes (sym s-is ∙ k-is) (found g))
 
 -- ---- what is settled
 

@@ -60,7 +60,7 @@ pub record Showing (first count : ℕ) (vs fields : List ℕ) (n k : ℕ) : Type
 pub showing : (first count : ℕ) (vs : List ℕ) → Showing first count vs (replicate 32 0) 0 0
 showing first count vs = record { bound = omega arith; below = omega arith; size = refl; so-far = refl }
 
-module _ {first count : ℕ} {vs fields : List ℕ} {n k : ℕ} (s : Showing first count vs fields n k) (h : k < count) (long : k < length vs) where
+module _ {first count : ℕ} {vs fields : List ℕ} {n k : ℕ} (s : Showing first count vs fields n k) (h : k < count) (few : count ≤ 24) (full : length vs ≡ 24) where
   xs : List ℕ
   xs = shown (rowsFrom first k) vs
 
@@ -68,10 +68,10 @@ module _ {first count : ℕ} {vs fields : List ℕ} {n k : ℕ} (s : Showing fir
   unfolding xs
   next-shown b e =
       ap (λ (j : ℕ). shown (rowsFrom first j) vs) (add-one k)
-      ∙ shown-snoc k first vs long
+      ∙ shown-snoc k first vs (omega arith)
       ∙ ap (λ (b : Bool). cond b xs (xs ++ (getD vs k 0 ∷ []))) e
 
-  pub skips : rowAt (first + k) .top ≡ 0 → Showing first count vs fields n (k + 1)
+  skips : rowAt (first + k) .top ≡ 0 → Showing first count vs fields n (k + 1)
   unfolding xs
   skips z =
       let e = next-shown true (eq-eqb (rowAt (first + k) .top) 0 z) in
@@ -82,9 +82,9 @@ module _ {first count : ℕ} {vs fields : List ℕ} {n k : ℕ} (s : Showing fir
         so-far = s .so-far ∙ ap (filled 32) (sym e);
       }
 
-  pub shows : (rowAt (first + k) .top ≡ 0 → ⊥) → count ≤ 24 → Showing first count vs (set fields n (getD vs k 0)) (n + 1) (k + 1)
+  shows : (rowAt (first + k) .top ≡ 0 → ⊥) → Showing first count vs (set fields n (getD vs k 0)) (n + 1) (k + 1)
   unfolding xs
-  shows z few =
+  shows z =
       let x = getD vs k 0 in
       let e = next-shown false (ne-eqb (rowAt (first + k) .top) 0 z) in
       record {
@@ -98,10 +98,10 @@ module _ {first count : ℕ} {vs fields : List ℕ} {n k : ℕ} (s : Showing fir
       }
 
   -- a row with a field or without
-  pub shows-on : {P Q : Type 0} → (P → rowAt (first + k) .top ≡ 0 → ⊥) → (Q → rowAt (first + k) .top ≡ 0) → count ≤ 24 → {fields′ : List ℕ} {n′ : ℕ}
+  pub shows-on : {top : ℕ} → top ≡ rowAt (first + k) .top → {P Q : Type 0} → (P → top ≡ 0 → ⊥) → (Q → top ≡ 0) → {fields′ : List ℕ} {n′ : ℕ}
       → (P × (fields′ ≡ set fields n (getD vs k 0)) × (n′ ≡ n + 1)) ⊎ (Q × (fields′ ≡ fields) × (n′ ≡ n)) → Showing first count vs fields′ n′ (k + 1)
-  shows-on p q few (inl (x, e, f)) = rw (e, f) (shows (p x) few)
-  shows-on p q few (inr (x, e, f)) = rw (e, f) (skips (q x))
+  shows-on t p q (inl (x, e, f)) = rw (e, f) (shows (λ z. p x (t ∙ z)))
+  shows-on t p q (inr (x, e, f)) = rw (e, f) (skips (sym t ∙ q x))
 
 pub shown-all : {first count : ℕ} {vs fields : List ℕ} {n k : ℕ} → Showing first count vs fields n k → count ≤ k
     → _≡_ {A = Shown} (record { count = n; fields = fields }) (shownIn (rowsFrom first count) vs)
@@ -211,7 +211,7 @@ module _ {first count : ℕ} {fs values : List ℕ} {n k : ℕ} (s : Taking firs
       ∙ used-snoc k first
       ∙ ap₂ (λ (b : Bool) (j : ℕ). cond b j (suc j)) e (sym (s .size))
 
-  pub passes : rowAt (first + k) .top ≡ 0 → Taking first count fs values n (k + 1)
+  passes : rowAt (first + k) .top ≡ 0 → Taking first count fs values n (k + 1)
   unfolding ys
   passes z =
       let e = eq-eqb (rowAt (first + k) .top) 0 z in
@@ -222,7 +222,7 @@ module _ {first count : ℕ} {fs values : List ℕ} {n k : ℕ} (s : Taking firs
         so-far = s .so-far ∙ pad-zero ys (omega (arith, spread-length k first fs)) ∙ ap padded (sym (next-spread true e));
       }
 
-  pub takes : (rowAt (first + k) .top ≡ 0 → ⊥) → Taking first count fs (set values k (getD fs n 0)) (n + 1) (k + 1)
+  takes : (rowAt (first + k) .top ≡ 0 → ⊥) → Taking first count fs (set values k (getD fs n 0)) (n + 1) (k + 1)
   unfolding ys
   takes z =
       let x = getD fs n 0 in
@@ -237,10 +237,11 @@ module _ {first count : ℕ} {fs values : List ℕ} {n k : ℕ} (s : Taking firs
             ∙ ap padded (sym (next-spread false e));
       }
 
-  pub takes-on : {P Q : Type 0} → (P → rowAt (first + k) .top ≡ 0 → ⊥) → (Q → rowAt (first + k) .top ≡ 0) → {values′ : List ℕ} {n′ : ℕ}
+  -- a row with a field or without
+  pub takes-on : {top : ℕ} → top ≡ rowAt (first + k) .top → {P Q : Type 0} → (P → top ≡ 0 → ⊥) → (Q → top ≡ 0) → {values′ : List ℕ} {n′ : ℕ}
       → (P × (values′ ≡ set values k (getD fs n 0)) × (n′ ≡ n + 1)) ⊎ (Q × (values′ ≡ values) × (n′ ≡ n)) → Taking first count fs values′ n′ (k + 1)
-  takes-on p q (inl (x, e, f)) = rw (e, f) (takes (p x))
-  takes-on p q (inr (x, e, f)) = rw (e, f) (passes (q x))
+  takes-on t p q (inl (x, e, f)) = rw (e, f) (takes (λ z. p x (t ∙ z)))
+  takes-on t p q (inr (x, e, f)) = rw (e, f) (passes (sym t ∙ q x))
 
 pub taken-all : {first count : ℕ} {fs values : List ℕ} {n k : ℕ} → Taking first count fs values n k → count ≤ k → values ≡ padded (spread (rowsFrom first count) fs)
 taken-all {first} {count} {fs} {values} {n} {k} s h =
@@ -259,7 +260,7 @@ checking first count vs =
     let e′ : count - 0 ≡ count = omega arith in
     record { bound = omega arith; to-come = ap₂ (λ (i n : ℕ). named (rowsFrom i n) vs) (sym e) (sym e′) }
 
-module _ {first count : ℕ} {vs : List ℕ} {k : ℕ} (s : Checking first count vs k) (h : k < count) (long : k < length vs) where
+module _ {first count : ℕ} {vs : List ℕ} {k : ℕ} (s : Checking first count vs k) (h : k < count) (few : count ≤ 24) (full : length vs ≡ 24) {top : ℕ} (top-is : top ≡ rowAt (first + k) .top) where
   rest : Finding
   rest = named (rowsFrom (first + (k + 1)) (count - (k + 1))) (drop (k + 1) vs)
 
@@ -267,20 +268,22 @@ module _ {first count : ℕ} {vs : List ℕ} {k : ℕ} (s : Checking first count
   unfolding rest
   next-named =
       s .to-come
-      ∙ ap₂ named (rows-next first count k h) (drop-cons vs k 0 long ∙ ap (λ (j : ℕ). getD vs k 0 ∷ drop j vs) (sym (add-one k)))
+      ∙ ap₂ named (rows-next first count k h) (drop-cons vs k 0 (omega arith) ∙ ap (λ (j : ℕ). getD vs k 0 ∷ drop j vs) (sym (add-one k)))
 
-  pub goes-on : getD vs k 0 ≤ rowAt (first + k) .top → Checking first count vs (k + 1)
+  pub goes-on : getD vs k 0 ≤ top → Checking first count vs (k + 1)
   unfolding rest
   goes-on l =
       record {
         bound = omega arith;
-        to-come = next-named ∙ ap (λ (b : Bool). cond b rest (Finding.Refused (codeAt 11 (rowAt (first + k) .low)))) (le-leb (getD vs k 0) (rowAt (first + k) .top) l);
+        to-come = next-named ∙ ap (λ (b : Bool). cond b rest (Finding.Refused (codeAt 11 (rowAt (first + k) .low)))) (le-leb (getD vs k 0) (rowAt (first + k) .top) (omega arith));
       }
 
-  pub stops : rowAt (first + k) .top < getD vs k 0 → named (rowsFrom first count) vs ≡ Finding.Refused (codeAt 11 (rowAt (first + k) .low))
-  stops l = next-named ∙ ap (λ (b : Bool). cond b rest (Finding.Refused (codeAt 11 (rowAt (first + k) .low)))) (lt-leb (getD vs k 0) (rowAt (first + k) .top) l)
+  pub stops : top < getD vs k 0 → {bit : ℕ} → bit ≡ rowAt (first + k) .low → Finding.Refused (codeAt 11 bit) ≡ named (rowsFrom first count) vs
+  stops l bit-is =
+      ap (λ (bit : ℕ). Finding.Refused (codeAt 11 bit)) bit-is
+      ∙ sym (next-named ∙ ap (λ (b : Bool). cond b rest (Finding.Refused (codeAt 11 (rowAt (first + k) .low)))) (lt-leb (getD vs k 0) (rowAt (first + k) .top) (omega arith)))
 
-pub checked : {first count : ℕ} {vs : List ℕ} {k : ℕ} → Checking first count vs k → count ≤ k → named (rowsFrom first count) vs ≡ Finding.Accepted
+pub checked : {first count : ℕ} {vs : List ℕ} {k : ℕ} → Checking first count vs k → count ≤ k → Finding.Accepted ≡ named (rowsFrom first count) vs
 checked {first} {count} {vs} {k} s h =
     let z : count - k ≡ 0 = omega arith in
-    s .to-come ∙ ap (λ (n : ℕ). named (rowsFrom (first + k) n) (drop k vs)) z
+    sym (s .to-come ∙ ap (λ (n : ℕ). named (rowsFrom (first + k) n) (drop k vs)) z)

@@ -1,5 +1,4 @@
 -- Writing a state that is handed in as numbers, over raw bytes.
--- Assumes nothing.
 use Prim.Native.Nat.{ℕ}
 use mathlib.Core.List.{List}
 use lib.Dec.{eqb}
@@ -12,18 +11,18 @@ use Rattle.fields.specs.Fields.{valuesIn, named}
 
 -- what comes before a state's values: table, image and 13 as in reading, then 22 where the object's kind has not the number
 abbrev pub ofKind : List ℕ → List ℕ → ℕ → ℕ → (Kind → Verdict (List ℕ)) → Verdict (List ℕ)
-ofKind t a i number next =
-    then (readStateCall t a i) λ was.
+ofKind T A i number next =
+    then (readStateCall T A i) λ was.
     refusalAt 22 i unless eqb number (layoutNo (kindIn was)) ⨾
     next (kindIn was)
 
 -- 11 of a value that has no named case; then as the state is written
 unfoldable pub writeFieldsCall : List ℕ → List ℕ → ℕ → ℕ → List ℕ → ℕ → Verdict (List ℕ)
-writeFieldsCall t a i number fields position =
-    ofKind t a i number λ k.
+writeFieldsCall T A i number fields position =
+    ofKind T A i number λ k.
     named (rowsOf k) (valuesIn k fields) of i ⨾
-    writeStateCall t a i (elementOf k (valuesIn k fields)) position
+    writeStateCall T A i (elementOf k (valuesIn k fields)) position
 
--- a state of which something is refused
+-- a state handed in that is refused with a code and a bit, once table, image, 13 and 22 are passed
 unfoldable pub stateRefused : List ℕ → List ℕ → ℕ → ℕ → ℕ → ℕ → Verdict (List ℕ)
-stateRefused t a i number code bit = ofKind t a i number λ k. refused code i bit
+stateRefused T A i number code bit = ofKind T A i number λ k. refused code i bit

@@ -1,5 +1,4 @@
 -- A state's fields as numbers: the values that are not reserved, from bit 0 up, in the first of 32 places, zeros behind them.
--- Assumes nothing.
 use Prim.Native.Nat.{ℕ}
 use mathlib.Core.Bool.{cond}
 use mathlib.Core.List.{List, [], _∷_}

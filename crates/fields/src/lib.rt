@@ -13,7 +13,6 @@ use rows::Finding;
 use tables::accepted;
 use tables::refused_at;
 use tables::refused_bit;
-use walk::Shown;
 use walk::check_rows;
 use walk::show_rows;
 use walk::take_rows;

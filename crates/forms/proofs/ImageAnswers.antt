@@ -43,15 +43,16 @@ module _ (x y : ℕ) (ns b : List ℕ) where
       not-under e = told-refused _ (chain ∙ rw (whole, version, e)) refl
 
       module _ (under : isUnder x y b ≡ true) where
-        pub other-size : (length b ≡ 11 + widths (kindsOf ns) → ⊥) → numbers 8 65535 255 0 ≡ told (readImage (planAs x y ns) b)
-        other-size h =
-            let long : 11 ≤ length b = whole-is 7 b whole .long in
-            let n : (length (drop 7 b) ≡ 4 + widths (kindsOf ns) → ⊥) = λ e. h (omega (arith, length-drop 7 b)) in
-            told-refused _ (chain ∙ rw (whole, version, under, ne-eqb (length (drop 7 b)) (4 + widths (kindsOf ns)) n)) refl
+        module _ (w : ℕ) (w-is : w ≡ widths (kindsOf ns)) where
+          pub other-size : (length b ≡ 11 + w → ⊥) → numbers 8 65535 255 0 ≡ told (readImage (planAs x y ns) b)
+          other-size h =
+              let long : 11 ≤ length b = whole-is 7 b whole .long in
+              let n : (length (drop 7 b) ≡ 4 + widths (kindsOf ns) → ⊥) = λ e. h (omega (arith, length-drop 7 b)) in
+              told-refused _ (chain ∙ rw (whole, version, under, ne-eqb (length (drop 7 b)) (4 + widths (kindsOf ns)) n)) refl
 
-        pub by-words : length b ≡ 11 + widths (kindsOf ns) → told (readWords 0 (kindsOf ns) (take (length b - 11) (drop 11 b))) ≡ told (readImage (planAs x y ns) b)
-        by-words h =
-            let e : length (drop 7 b) ≡ 4 + widths (kindsOf ns) = length-drop 7 b ∙ omega arith in
-            ap (λ (c : List ℕ). told (readWords 0 (kindsOf ns) c)) (to-end 11 b)
-            ∙ sym (ap told (chain ∙ rw (whole, version, under, eq-eqb (length (drop 7 b)) (4 + widths (kindsOf ns)) e))
-            ∙ told-then (readWords 0 (kindsOf ns) (drop 4 (drop 7 b))) (imageIn b) ∙ ap (λ (c : List ℕ). told (readWords 0 (kindsOf ns) c)) (drop-drop 4 7 b))
+          pub by-words : length b ≡ 11 + w → told (readWords 0 (kindsOf ns) (take (length b - 11) (drop 11 b))) ≡ told (readImage (planAs x y ns) b)
+          by-words h =
+              let e : length (drop 7 b) ≡ 4 + widths (kindsOf ns) = length-drop 7 b ∙ omega arith in
+              ap (λ (c : List ℕ). told (readWords 0 (kindsOf ns) c)) (to-end 11 b)
+              ∙ sym (ap told (chain ∙ rw (whole, version, under, eq-eqb (length (drop 7 b)) (4 + widths (kindsOf ns)) e))
+              ∙ told-then (readWords 0 (kindsOf ns) (drop 4 (drop 7 b))) (imageIn b) ∙ ap (λ (c : List ℕ). told (readWords 0 (kindsOf ns) c)) (drop-drop 4 7 b))

@@ -154,6 +154,16 @@ one-entry t low (suc n) b h = simp sub-one
 over : List Kind → ℕ → ℕ → Verdict (List Change)
 over t low m = refusal 8 unless eqb m 0 ⨾ done (replicate (length t - low) keep)
 
+module _ (ns : List ℕ) (low : ℕ) (b : List ℕ) (at : ℕ) {r : Passed} (r-is : r ≡ passed (at + 2) (entryVerdict ns low (drop at b))) {object next : ℕ} (p : r ≡ Passed.Entry object next) where
+  passed-entry : (e : Entry) × (entryVerdict ns low (drop at b) ≡ done e) × (object ≡ e .object) × (next ≡ at + 2 + widthOf (e .kind) + widthOf (e .kind))
+  passed-entry = was-passed (at + 2) (entryVerdict ns low (drop at b)) object next (sym p ∙ r-is)
+
+  pub number-inside : object < length ns
+  number-inside =
+      let q = passed-entry in
+      let k = was-checked (kindsOf ns) low (drop at b) (entryAt (kindsOf ns) (drop at b)) (q .1) in
+      omega (arith, k .1 .inside, length-kinds ns, q .2 ∙ ap (λ (e : Entry). e .object) (sym (k .0)))
+
 module _ {ns : List ℕ} {count : ℕ} {b : List ℕ} {n low at : ℕ} (l : Left ns count b n low at) where
   module _ (more : 0 < n) {r : Passed} (r-is : r ≡ passed (at + 2) (entryVerdict ns low (drop at b))) where
     pub stops : {a : Answer} → r ≡ Passed.Refused a → a ≡ told (readEntries (kindsOf ns) 0 count b)
@@ -161,26 +171,24 @@ module _ {ns : List ℕ} {count : ℕ} {b : List ℕ} {n low at : ℕ} (l : Left
         let q = was-refused (at + 2) (entryVerdict ns low (drop at b)) a (sym p ∙ r-is) in
         q .4 ∙ told-refused (readEntries (kindsOf ns) low n (drop at b)) (one-entry (kindsOf ns) low n (drop at b) more ∙ ap (λ (v : Verdict Entry). then v (after (kindsOf ns) low (n - 1))) (q .3)) refl ∙ sym (l .same)
 
-    pub goes-on : {object next : ℕ} → r ≡ Passed.Entry object next → (object < length ns) × Left ns count b (n - 1) (object + 1) next
+    pub goes-on : {object next : ℕ} → r ≡ Passed.Entry object next → Left ns count b (n - 1) (object + 1) next
     unfolding after
     goes-on {object} {next} p =
         let E : Entry = entryAt (kindsOf ns) (drop at b) in
-        let q = was-passed (at + 2) (entryVerdict ns low (drop at b)) object next (sym p ∙ r-is) in
+        let q = passed-entry ns low b at r-is p in
         let k = was-checked (kindsOf ns) low (drop at b) E (q .1) in
         let w : ℕ = widthOf (E .kind) in
         let o : object ≡ E .object = q .2 ∙ ap (λ (e : Entry). e .object) (sym (k .0)) in
         let x : next ≡ at + 2 + w + w = q .3 ∙ ap (λ (e : Entry). at + 2 + widthOf (e .kind) + widthOf (e .kind)) (sym (k .0)) in
         let d : E .rest ≡ drop next b =
         ap (λ (c : List ℕ). drop w (drop w c)) (drop-drop 2 at b) ∙ ap (drop w) (drop-drop w (at + 2) b) ∙ drop-drop w (at + 2 + w) b ∙ ap (λ (m : ℕ). drop m b) (sym x) in
-        let one : suc (E .object) ≡ object + 1 = omega arith in (
-          omega (arith, k .1 .inside, length-kinds ns),
-          record {
-            inside = omega (arith, k .1 .room, length-drop at b);
-            same = l .same ∙ ap told (one-entry (kindsOf ns) low n (drop at b) more ∙ ap (λ (v : Verdict Entry). then v (after (kindsOf ns) low (n - 1))) (q .1 ∙ ap done (sym (k .0))))
-                ∙ told-then (readEntries (kindsOf ns) (suc (E .object)) (n - 1) (E .rest)) (λ cs. replicate (E .object - low) keep ++ (swap (E .old) (E .new) ∷ cs))
-                ∙ ap₂ (λ (m : ℕ) (c : List ℕ). told (readEntries (kindsOf ns) m (n - 1) c)) one d;
-          },
-        )
+        let one : suc (E .object) ≡ object + 1 = omega arith in
+        record {
+          inside = omega (arith, k .1 .room, length-drop at b);
+          same = l .same ∙ ap told (one-entry (kindsOf ns) low n (drop at b) more ∙ ap (λ (v : Verdict Entry). then v (after (kindsOf ns) low (n - 1))) (q .1 ∙ ap done (sym (k .0))))
+              ∙ told-then (readEntries (kindsOf ns) (suc (E .object)) (n - 1) (E .rest)) (λ cs. replicate (E .object - low) keep ++ (swap (E .old) (E .new) ∷ cs))
+              ∙ ap₂ (λ (m : ℕ) (c : List ℕ). told (readEntries (kindsOf ns) m (n - 1) c)) one d;
+        }
 
   last : n ≤ 0 → told (readEntries (kindsOf ns) 0 count b) ≡ told (over (kindsOf ns) low (length b - at))
   unfolding over

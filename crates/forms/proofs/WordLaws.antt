@@ -15,7 +15,6 @@ use Rattle.octets.specs.Octets.{number}
 use Rattle.history.specs.Verdict.{Verdict, done, then, told, numbers}
 use Rattle.history.specs.Table.{kindAt}
 use Rattle.history.specs.Image.{element, _of_⨾_, widths, readWords}
-use Rattle.history.proofs.ElementLaws.{width-few}
 use Rattle.tables.specs.Outlines.{kindsOf}
 use Rattle.forms.proofs.Found.{is-bad, is-good}
 use Rattle.tables.proofs.AnswerLaws.{told-refused, told-done, told-then}
@@ -36,10 +35,10 @@ ended {ns} {b} {i} {at} l h =
 
 -- over what the code has in hand: the kind, its width, the word, what is found
 module _ {ns b : List ℕ} {i at : ℕ} (l : Left ns b i at) (h : i < length ns) {kind : Kind} (kind-is : kind ≡ kindAt (kindsOf ns) i) {w : ℕ} (w-is : w ≡ widthOf kind) where
-  pub has-room : (at + w ≤ length b) × (w ≤ 4)
+  pub has-room : at + w ≤ length b
   has-room =
       let e : w ≡ widthOf (kindAt (kindsOf ns) i) = w-is ∙ ap widthOf kind-is in
-      (omega (arith, l .room, ap widths (kinds-next ns i h)), omega (arith, width-few kind))
+      omega (arith, l .room, ap widths (kinds-next ns i h))
 
   module _ {word : ℕ} (word-is : word ≡ number (take w (drop at b))) {found : Finding} (found-is : found ≡ elementCheck kind word) where
     -- the rest, after this object's element

@@ -1,5 +1,4 @@
 -- What checking an entry hands on. A device of the code: the meaning is `history`'s.
--- Assumes nothing.
 use Prim.Native.Nat.{ℕ, _+_}
 use Rattle.kinds.specs.Kinds.{widthOf}
 use Rattle.history.specs.Verdict.{Verdict, refused, done, numbers}

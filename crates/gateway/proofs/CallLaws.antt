@@ -1,12 +1,13 @@
--- What only C asks for, at each place where its answer is made; and that a label's place and a listing's length fit 32 bits.
+-- What only C asks for, at each place where its answer is made; that a label's place and a listing's length fit 32 bits; and the numbers
+-- that C is given.
 -- Assumes nothing.
-use Prim.Native.Nat.{ℕ, zero, suc, _+_, _-_, _*_, _≤_, _<_}
+use Prim.Native.Nat.{ℕ, zero, suc, _-_, _*_, _≤_, _<_}
 use native.Mathlib.Omega.{arith}
 use mathlib.Core.Path.{_≡_, refl, sym, ap, ap₂, _∙_}
-use mathlib.Core.Bool.{Bool, true, false, cond}
-use mathlib.Core.List.{List, [], _∷_, _++_}
+use mathlib.Core.Bool.{Bool, true, false, cond, not}
+use mathlib.Core.List.{List, [], _∷_}
 use lib.Dec.{eqb, leb, ltb}
-use lib.ListN.{length, take, drop, getD, length-append}
+use lib.ListN.{length, take, getD, replicate, length-append, length-take, length-replicate}
 use lib.Seq.{take-append-seam}
 use borrow.Author.Tests.{eq-eqb, ne-eqb, le-leb, ltb-true}
 use Rattle.rows.specs.declared.Finding.{Finding}
@@ -16,7 +17,8 @@ use Rattle.kinds.specs.declared.Kind.{Kind}
 use Rattle.octets.specs.Octets.{number}
 use Rattle.elements.specs.Elements.{carried, kindOf, elementCheck}
 use Rattle.history.specs.declared.Answer.{Answer}
-use Rattle.history.specs.Verdict.{Verdict, refused, done, numbers, told}
+use Rattle.history.specs.declared.Standing.{Standing}
+use Rattle.history.specs.Verdict.{Verdict, refused, done, numbers, told, settled}
 use Rattle.history.specs.Table.{Object, Table, objectBytes, objectsBytes, labelLimit, readTable}
 use Rattle.history.specs.Image.{element, _of_⨾_}
 use Rattle.history.specs.Calls.{Place, labelPlace, labelCall}
@@ -25,10 +27,15 @@ use Rattle.history.proofs.OutputLaws.{Leaves, written-leaves}
 use Rattle.history.proofs.VerdictLaws.{held, used}
 use Rattle.history.proofs.TableLaws.{table-is}
 use Rattle.tables.specs.LabelPlaces.{labelTold}
+use Rattle.tables.specs.declared.place.LabelAt.{LabelAt}
+use Rattle.tables.proofs.AnswerLaws.{yes, no}
+use Rattle.receiver.specs.declared.Taken.{Taken}
+use Rattle.receiver.specs.Receive.{answerOf, standingOf, takenOf}
 use Rattle.listing.specs.Listing.{listingOf}
 use Rattle.listing.specs.Output.{Listed, inFront, listed, ListedInto}
 use Rattle.listing.proofs.Fits.{listing-fits}
 use Rattle.gateway.specs.Calls.{elementCall}
+use Rattle.gateway.specs.Slots.{answerSlots, talliesOf, standingIn}
 
 -- ---- a label stands within 65,536 bytes
 
@@ -47,7 +54,7 @@ place-few {t} h i m =
     let few = entries-few i (t .objects) (λ j l. omega (arith, h .each j l .few)) in
     (omega (arith, few, h .count), omega (arith, h .each i m .few))
 
-pub label-few : (b : List ℕ) (i : ℕ) → (labelTold (labelCall b i) .offset < 65536) × (labelTold (labelCall b i) .size < 65536)
+label-few : (b : List ℕ) (i : ℕ) → (labelTold (labelCall b i) .offset < 65536) × (labelTold (labelCall b i) .size < 65536)
 unfolding labelTold labelCall
 label-few b i = go (labelCall b i) refl
   where
@@ -60,35 +67,43 @@ label-few b i = go (labelCall b i) refl
         let p-is : labelPlace (u .0) i ≡ p = cc (v .1) in
         rw (← p-is) few
 
+-- of what the code has in hand
+module _ (b : List ℕ) (i : ℕ) {l : LabelAt} (is : l ≡ labelTold (labelCall b i)) where
+  pub offset-few : l .offset < 65536
+  offset-few = rw is (label-few b i .0)
+
+  pub size-few : l .size < 65536
+  size-few = rw is (label-few b i .1)
+
 -- ---- an element by itself
 
-module _ (ty : ℕ) (b : List ℕ) where
-  pub element-5 : carried 1 ty ≡ false → numbers 5 65535 255 0 ≡ told (elementCall ty b)
+module _ (ty : ℕ) (b : List ℕ) {t : Bool} (t-is : t ≡ carried 1 ty) where
+  pub element-5 : not t ≡ true → {a : Answer} → a ≡ numbers 5 65535 255 0 → a ≡ told (elementCall ty b)
   unfolding elementCall told
-  element-5 e = rw e
+  element-5 h q = q ∙ rw (no t-is h)
 
-  module _ (e : carried 1 ty ≡ true) {k : Kind} (is : k ≡ kindOf 1 ty) {w : ℕ} (wide : w ≡ widthOf k) where
-    pub element-8 : (length b ≡ w → ⊥) → numbers 8 65535 255 0 ≡ told (elementCall ty b)
+  module _ (h : not t ≡ false) {k : Kind} (is : k ≡ kindOf 1 ty) {w : ℕ} (wide : w ≡ widthOf k) where
+    pub element-8 : (length b ≡ w → ⊥) → {a : Answer} → a ≡ numbers 8 65535 255 0 → a ≡ told (elementCall ty b)
     unfolding elementCall told
-    element-8 n =
+    element-8 n q =
         let f : eqb (length b) (widthOf (kindOf 1 ty)) ≡ false = ne-eqb _ _ (λ q. n (q ∙ sym (wide ∙ ap widthOf is))) in
-        rw (e, f)
+        q ∙ rw (yes t-is h, f)
 
-    module _ (long : length b ≡ w) {n : ℕ} (number-is : n ≡ number b) where
-      found : (v : Finding) → elementCheck k n ≡ v → told (elementCall ty b) ≡ told (v of 65535 ⨾ done (number b))
+    module _ (long : length b ≡ w) {n : ℕ} (number-is : n ≡ number b) {found : Finding} (found-is : found ≡ elementCheck k n) where
+      by-finding : (v : Finding) → found ≡ v → told (v of 65535 ⨾ done (number b)) ≡ told (elementCall ty b)
       unfolding elementCall element
-      found v q =
+      by-finding v q =
           let f : eqb (length b) (widthOf (kindOf 1 ty)) ≡ true = eq-eqb _ _ (long ∙ wide ∙ ap widthOf is) in
-          let g : elementCheck (kindOf 1 ty) (number b) ≡ v = ap₂ elementCheck (sym is) (sym number-is) ∙ q in
-          rw (e, f, g)
+          let g : elementCheck (kindOf 1 ty) (number b) ≡ v = ap₂ elementCheck (sym is) (sym number-is) ∙ sym found-is ∙ q in
+          sym (rw (yes t-is h, f, g))
 
-      pub element-refused : (r : Refusal) → elementCheck k n ≡ Finding.Refused r → numbers (r .code) 65535 (r .bit) 0 ≡ told (elementCall ty b)
+      pub element-refused : {r : Refusal} → found ≡ Finding.Refused r → {a : Answer} → a ≡ numbers (r .code) 65535 (r .bit) 0 → a ≡ told (elementCall ty b)
       unfolding told
-      element-refused r q = sym (found (Finding.Refused r) q)
+      element-refused {r} q e = e ∙ by-finding (Finding.Refused r) q
 
-      pub element-good : elementCheck k n ≡ Finding.Accepted → numbers 0 65535 255 0 ≡ told (elementCall ty b)
+      pub element-good : found ≡ Finding.Accepted → {a : Answer} → a ≡ numbers 0 65535 255 0 → a ≡ told (elementCall ty b)
       unfolding told
-      element-good q = sym (found Finding.Accepted q)
+      element-good q e = e ∙ by-finding Finding.Accepted q
 
 -- ---- the listing
 
@@ -100,6 +115,9 @@ module _ {input out₀ out : List ℕ} {r : ℕ} (l : ListedInto input out₀ ou
       at : (b : Bool) → r ≡ cond b (inFront (listingOf input) out₀) (record { size = 0; output = out₀ }) .size → r ≤ 65536
       at true e = omega (arith, listing-fits input)
       at false e = omega arith
+
+  pub front-few : length (take (r - 0) out) ≤ 65536
+  front-few = omega (arith, listed-few, length-take (r - 0) out)
 
   module _ (room : 65536 ≤ length out₀) where
     abbrev told-text : Listed → Type 0
@@ -114,7 +132,27 @@ module _ {input out₀ out : List ℕ} {r : ℕ} (l : ListedInto input out₀ ou
     pub listed-room : {a : Answer} → a ≡ numbers 0 65535 255 r → Leaves (done (listingOf input)) out₀ a out
     listed-room e = written-leaves (listingOf input) out₀ refl (omega (arith, listing-fits input)) (e ∙ ap (numbers 0 65535 255) (in-front .0)) (in-front .1)
 
-    pub listed-front : take (r - 0) out ≡ listingOf input
-    listed-front =
+    front : take (r - 0) out ≡ listingOf input
+    front =
         let all : r - 0 ≡ length (listingOf input) = omega (arith, in-front .0) in
         ap₂ take all (in-front .1) ∙ take-append-seam (listingOf input) _
+
+-- by way of a buffer of zeros
+pub listed-front : {input out : List ℕ} {r : ℕ} → ListedInto input (replicate 65536 0) out r → done (take (r - 0) out) ≡ done (listingOf input)
+listed-front l = ap done (front l (omega (arith, length-replicate {A = ℕ} 65536 0)))
+
+-- ---- the numbers that C is given
+
+pub answered : {l : List ℕ} {a b : Answer} → l ≡ answerSlots a → a ≡ b → l ≡ answerSlots b
+answered e f = e ∙ ap answerSlots f
+
+-- of a call that writes: its answer's, and its output
+pub wrote : (v : Verdict (List ℕ)) (out : List ℕ) {a : Answer} {l m : List ℕ} → l ≡ answerSlots a → Leaves v out a m → (l ≡ answerSlots (settled v out .answer)) × (m ≡ settled v out .output)
+wrote v out e q = (answered e (q .0), q .1)
+
+module _ (T A L out : List ℕ) (s : Standing) {t : Taken} (t-is : t ≡ takenOf T A L out s) where
+  pub received-answer : {l : List ℕ} → l ≡ answerSlots (t .answer) → l ≡ answerSlots (answerOf T A L out)
+  received-answer e = answered e (ap (λ (t : Taken). t .answer) t-is)
+
+  pub received-tallies : {l : List ℕ} → l ≡ talliesOf (t .standing) → (tallies : List ℕ) → s ≡ standingIn tallies → l ≡ talliesOf (standingOf T A L out (standingIn tallies))
+  received-tallies e tallies s-is = e ∙ ap (λ (t : Taken). talliesOf (t .standing)) t-is ∙ ap (λ (s : Standing). talliesOf (standingOf T A L out s)) s-is

@@ -1,5 +1,4 @@
 -- The call that only C needs, over raw bytes.
--- Assumes nothing.
 use Prim.Native.Nat.{ℕ}
 use mathlib.Core.List.{List}
 use lib.Dec.{eqb}

@@ -1,5 +1,4 @@
 -- Eight numbers of a call: code, object, bit, length, then what the call adds, then zeros; and the four tallies of a standing.
--- Assumes nothing.
 use Prim.Native.Nat.{ℕ}
 use mathlib.Core.List.{List, [], _∷_}
 use lib.ListN.{getD}

@@ -232,12 +232,12 @@ pub record Delivered (v : Verdict (List ℕ)) (out : List ℕ) (r : Answer) (m :
 
 pub delivered : {v : Verdict (List ℕ)} {out : List ℕ} {r : Answer} {m : List ℕ} → Coded v → Ran v out r m → r .code ≡ 0 → Delivered v out r m
 delivered {v} {out} {r} {m} c o z =
-    let q = zero-succeeds v out c (ap (λ (a : Answer). a .code) (sym (o .answer)) ∙ z) in
+    let q = zero-succeeds v out c (ap (λ (a : Answer). a .code) (sym (o .leaves .0)) ∙ z) in
     let s = succeeds out (q .1) (q .2) in
-    let long : r .length ≡ length (q .0) = ap (λ (a : Answer). a .length) (o .answer ∙ s .answer) in
+    let long : r .length ≡ length (q .0) = ap (λ (a : Answer). a .length) (o .leaves .0 ∙ s .answer) in
     record {
-      bytes = q .1 ∙ ap done (sym (ap₂ take long (o .output) ∙ s .front));
-      rest = ap₂ drop long (o .output) ∙ s .rest ∙ ap (λ (n : ℕ). drop n out) (sym long);
+      bytes = q .1 ∙ ap done (sym (ap₂ take long (o .leaves .1) ∙ s .front));
+      rest = ap₂ drop long (o .leaves .1) ∙ s .rest ∙ ap (λ (n : ℕ). drop n out) (sym long);
     }
 
 -- of any other

@@ -2,22 +2,24 @@
 -- Assumes nothing.
 use Prim.Native.Nat.{ℕ, _+_, _^_, _≤_, _<_}
 use mathlib.Core.Path.{_≡_, sym, ap, _∙_}
-use mathlib.Core.List.{List, map}
-use mathlib.Core.Logic.{_↔_}
+use mathlib.Core.List.{List, map, zipWith}
+use mathlib.Core.Logic.{_↔_, Iff·trans}
 use lib.ListN.{length, getD}
+use Rattle.kinds.specs.Kinds.{kindIn}
 use Rattle.elements.specs.Elements.{stateOf, wordOf}
+use Rattle.elements.proofs.DatLaws.{Stale}
 use Rattle.kinds.specs.declared.Element.{Element}
 use Rattle.octets.specs.Octets.{Bytes}
-use Rattle.history.specs.Verdict.{refused, done, then, settled}
-use Rattle.history.specs.Table.{Table, tableBytes, Plan}
+use Rattle.history.specs.Verdict.{refused, done, then, refusal, settled}
+use Rattle.history.specs.Table.{Table, tableBytes, Plan, kindAt}
 use Rattle.history.specs.Image.{Image, imageBytes}
 use Rattle.history.specs.declared.Change.the-variants.{Keep as keep}
 use Rattle.history.specs.Changes.{Changes, listBytes}
-use Rattle.history.specs.Operations.{fits, meets, zip, applied, join}
+use Rattle.history.specs.Operations.{fits, meets, applied, join}
 use Rattle.history.specs.Calls.{readPlan, tableCall, imageCall, listCall, differenceCall, applyUnder, applyCall, joinUnder, joinCall, turnCall, placed, readStateCall, writeStateCall}
 use Rattle.history.specs.Legal.{LegalTable, LegalImage, LegalList}
 use Rattle.history.proofs.VerdictLaws.{Lowest, passed-up}
-use Rattle.history.proofs.OperationLaws.{one-version, keeps-version, names-old, names-meeting}
+use Rattle.history.proofs.OperationLaws.{one-version, keeps-version, late-exactly as late, gap-exactly as gap, apart-exactly as apart, names-old, names-meeting}
 use Rattle.history.proofs.TableLaws.{table-form, plan-fair}
 use Rattle.history.proofs.ImageLaws.{image-form}
 use Rattle.history.proofs.ListLaws.{list-form}
@@ -25,7 +27,7 @@ use Rattle.history.proofs.CallLaws.{accepted-image, accepted-list, turn
 use Rattle.history.proofs.AcceptedLaws.{difference-under, apply-under, write-under, image-under, list-under, join-under, two-images, taken, two-lists, list-taken, written-in}
 use Rattle.history.proofs.SizeLaws.{join-short}
 use Rattle.history.proofs.OutputLaws.{Success, succeeds}
-use Rattle.history.proofs.StateLaws.{write-read, write-other, read-write, read-is, wrote, written-image, writtenBack, AllBelow, all-written-back, states-written, states-at}
+use Rattle.history.proofs.StateLaws.{write-current, write-stale, write-read, write-other, read-write, read-is, wrote, written-image, writtenBack, AllBelow, all-written-back, states-written, states-at}
 
 -- ---- the forms: accepted exactly where they are written of something legal, which they are then read as
 
@@ -146,25 +148,60 @@ pub difference-then-apply : (T A B out out′ : List ℕ) {L : List ℕ} → Byt
     → Success L out (settled (differenceCall T A B) out) × Success B out′ (settled (applyCall T A L) out′)
 difference-then-apply T A B out out′ ha hb e r r′ = (succeeds out e r, succeeds out′ (apply-of-difference T A B ha hb e) r′)
 
--- ---- what a refusal names
+-- ---- what is refused, and what a refusal names
+
+-- of accepted forms, what the operation refuses
+apply-refused : (T A L : List ℕ) {a : Image} {l : Changes} {code object bit : ℕ} → imageCall T A ≡ done a → listCall T L ≡ done l
+    → (applyCall T A L ≡ refused code object bit) ↔ (applied l a ≡ refused code object bit)
+unfolding imageCall listCall applyCall applyUnder
+apply-refused T A L {a} {l} ea el =
+    let t = image-under T A ea .reads in
+    ((λ e. passed-up (applied l a) _ (rw (t, rw t at ea, rw t at el) at e)), (λ e. rw (t, rw t at ea, rw t at el, e)))
+
+join-refused : (T L M : List ℕ) {l m : Changes} {code object bit : ℕ} → listCall T L ≡ done l → listCall T M ≡ done m
+    → (joinCall T L M ≡ refused code object bit) ↔ (join l m ≡ refused code object bit)
+unfolding listCall joinCall joinUnder
+join-refused T L M {l} {m} el em =
+    let t = list-under T L el .reads in
+    ((λ e. passed-up (join l m) _ (rw (t, rw t at el, rw t at em) at e)), (λ e. rw (t, rw t at el, rw t at em, e)))
+
+-- 16 exactly where the list starts below the image's position, 17 where above it
+pub late-exactly : (T A L : List ℕ) {a : Image} {l : Changes} → imageCall T A ≡ done a → listCall T L ≡ done l → (applyCall T A L ≡ refusal 16) ↔ (l .from < a .position)
+late-exactly T A L {a} {l} ea el = Iff·trans (apply-refused T A L ea el) (late l a)
+
+pub gap-exactly : (T A L : List ℕ) {a : Image} {l : Changes} → imageCall T A ≡ done a → listCall T L ≡ done l → (applyCall T A L ≡ refusal 17) ↔ (a .position < l .from)
+gap-exactly T A L {a} {l} ea el = Iff·trans (apply-refused T A L ea el) (gap l a)
+
+-- 19 exactly where the second doesn't start at the first's end
+pub apart-exactly : (T L M : List ℕ) {l m : Changes} → listCall T L ≡ done l → listCall T M ≡ done m → (joinCall T L M ≡ refusal 19) ↔ (l .to ≡ m .from → ⊥)
+apart-exactly T L M {l} {m} el em = Iff·trans (join-refused T L M el em) (apart l m)
 
 -- 18: the lowest object whose old element is not the image's
 pub names-lowest-old : (T A L : List ℕ) {a : Image} {l : Changes} {j bit : ℕ} → imageCall T A ≡ done a → listCall T L ≡ done l
     → applyCall T A L ≡ refused 18 j bit → Lowest fits keep 0 (l .each) (a .words) j × (bit ≡ 255)
-unfolding imageCall listCall applyCall applyUnder
-names-lowest-old T A L {a} {l} ea el e =
-    let t = image-under T A ea .reads in
-    names-old l a (passed-up (applied l a) _ (rw (t, rw t at ea, rw t at el) at e))
+names-lowest-old T A L {a} {l} ea el e = names-old l a (apply-refused T A L ea el .0 e)
 
 -- 20: the lowest object whose new element in the first is not its old one in the second
 pub names-lowest-meeting : (T L M : List ℕ) {l m : Changes} {j bit : ℕ} → listCall T L ≡ done l → listCall T M ≡ done m
     → joinCall T L M ≡ refused 20 j bit → Lowest meets keep keep (l .each) (m .each) j × (bit ≡ 255)
-unfolding listCall joinCall joinUnder
-names-lowest-meeting T L M {l} {m} el em e =
-    let t = list-under T L el .reads in
-    names-meeting l m (passed-up (join l m) _ (rw (t, rw t at el, rw t at em) at e))
+names-lowest-meeting T L M {l} {m} el em e = names-meeting l m (join-refused T L M el em .0 e)
 
 -- ---- demand 2, on images
+
+-- a state of the object's type is written unless DAT is 0 and another bit 1 ..
+pub current-written : (T A : List ℕ) (i : ℕ) (e : Element) (position : ℕ) {p : Plan} {a : Image} → Bytes A → readPlan T ≡ done p → imageCall T A ≡ done a
+    → i < length (p .kinds) → kindIn e ≡ kindAt (p .kinds) i → (Stale (kindIn e) (wordOf e) → ⊥)
+    → writeStateCall T A i e position ≡ done (imageBytes p (placed a i (wordOf e) position))
+current-written T A i e position {p} {a} ha t ea l s n =
+    let x = accepted-image T t A ha ea in
+    let same : x .image ≡ a = cc (image-accepted T t x) in
+    rw (← same) (write-current T t x i e position l s n)
+
+-- .. and then refused with 12
+pub stale-refused : (T A : List ℕ) (i : ℕ) (e : Element) (position : ℕ) {p : Plan} {a : Image} → Bytes A → readPlan T ≡ done p → imageCall T A ≡ done a
+    → i < length (p .kinds) → kindIn e ≡ kindAt (p .kinds) i → Stale (kindIn e) (wordOf e)
+    → writeStateCall T A i e position ≡ refused 12 i 0
+stale-refused T A i e position ha t ea l s h = write-stale T t (accepted-image T t A ha ea) i e position l s h
 
 -- a state written is read
 pub write-then-read : (T A : List ℕ) (i : ℕ) (e : Element) (position : ℕ) {B : List ℕ} → Bytes A → position < 2 ^ 32
@@ -199,8 +236,8 @@ all-read-then-written T A is {p} {a} ha t ea h =
 
 -- the states of all objects, as the calls read them, written as an image give the image
 pub image-of-states : (T A : List ℕ) {p : Plan} {a : Image} → Bytes A → readPlan T ≡ done p → imageCall T A ≡ done a
-    → (imageBytes p (record { version = a .version; position = a .position; words = map wordOf (zip stateOf (p .kinds) (a .words)) }) ≡ A)
-    × ((i : ℕ) (d : Element) → i < length (p .kinds) → readStateCall T A i ≡ done (getD (zip stateOf (p .kinds) (a .words)) i d))
+    → (imageBytes p (record { version = a .version; position = a .position; words = map wordOf (zipWith stateOf (p .kinds) (a .words)) }) ≡ A)
+    × ((i : ℕ) (d : Element) → i < length (p .kinds) → readStateCall T A i ≡ done (getD (zipWith stateOf (p .kinds) (a .words)) i d))
 image-of-states T A {p} {a} ha t ea =
     let x = accepted-image T t A ha ea in
     let same : x .image ≡ a = cc (image-accepted T t x) in

@@ -1,13 +1,11 @@
 -- What is found of an element and of a state: the one place that looks into the layouts' crates.
 -- Assumes nothing.
-use Prim.Native.Nat.{ℕ, zero, suc, _+_, _*_, _%_, _^_, _≤_, _<_}
+use Prim.Native.Nat.{ℕ, zero, suc, _+_, _*_, _^_, _≤_, _<_}
 use native.Mathlib.Omega.{arith}
 use native.Mathlib.Nat.{pow-suc}
 use mathlib.Core.Path.{_≡_, refl, sym, ap, _∙_}
-use mathlib.Core.Bool.{Bool, true, false}
-use mathlib.Core.List.{List, [], _∷_}
-use mathlib.Core.Logic.{_⊎_, inl, inr}
-use lib.Dec.{eqb, leb, ltb}
+use mathlib.Core.Bool.{true}
+use lib.Dec.{ltb}
 use lib.Pow.{pow-add, pow-pos}
 use borrow.Author.Tests.{eq-eqb, lt-ltb, ltb-true, eqb-true}
 use Rattle.rows.specs.Fields.{codeAt}
@@ -18,7 +16,8 @@ use Rattle.kinds.specs.declared.Kind.{Kind}
 use Rattle.kinds.specs.declared.Element.{Element}
 use Rattle.elements.proofs.Covering.{cover, kind-same}
 use Rattle.elements.proofs.Laws.{word-fits, state-kind as own-kind, state-word-state, word-state-word}
-use Rattle.elements.proofs.Findings.{Found, element-found, zero-found, state-found as own-found}
+use Rattle.elements.proofs.DatLaws.{Stale, state-accepted, state-stale}
+use Rattle.elements.proofs.Findings.{Found, element-found, zero-found}
 use Rattle.history.specs.Verdict.{Verdict, done}
 use Rattle.history.specs.Image.{element, _of_⨾_}
 use Rattle.history.specs.Legal.{isAccepted, admits}
@@ -90,10 +89,15 @@ is-same-kind j k e = eq-eqb (layoutNo j) (layoutNo k) (ap layoutNo e)
 
 -- ---- codes
 
--- a state's number is accepted, or without data with another bit (12): no other code is left
-pub state-found : (k : Kind) (e : Element) → kindIn e ≡ k → (element k (wordOf e) ≡ Finding.Accepted) ⊎ (element k (wordOf e) ≡ Finding.Refused (codeAt 12 0))
-unfolding element
-state-found k e s = rw (← s) (own-found e)
+-- a state is accepted unless bit 0, DAT, is 0 and another bit is 1, and then it is 12: no other code is left
+module _ (k : Kind) (e : Element) (s : kindIn e ≡ k) where
+  pub state-current : (Stale (kindIn e) (wordOf e) → ⊥) → element k (wordOf e) ≡ Finding.Accepted
+  unfolding element
+  state-current n = rw (← s) (state-accepted e n)
+
+  pub state-twelve : Stale (kindIn e) (wordOf e) → element k (wordOf e) ≡ Finding.Refused (codeAt 12 0)
+  unfolding element
+  state-twelve h = rw (← s) (state-stale e h)
 
 -- a refused element's code is 10, 11 or 12
 pub code-found : (k : Kind) (w : ℕ) → Found (element k w)

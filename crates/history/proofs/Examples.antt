@@ -2,7 +2,7 @@
 -- Assumes nothing.
 use Prim.Native.Nat.{ℕ}
 use mathlib.Core.Path.{_≡_, refl}
-use mathlib.Core.List.{List, [], _∷_, _++_}
+use mathlib.Core.List.{List, [], _∷_, _++_, zipWith}
 use mathlib.Core.Bool.{true, false}
 use lib.ListN.{take, set, replicate}
 use Rattle.rows.specs.Table.{table, layouts}
@@ -67,7 +67,7 @@ pub printed : (tableCall T ≡ done (record { version = 1; x = 1; y = 0; objects
     × (writeStateCall T A 1 (Element.ChangerSignal (record { current = true; aspect = ChangerAspect.FixedC })) 9 ≡ done C)
     × (labelCall T 1 ≡ done (record { offset = 19; size = 5 }))
     × (settled (differenceCall T A B) (replicate 23 0 ++ (5 ∷ [])) ≡ record { answer = numbers 0 65535 255 23; output = AB ++ (5 ∷ []) })
-unfolding table layouts datRule elementCheck stateOf wordOf bytes settled formBytes isWhole readForm versionGood catalogueGood labelLimit carried kindOf labelGood checkObject readTable planOf imageVersionGood element imageBytes readImage listVersion listBytes checkChange checkEntry readList difference applied join turned readPlan tableCall imageCall listCall differenceUnder differenceCall applyUnder applyCall joinUnder joinCall turnUnder turnCall readStateUnder readStateCall checkState writeStateUnder writeStateCall labelCall
+unfolding table layouts datRule elementCheck stateOf wordOf bytes settled formBytes isWhole readForm versionGood catalogueGood labelLimit carried kindOf labelGood checkObject readTable planOf imageVersionGood element imageBytes readImage listVersion listBytes checkChange checkEntry readList difference applied join turned readPlan tableCall imageCall listCall differenceUnder differenceCall applyUnder applyCall joinUnder joinCall turnUnder turnCall readStateUnder readStateCall checkState writeStateUnder writeStateCall labelCall zipWith
 printed = (refl, refl, refl, refl, refl, refl, refl, refl, refl, refl, refl, refl, refl, refl)
 
 pub each-code : (tableCall (take 3 T) ≡ refused 1 65535 255)
@@ -96,12 +96,12 @@ pub each-code : (tableCall (take 3 T) ≡ refused 1 65535 255)
     × (settled (differenceCall T A B) (0 ∷ []) ≡ record { answer = numbers 21 65535 255 23; output = 0 ∷ [] })
     × (writeStateCall T A 0 (Element.ChangerSignal (record { current = true; aspect = ChangerAspect.FixedT })) 9 ≡ refused 22 0 255)
     × (writeStateCall T A 1 (Element.ChangerSignal (record { current = false; aspect = ChangerAspect.FixedT })) 9 ≡ refused 12 1 0)
-unfolding table layouts datRule elementCheck stateOf wordOf bytes settled formBytes isWhole readForm versionGood catalogueGood labelLimit carried kindOf labelGood checkObject readTable planOf imageVersionGood element imageBytes readImage listVersion listBytes checkChange checkEntry readList difference applied join turned readPlan tableCall imageCall listCall differenceUnder differenceCall applyUnder applyCall joinUnder joinCall turnUnder turnCall readStateUnder readStateCall checkState writeStateUnder writeStateCall
+unfolding table layouts datRule elementCheck stateOf wordOf bytes settled formBytes isWhole readForm versionGood catalogueGood labelLimit carried kindOf labelGood checkObject readTable planOf imageVersionGood element imageBytes readImage listVersion listBytes checkChange checkEntry readList difference applied join turned readPlan tableCall imageCall listCall differenceUnder differenceCall applyUnder applyCall joinUnder joinCall turnUnder turnCall readStateUnder readStateCall checkState writeStateUnder writeStateCall zipWith
 each-code = (refl, refl, refl, refl, refl, refl, refl, refl, refl, refl, refl, refl, refl, refl, refl, refl, refl, refl, refl, refl, refl, refl, refl, refl, refl, refl)
 
 -- "A join that drops an object also applies to images that refuse the steps": the join of AB and BC drops object 0
 pub trap : (joinCall T AB BC ≡ done AC) × (applyCall T X AB ≡ refused 18 0 255) × (applyCall T X AC ≡ done Y)
-unfolding table layouts datRule elementCheck stateOf wordOf bytes formBytes isWhole readForm versionGood catalogueGood labelLimit carried kindOf labelGood checkObject readTable planOf imageVersionGood element imageBytes readImage listVersion listBytes checkChange checkEntry readList applied join readPlan applyUnder applyCall joinUnder joinCall
+unfolding table layouts datRule elementCheck stateOf wordOf bytes formBytes isWhole readForm versionGood catalogueGood labelLimit carried kindOf labelGood checkObject readTable planOf imageVersionGood element imageBytes readImage listVersion listBytes checkChange checkEntry readList applied join readPlan applyUnder applyCall joinUnder joinCall zipWith
 trap = (refl, refl, refl)
 
 -- a tally for each call: applied, late (with no room too), gap, and others, 21 among them; a full one stays
@@ -114,5 +114,5 @@ pub received-each : (receiveCall T A AB (A ++ (5 ∷ [])) fresh ≡ record { ans
     × (receiveCall T X AB B fresh ≡ record { answer = numbers 18 0 255 0; output = B; standing = record { applied = 0; late = 0; gap = 0; other = 1 } })
     × (receiveCall T A AB (take 13 B) fresh ≡ record { answer = numbers 21 65535 255 14; output = take 13 B; standing = record { applied = 0; late = 0; gap = 0; other = 1 } })
     × (receiveCall T A AB B brim .standing ≡ brim)
-unfolding table layouts datRule elementCheck stateOf wordOf bytes settled formBytes isWhole readForm versionGood catalogueGood labelLimit carried kindOf labelGood checkObject readTable planOf imageVersionGood element imageBytes readImage listVersion listBytes checkChange checkEntry readList applied readPlan applyUnder applyCall fresh counted receiveCall
+unfolding table layouts datRule elementCheck stateOf wordOf bytes settled formBytes isWhole readForm versionGood catalogueGood labelLimit carried kindOf labelGood checkObject readTable planOf imageVersionGood element imageBytes readImage listVersion listBytes checkChange checkEntry readList applied readPlan applyUnder applyCall fresh counted receiveCall zipWith
 received-each = (refl, refl, refl, refl, refl, refl)

@@ -4,7 +4,7 @@ use Prim.Native.Nat.{ℕ, suc}
 use native.Mathlib.Omega.{arith}
 use mathlib.Core.Path.{_≡_, refl, sym, ap, ap₂}
 use mathlib.Core.Bool.{Bool, true, false}
-use mathlib.Core.List.{List, [], _∷_, map}
+use mathlib.Core.List.{List, [], _∷_, map, zipWith}
 use mathlib.Core.Logic.{_↔_}
 use lib.Dec.{eqb}
 use borrow.Author.Tests.{eq-eqb, ne-eqb, eqb-true, eqb-false}
@@ -15,7 +15,7 @@ use Rattle.history.specs.Image.{Image, imageVersionGood}
 use Rattle.history.specs.declared.Change.{Change}
 use Rattle.history.specs.declared.Change.the-variants.{Keep as keep, Swap as swap}
 use Rattle.history.specs.Changes.{Changes}
-use Rattle.history.specs.Operations.{fits, after, meets, joined, back, zip, lowest, difference, applied, join, turned}
+use Rattle.history.specs.Operations.{fits, after, meets, joined, back, lowest, difference, applied, join, turned}
 use Rattle.history.specs.Legal.{Every, nil, and, admits, lawful, LegalImage, LegalList}
 use Rattle.history.proofs.ElementLaws.{zero-admitted}
 use Rattle.history.proofs.ChangeLaws.{lawful-swap, back-differ}
@@ -46,7 +46,7 @@ before (swap old new) a = old
 
 -- .. and two lists in turn: of an object in neither, z's
 unfoldable pub start : Changes → Changes → Image → Image
-start l m z = record { version = z .version; position = l .from; words = zip before (l .each) (zip before (m .each) (z .words)) }
+start l m z = record { version = z .version; position = l .from; words = zipWith before (l .each) (zipWith before (m .each) (z .words)) }
 
 before-admits : (k : Kind) (c : Change) (a : ℕ) → lawful k c ≡ true → admits k a ≡ true → admits k (before c a) ≡ true
 before-admits k keep a p q = q
@@ -61,16 +61,19 @@ meets-fits keep d a p = before-fits d a
 meets-fits (swap old new) keep a p = refl
 meets-fits (swap old new) (swap old′ new′) a p = eq-eqb old′ new (sym (eqb-true new old′ p))
 
-before-admits-all : {ks : List Kind} {cs : List Change} {xs : List ℕ} → Every lawful ks cs → Every admits ks xs → Every admits ks (zip before cs xs)
+before-admits-all : {ks : List Kind} {cs : List Change} {xs : List ℕ} → Every lawful ks cs → Every admits ks xs → Every admits ks (zipWith before cs xs)
+unfolding zipWith
 before-admits-all nil nil = nil
 before-admits-all (and {a = k} {b = c} p ps) (and {b = a} q qs) = and (before-admits k c a p q) (before-admits-all ps qs)
 
-before-fits-all : {ks : List Kind} {cs : List Change} {xs : List ℕ} → Every lawful ks cs → Every admits ks xs → Every fits cs (zip before cs xs)
+before-fits-all : {ks : List Kind} {cs : List Change} {xs : List ℕ} → Every lawful ks cs → Every admits ks xs → Every fits cs (zipWith before cs xs)
+unfolding zipWith
 before-fits-all nil nil = nil
 before-fits-all (and {b = c} p ps) (and {b = a} q qs) = and (before-fits c a) (before-fits-all ps qs)
 
 meets-fits-all : {ks : List Kind} {cs ds : List Change} {xs : List ℕ} → Every meets cs ds → Every admits ks xs → Every lawful ks ds
-    → Every fits ds (zip after cs (zip before cs (zip before ds xs)))
+    → Every fits ds (zipWith after cs (zipWith before cs (zipWith before ds xs)))
+unfolding zipWith
 meets-fits-all nil nil nil = nil
 meets-fits-all (and {a = c} {b = d} p ps) (and {b = a} q qs) (and r rs) = and (meets-fits c d a p) (meets-fits-all ps qs rs)
 
@@ -94,10 +97,10 @@ module _ {p : Plan} where
   unfolding start
   join-history {l} {m} {k} {z} hl hm hz e =
       let j = joins hl hm e in
-      let x : List ℕ = zip before (l .each) (zip before (m .each) (z .words)) in
-      let y : List ℕ = zip after (l .each) x in (
+      let x : List ℕ = zipWith before (l .each) (zipWith before (m .each) (z .words)) in
+      let y : List ℕ = zipWith after (l .each) x in (
         record { version = z .version; position = l .to; words = y },
-        record { version = z .version; position = m .to; words = zip after (m .each) y },
+        record { version = z .version; position = m .to; words = zipWith after (m .each) y },
         taking (record { place = refl; olds = before-fits-all (hl .each) (before-admits-all (hm .each) (hz .words)); result = refl }),
         taking (record { place = sym (j .place); olds = meets-fits-all (j .olds) (hz .words) (hm .each); result = refl }),
       )
@@ -137,7 +140,8 @@ joined-back keep (swap old new) = refl
 joined-back (swap old new) keep = refl
 joined-back (swap old new) (swap old′ new′) = sym (back-differ old new′)
 
-joined-back-all : (cs ds : List Change) → zip joined (map back ds) (map back cs) ≡ map back (zip joined cs ds)
+joined-back-all : (cs ds : List Change) → zipWith joined (map back ds) (map back cs) ≡ map back (zipWith joined cs ds)
+unfolding zipWith
 joined-back-all [] [] = refl
 joined-back-all [] (d ∷ ds) = refl
 joined-back-all (c ∷ cs) [] = refl

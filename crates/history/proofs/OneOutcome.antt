@@ -1,9 +1,7 @@
 -- "Outcomes allowed by one statement are shown equal": what a call ensures is an equation with its definition. For a call that says no
 -- more than its answer, and for one that writes (`Leaves` of OutputLaws). Each floor above says it of its own calls (its `OneOutcome`).
 -- Assumes nothing.
-use Prim.Native.Nat.{ℕ}
 use mathlib.Core.Path.{_≡_, sym, _∙_}
-use mathlib.Core.List.{List}
 use Rattle.history.specs.declared.Answer.{Answer}
 use Rattle.history.specs.Verdict.{Verdict, told}
 

@@ -1,57 +1,66 @@
 -- The laws of change lists, over their meaning.
 -- Assumes nothing.
-use Prim.Native.Nat.{ℕ}
+use Prim.Native.Nat.{ℕ, _<_}
 use native.Mathlib.Omega.{arith}
 use mathlib.Core.Path.{_≡_, refl, sym, ap, ap₂, _∙_}
-use mathlib.Core.List.{List, [], _∷_, map}
+use mathlib.Core.List.{List, [], _∷_, map, zipWith}
+use mathlib.Core.Logic.{_↔_}
 use lib.Dec.{eqb, leb}
-use borrow.Author.Tests.{eq-eqb, eqb-true, le-leb, leb-true}
+use borrow.Author.Tests.{eq-eqb, ne-eqb, eqb-true, eqb-false, le-leb, lt-leb, leb-true, leb-false}
 use native.Mathlib.Nat.{le-antisymm, zero-add}
 use Rattle.kinds.specs.declared.Kind.{Kind}
-use Rattle.history.specs.Verdict.{refused, done, then, refusalAt}
+use Rattle.history.specs.Verdict.{refused, done, then, refusal, refusalAt}
 use Rattle.history.specs.Table.{Plan}
 use Rattle.history.specs.Image.{Image, imageVersionGood}
 use Rattle.history.specs.declared.Change.{Change}
 use Rattle.history.specs.declared.Change.the-variants.{Keep as keep}
 use Rattle.history.specs.Changes.{Changes}
-use Rattle.history.specs.Operations.{differ, fits, after, meets, joined, back, zip, lowest, resultOf, jointOf, difference, applied, join, turned}
+use Rattle.history.specs.Operations.{differ, fits, after, meets, joined, back, lowest, resultOf, jointOf, difference, applied, join, turned}
 use Rattle.history.specs.Legal.{admits, Every, nil, and, LegalImage, lawful, LegalList}
-use Rattle.history.proofs.VerdictLaws.{held, past, Lowest, names-lowest, refuses-lowest, Paired, none, more, paired, passes, passed, value}
+use Rattle.history.proofs.VerdictLaws.{held, past, stopped, Lowest, names-lowest, refuses-lowest, Paired, none, more, paired, passes, passed, value}
 use Rattle.history.proofs.ChangeLaws.{fits-differ, after-differ, only-differ, meets-differ, joined-differ, back-differ, lawful-differ, lawful-joined, lawful-back, admits-after}
 
 -- ---- all objects
 
-fits-all : {xs ys : List ℕ} → Paired xs ys → Every fits (zip differ xs ys) xs
+fits-all : {xs ys : List ℕ} → Paired xs ys → Every fits (zipWith differ xs ys) xs
+unfolding zipWith
 fits-all none = nil
 fits-all (more {a = a} {b = b} r) = and (fits-differ a b) (fits-all r)
 
-after-all : {xs ys : List ℕ} → Paired xs ys → zip after (zip differ xs ys) xs ≡ ys
+after-all : {xs ys : List ℕ} → Paired xs ys → zipWith after (zipWith differ xs ys) xs ≡ ys
+unfolding zipWith
 after-all none = refl
 after-all (more {a = a} {b = b} r) = ap₂ _∷_ (after-differ a b) (after-all r)
 
-only-all : {ks : List Kind} {cs : List Change} {xs : List ℕ} → Every lawful ks cs → Every fits cs xs → cs ≡ zip differ xs (zip after cs xs)
+only-all : {ks : List Kind} {cs : List Change} {xs : List ℕ} → Every lawful ks cs → Every fits cs xs → cs ≡ zipWith differ xs (zipWith after cs xs)
+unfolding zipWith
 only-all nil nil = refl
 only-all (and {a = k} p ps) (and {a = c} {b = a} f h) = ap₂ _∷_ (only-differ k c a p f) (only-all ps h)
 
-meets-all : {xs ys zs : List ℕ} → Paired xs ys → Paired ys zs → Every meets (zip differ xs ys) (zip differ ys zs)
+meets-all : {xs ys zs : List ℕ} → Paired xs ys → Paired ys zs → Every meets (zipWith differ xs ys) (zipWith differ ys zs)
+unfolding zipWith
 meets-all none none = nil
 meets-all (more {a = a} {b = b} r) (more {b = c} s) = and (meets-differ a b c) (meets-all r s)
 
-joined-all : {xs ys zs : List ℕ} → Paired xs ys → Paired ys zs → zip joined (zip differ xs ys) (zip differ ys zs) ≡ zip differ xs zs
+joined-all : {xs ys zs : List ℕ} → Paired xs ys → Paired ys zs → zipWith joined (zipWith differ xs ys) (zipWith differ ys zs) ≡ zipWith differ xs zs
+unfolding zipWith
 joined-all none none = refl
 joined-all (more {a = a} {b = b} r) (more {b = c} s) = ap₂ _∷_ (joined-differ a b c) (joined-all r s)
 
-back-all : (xs ys : List ℕ) → map back (zip differ xs ys) ≡ zip differ ys xs
+back-all : (xs ys : List ℕ) → map back (zipWith differ xs ys) ≡ zipWith differ ys xs
+unfolding zipWith
 back-all [] [] = refl
 back-all [] (y ∷ ys) = refl
 back-all (x ∷ xs) [] = refl
 back-all (x ∷ xs) (y ∷ ys) = ap₂ _∷_ (back-differ x y) (back-all xs ys)
 
-lawful-differ-all : {ks : List Kind} {xs ys : List ℕ} → Every admits ks xs → Every admits ks ys → Every lawful ks (zip differ xs ys)
+lawful-differ-all : {ks : List Kind} {xs ys : List ℕ} → Every admits ks xs → Every admits ks ys → Every lawful ks (zipWith differ xs ys)
+unfolding zipWith
 lawful-differ-all nil nil = nil
 lawful-differ-all (and {a = k} {b = a} p ps) (and {b = b} q qs) = and (lawful-differ k a b p q) (lawful-differ-all ps qs)
 
-lawful-joined-all : {ks : List Kind} {cs ds : List Change} → Every lawful ks cs → Every lawful ks ds → Every lawful ks (zip joined cs ds)
+lawful-joined-all : {ks : List Kind} {cs ds : List Change} → Every lawful ks cs → Every lawful ks ds → Every lawful ks (zipWith joined cs ds)
+unfolding zipWith
 lawful-joined-all nil nil = nil
 lawful-joined-all (and {a = k} {b = c} p ps) (and {b = d} q qs) = and (lawful-joined k c d p q) (lawful-joined-all ps qs)
 
@@ -59,7 +68,8 @@ lawful-back-all : {ks : List Kind} {cs : List Change} → Every lawful ks cs →
 lawful-back-all nil = nil
 lawful-back-all (and {a = k} {b = c} p ps) = and (lawful-back k c p) (lawful-back-all ps)
 
-admits-after-all : {ks : List Kind} {cs : List Change} {xs : List ℕ} → Every lawful ks cs → Every admits ks xs → Every admits ks (zip after cs xs)
+admits-after-all : {ks : List Kind} {cs : List Change} {xs : List ℕ} → Every lawful ks cs → Every admits ks xs → Every admits ks (zipWith after cs xs)
+unfolding zipWith
 admits-after-all nil nil = nil
 admits-after-all (and {a = k} {b = c} p ps) (and {b = a} q qs) = and (admits-after k c a p q) (admits-after-all ps qs)
 
@@ -164,7 +174,39 @@ module _ {p : Plan} where
   unfolding turned
   turned-legal hl = record { from = hl .to; to = hl .from; each = lawful-back-all (hl .each) }
 
--- ---- what a refusal names
+-- ---- what is refused, and what a refusal names
+
+-- 16 exactly where the list starts below the image's position, 17 where above it
+pub late-exactly : (l : Changes) (a : Image) → (applied l a ≡ refusal 16) ↔ (l .from < a .position)
+unfolding applied
+late-exactly l a = (
+  (λ e. leb-false _ _ (stopped (leb (a .position) (l .from)) _ _ _ _ (λ r. lowest-code (past (leb (l .from) (a .position)) 17 65535 255 _ (omega arith) r)) e)),
+  (λ h. rw (lt-leb (a .position) (l .from) h)),
+)
+  where
+    lowest-code : lowest 18 fits 0 (l .each) (a .words) (resultOf l a) ≡ refusal 16 → ⊥
+    lowest-code r = omega (arith, names-lowest fits keep 0 18 (resultOf l a) 0 (l .each) (a .words) r .given)
+
+pub gap-exactly : (l : Changes) (a : Image) → (applied l a ≡ refusal 17) ↔ (a .position < l .from)
+unfolding applied
+gap-exactly l a = (
+  (λ e. leb-false _ _ (stopped (leb (l .from) (a .position)) _ _ _ _ lowest-code (past (leb (a .position) (l .from)) 16 65535 255 _ (omega arith) e))),
+  (λ h. rw (le-leb (a .position) (l .from) (omega (arith, h)), lt-leb (l .from) (a .position) h)),
+)
+  where
+    lowest-code : lowest 18 fits 0 (l .each) (a .words) (resultOf l a) ≡ refusal 17 → ⊥
+    lowest-code r = omega (arith, names-lowest fits keep 0 18 (resultOf l a) 0 (l .each) (a .words) r .given)
+
+-- 19 exactly where the second doesn't start at the first's end
+pub apart-exactly : (l m : Changes) → (join l m ≡ refusal 19) ↔ (l .to ≡ m .from → ⊥)
+unfolding join
+apart-exactly l m = (
+  (λ e. eqb-false _ _ (stopped (eqb (l .to) (m .from)) _ _ _ _ lowest-code e)),
+  (λ h. rw (ne-eqb (l .to) (m .from) h)),
+)
+  where
+    lowest-code : lowest 20 meets 0 (l .each) (m .each) (jointOf l m) ≡ refusal 19 → ⊥
+    lowest-code r = omega (arith, names-lowest meets keep keep 20 (jointOf l m) 0 (l .each) (m .each) r .given)
 
 -- 18: the lowest object whose old element is not the image's
 pub names-old : (l : Changes) (a : Image) {j bit : ℕ} → applied l a ≡ refused 18 j bit → Lowest fits keep 0 (l .each) (a .words) j × (bit ≡ 255)

@@ -68,10 +68,9 @@ length-output (done b) out = go (leb (length b) (length out)) refl
 abbrev pub Leaves : Verdict (List ℕ) → List ℕ → Answer → List ℕ → Type 0
 Leaves v out r m = (r ≡ settled v out .answer) × (m ≡ settled v out .output)
 
--- the same for laws over what calls left
+-- .. as a premise of laws, which find the verdict in its type
 pub record Ran (v : Verdict (List ℕ)) (out : List ℕ) (r : Answer) (m : List ℕ) : Type 0 where
-  pub answer : r ≡ settled v out .answer
-  pub output : m ≡ settled v out .output
+  pub leaves : Leaves v out r m
 
 pub leaves-as : {v w : Verdict (List ℕ)} (out : List ℕ) {r : Answer} {m : List ℕ} → v ≡ w → Leaves v out r m → Leaves w out r m
 leaves-as out e q = rw e at q

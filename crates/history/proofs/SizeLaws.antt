@@ -5,7 +5,7 @@ use native.Mathlib.Omega.{arith}
 use native.Mathlib.Nat.{zero-add}
 use mathlib.Core.Path.{_≡_, sym, ap, _∙_}
 use mathlib.Core.Bool.{Bool, true, false, cond}
-use mathlib.Core.List.{List, _∷_}
+use mathlib.Core.List.{List, _∷_, zipWith}
 use lib.Dec.{eqb}
 use lib.ListN.{length, length-append}
 use Rattle.kinds.specs.Kinds.{widthOf}
@@ -16,7 +16,7 @@ use Rattle.history.specs.Table.{Plan}
 use Rattle.history.specs.declared.Change.{Change}
 use Rattle.history.specs.declared.Change.the-variants.{Keep as keep, Swap as swap}
 use Rattle.history.specs.Changes.{Changes, entriesBytes, listBytes}
-use Rattle.history.specs.Operations.{differ, joined, zip}
+use Rattle.history.specs.Operations.{differ, joined}
 use Rattle.history.specs.Calls.{readPlan, joinCall}
 use Rattle.history.specs.Legal.{Every, nil, and, lawful}
 use Rattle.octets.proofs.NumberLaws.{length-bytes}
@@ -47,10 +47,11 @@ size-joined k (swap x y) keep = omega arith
 size-joined k (swap x y) (swap x′ y′) = omega (arith, size-differ k x y′)
 
 entries-short : {t : List Kind} {cs ds : List Change} (i : ℕ) → Every lawful t cs → Every lawful t ds
-    → length (entriesBytes i t (zip joined cs ds)) ≤ length (entriesBytes i t cs) + length (entriesBytes i t ds)
+    → length (entriesBytes i t (zipWith joined cs ds)) ≤ length (entriesBytes i t cs) + length (entriesBytes i t ds)
+unfolding zipWith
 entries-short i nil nil = omega arith
 entries-short i (and {a = k} {b = c} {xs = t} {ys = cs} p ps) (and {b = d} {ys = ds} q qs) =
-    rw (size-step i k t (joined c d) (zip joined cs ds), size-step i k t c cs, size-step i k t d ds)
+    rw (size-step i k t (joined c d) (zipWith joined cs ds), size-step i k t c cs, size-step i k t d ds)
     (omega (arith, size-joined k c d, entries-short (suc i) ps qs))
 
 length-list : (p : Plan) (l : Changes) → length (listBytes p l) ≡ 17 + length (entriesBytes 0 (p .kinds) (l .each))
@@ -61,7 +62,7 @@ pub join-short : (T : List ℕ) {p : Plan} (t : readPlan T ≡ done p) {L M K : 
 join-short T {p} t {L} {M} {K} l m e =
     let q = joined-list T t l m e in
     let k = q .0 in
-    let each : k .list .each ≡ zip joined (l .list .each) (m .list .each) = ap (λ (k : Changes). k .each) (joins (l .legal) (m .legal) (q .1) .result) in
+    let each : k .list .each ≡ zipWith joined (l .list .each) (m .list .each) = ap (λ (k : Changes). k .each) (joins (l .legal) (m .legal) (q .1) .result) in
     omega (
       arith,
       entries-short 0 (l .legal .each) (m .legal .each),

@@ -4,37 +4,37 @@ use Prim.Native.Nat.{ℕ, zero, suc, _^_, _<_}
 use native.Mathlib.Omega.{arith}
 use mathlib.Core.Path.{_≡_, refl, sym, ap, ap₂, _∙_}
 use mathlib.Core.Bool.{Bool, true}
-use mathlib.Core.List.{List, [], _∷_, map}
-use mathlib.Core.Logic.{_⊎_, inl, inr}
+use mathlib.Core.List.{List, [], _∷_, map, zipWith}
 use lib.Dec.{ltb}
 use lib.ListN.{length, getD, set}
 use lib.Seq.{getD-set-same, getD-set-other, set-getD}
 use borrow.Author.Tests.{lt-ltb, ltb-true}
 use Rattle.kinds.specs.Kinds.{kindIn}
 use Rattle.elements.specs.Elements.{stateOf, wordOf}
-use Rattle.rows.specs.declared.Finding.{Finding}
 use Rattle.kinds.specs.declared.Kind.{Kind}
 use Rattle.kinds.specs.declared.Element.{Element}
+use Rattle.elements.proofs.DatLaws.{Stale}
 use Rattle.history.specs.Verdict.{Verdict, refused, done, then, refusalAt, _unless_⨾_}
 use Rattle.history.specs.Table.{Plan, kindAt}
 use Rattle.history.specs.Image.{element, _of_⨾_, imageBytes}
-use Rattle.history.specs.Operations.{zip}
 use Rattle.history.specs.Calls.{readPlan, placed, stateAt, readStateUnder, readStateCall, checkState, writeStateUnder, writeStateCall}
 use Rattle.elements.specs.Elements.{sameKind}
 use Rattle.history.specs.Legal.{isAccepted, admits, Every, nil, and, LegalImage}
 use Rattle.history.proofs.VerdictLaws.{held, used}
-use Rattle.history.proofs.ElementLaws.{was-accepted, is-accepted, admits-accepted, word-again, state-again, state-kind, state-admitted, same-kind, is-same-kind, state-found}
+use Rattle.history.proofs.ElementLaws.{was-accepted, is-accepted, admits-accepted, word-again, state-again, state-kind, state-admitted, same-kind, is-same-kind, state-current, state-twelve}
 use Rattle.history.proofs.CallLaws.{AcceptedImage, legal-image}
 
 -- ---- all objects
 
 -- the words of all states are the words that these were read from
-pub words-again : {ks : List Kind} {ws : List ℕ} → Every admits ks ws → map wordOf (zip stateOf ks ws) ≡ ws
+pub words-again : {ks : List Kind} {ws : List ℕ} → Every admits ks ws → map wordOf (zipWith stateOf ks ws) ≡ ws
+unfolding zipWith
 words-again nil = refl
 words-again (and {a = k} {b = w} h r) = ap₂ _∷_ (word-again k w h) (words-again r)
 
 pub states-at : (d : Element) {ks : List Kind} {ws : List ℕ} → Every admits ks ws → (i : ℕ) → i < length ks
-    → getD (zip stateOf ks ws) i d ≡ stateOf (kindAt ks i) (getD ws i 0)
+    → getD (zipWith stateOf ks ws) i d ≡ stateOf (kindAt ks i) (getD ws i 0)
+unfolding zipWith
 states-at d nil i h = absurd (omega arith)
 states-at d (and p ps) zero h = refl
 states-at d (and p ps) (suc i) h = states-at d ps i (omega arith)
@@ -130,16 +130,15 @@ module _ (T : List ℕ) {p : Plan} (t : readPlan T ≡ done p) where
   unfolding writeStateCall writeStateUnder
   write-is a i e position l s h = rw (t, a .reads, state-checked (p .kinds) i e l s, is-accepted (element (kindAt (p .kinds) i) (wordOf e)) i (done (wordOf e)) h)
 
-  -- a state of the object's type is written, or refused with 12
-  pub write-found : {A : List ℕ} (a : AcceptedImage p A) (i : ℕ) (e : Element) (position : ℕ) → i < length (p .kinds) → kindIn e ≡ kindAt (p .kinds) i
-      → (writeStateCall T A i e position ≡ done (imageBytes p (placed (a .image) i (wordOf e) position))) ⊎ (writeStateCall T A i e position ≡ refused 12 i 0)
+  -- a state of the object's type is written, unless DAT is 0 and another bit 1: then it is refused with 12
+  pub write-current : {A : List ℕ} (a : AcceptedImage p A) (i : ℕ) (e : Element) (position : ℕ) → i < length (p .kinds) → kindIn e ≡ kindAt (p .kinds) i → (Stale (kindIn e) (wordOf e) → ⊥)
+      → writeStateCall T A i e position ≡ done (imageBytes p (placed (a .image) i (wordOf e) position))
+  write-current a i e position l s n = write-is a i e position l s (ap isAccepted (state-current (kindAt (p .kinds) i) e s n))
+
+  pub write-stale : {A : List ℕ} (a : AcceptedImage p A) (i : ℕ) (e : Element) (position : ℕ) → i < length (p .kinds) → kindIn e ≡ kindAt (p .kinds) i → Stale (kindIn e) (wordOf e)
+      → writeStateCall T A i e position ≡ refused 12 i 0
   unfolding writeStateCall writeStateUnder
-  write-found {A = A} a i e position l s = go (state-found (kindAt (p .kinds) i) e s)
-    where
-      go : (element (kindAt (p .kinds) i) (wordOf e) ≡ Finding.Accepted) ⊎ (element (kindAt (p .kinds) i) (wordOf e) ≡ Finding.Refused (record { code = 12; bit = 0 }))
-          → (writeStateCall T A i e position ≡ done (imageBytes p (placed (a .image) i (wordOf e) position))) ⊎ (writeStateCall T A i e position ≡ refused 12 i 0)
-      go (inl f) = inl (rw (t, a .reads, state-checked (p .kinds) i e l s, f))
-      go (inr f) = inr (rw (t, a .reads, state-checked (p .kinds) i e l s, f))
+  write-stale a i e position l s h = rw (t, a .reads, state-checked (p .kinds) i e l s, state-twelve (kindAt (p .kinds) i) e s h)
 
   abbrev pub written-image : {A B : List ℕ} (a : AcceptedImage p A) (i : ℕ) (e : Element) (position : ℕ) → position < 2 ^ 32 → Wrote a i e position B → AcceptedImage p B
   written-image a i e position small w = legal-image T t (written-legal a i e position small w) (w .same)
@@ -188,6 +187,6 @@ module _ (T : List ℕ) {p : Plan} (t : readPlan T ≡ done p) where
 
   -- the states of all objects, written as an image, are the image's bytes
   pub states-written : {A : List ℕ} (a : AcceptedImage p A)
-      → imageBytes p (record { version = a .image .version; position = a .image .position; words = map wordOf (zip stateOf (p .kinds) (a .image .words)) }) ≡ A
+      → imageBytes p (record { version = a .image .version; position = a .image .position; words = map wordOf (zipWith stateOf (p .kinds) (a .image .words)) }) ≡ A
   states-written a =
       ap (λ (ws : List ℕ). imageBytes p (record { version = a .image .version; position = a .image .position; words = ws })) (words-again (a .legal .words)) ∙ sym (a .same)

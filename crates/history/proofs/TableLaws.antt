@@ -28,11 +28,11 @@ nobody = record { type = 0; label = [] }
 
 -- ---- objects that are the same
 
-same-refl : (l : List ℕ) → sameBytes l l ≡ true
+pub same-refl : (l : List ℕ) → sameBytes l l ≡ true
 same-refl [] = refl
 same-refl (x ∷ xs) = all (eq-eqb x x refl) (same-refl xs)
 
-same-eq : (l m : List ℕ) → sameBytes l m ≡ true → l ≡ m
+pub same-eq : (l m : List ℕ) → sameBytes l m ≡ true → l ≡ m
 same-eq [] [] e = refl
 same-eq [] (y ∷ ys) e = absurd (let z : _≡_ {A = ℕ} 0 1 = cc in omega arith)
 same-eq (x ∷ xs) [] e = absurd (let z : _≡_ {A = ℕ} 0 1 = cc in omega arith)

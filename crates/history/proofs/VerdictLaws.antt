@@ -43,6 +43,11 @@ pub past : {A : Type 0} (t : Bool) (code object bit : ℕ) (r : Verdict A) {code
 past true code object bit r n e = e
 past false code object bit r n e = absurd (n cc)
 
+-- a refusal that the rest does not give: the test failed
+pub stopped : {A : Type 0} (t : Bool) (code object bit : ℕ) (r : Verdict A) {v : Verdict A} → (r ≡ v → ⊥) → (refused code object bit unless t ⨾ r) ≡ v → t ≡ false
+stopped true code object bit r n e = absurd (n e)
+stopped false code object bit r n e = refl
+
 -- ---- the lowest object at which a test fails
 
 module _ {A B : Type 0} (test : A → B → Bool) (x : A) (y : B) where

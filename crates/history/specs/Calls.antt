@@ -1,9 +1,8 @@
 -- The calls, over raw bytes. "Order: table, then the other forms as given, then object number, 22, positions, values (12 of a state handed
--- in, 18, 20), 21 last." (21 is `settled`'s.)
+-- in, 18, 20), 21 last." (21 is `settled`'s.) T, A, B, L, M are bytes; t, a, b, l, m what they are read as.
 use Prim.Native.Nat.{ℕ, _+_}
-use mathlib.Core.Bool.{Bool}
 use mathlib.Core.List.{List}
-use lib.Dec.{eqb, ltb}
+use lib.Dec.{ltb}
 use lib.ListN.{length, take, getD, set}
 use Rattle.kinds.specs.Kinds.{kindIn}
 use Rattle.elements.specs.Elements.{sameKind, stateOf, wordOf}
@@ -18,54 +17,54 @@ use Rattle.history.specs.Operations.{difference, applied, join, turned}
 -- ---- checking the three forms
 
 unfoldable pub tableCall : List ℕ → Verdict Table
-tableCall t = readTable t
+tableCall T = readTable T
 
 -- what the other forms go by, of an accepted table
 unfoldable pub readPlan : List ℕ → Verdict Plan
-readPlan t = then (readTable t) λ t. done (planOf t)
+readPlan T = then (readTable T) λ t. done (planOf t)
 
 unfoldable pub imageCall : List ℕ → List ℕ → Verdict Image
-imageCall t a = then (readPlan t) λ p. readImage p a
+imageCall T A = then (readPlan T) λ p. readImage p A
 
 unfoldable pub listCall : List ℕ → List ℕ → Verdict Changes
-listCall t l = then (readPlan t) λ p. readList p l
+listCall T L = then (readPlan T) λ p. readList p L
 
 -- ---- change lists: what the other forms give under a plan; the call reads the table first
 
 unfoldable pub differenceUnder : Plan → List ℕ → List ℕ → Verdict (List ℕ)
-differenceUnder p a b =
-    then (readImage p a) λ a.
-    then (readImage p b) λ b.
+differenceUnder p A B =
+    then (readImage p A) λ a.
+    then (readImage p B) λ b.
     done (listBytes p (difference a b))
 
 unfoldable pub differenceCall : List ℕ → List ℕ → List ℕ → Verdict (List ℕ)
-differenceCall t a b = then (readPlan t) λ p. differenceUnder p a b
+differenceCall T A B = then (readPlan T) λ p. differenceUnder p A B
 
 unfoldable pub applyUnder : Plan → List ℕ → List ℕ → Verdict (List ℕ)
-applyUnder p a l =
-    then (readImage p a) λ a.
-    then (readList p l) λ l.
+applyUnder p A L =
+    then (readImage p A) λ a.
+    then (readList p L) λ l.
     then (applied l a) λ b.
     done (imageBytes p b)
 
 unfoldable pub applyCall : List ℕ → List ℕ → List ℕ → Verdict (List ℕ)
-applyCall t a l = then (readPlan t) λ p. applyUnder p a l
+applyCall T A L = then (readPlan T) λ p. applyUnder p A L
 
 unfoldable pub joinUnder : Plan → List ℕ → List ℕ → Verdict (List ℕ)
-joinUnder p l m =
-    then (readList p l) λ l.
-    then (readList p m) λ m.
+joinUnder p L M =
+    then (readList p L) λ l.
+    then (readList p M) λ m.
     then (join l m) λ k.
     done (listBytes p k)
 
 unfoldable pub joinCall : List ℕ → List ℕ → List ℕ → Verdict (List ℕ)
-joinCall t l m = then (readPlan t) λ p. joinUnder p l m
+joinCall T L M = then (readPlan T) λ p. joinUnder p L M
 
 unfoldable pub turnUnder : Plan → List ℕ → Verdict (List ℕ)
-turnUnder p l = then (readList p l) λ l. done (listBytes p (turned l))
+turnUnder p L = then (readList p L) λ l. done (listBytes p (turned l))
 
 unfoldable pub turnCall : List ℕ → List ℕ → Verdict (List ℕ)
-turnCall t l = then (readPlan t) λ p. turnUnder p l
+turnCall T L = then (readPlan T) λ p. turnUnder p L
 
 -- ---- states
 
@@ -75,13 +74,13 @@ stateAt p a i = stateOf (kindAt (p .kinds) i) (getD (a .words) i 0)
 
 -- 13
 unfoldable pub readStateUnder : Plan → List ℕ → ℕ → Verdict Element
-readStateUnder p a i =
-    then (readImage p a) λ a.
+readStateUnder p A i =
+    then (readImage p A) λ a.
     refusalAt 13 i unless ltb i (length (p .kinds)) ⨾
     done (stateAt p a i)
 
 unfoldable pub readStateCall : List ℕ → List ℕ → ℕ → Verdict Element
-readStateCall t a i = then (readPlan t) λ p. readStateUnder p a i
+readStateCall T A i = then (readPlan T) λ p. readStateUnder p A i
 
 -- 13, 22; "a state handed in is checked as an element is" (12)
 unfoldable pub checkState : List Kind → ℕ → Element → Verdict ℕ
@@ -96,13 +95,13 @@ abbrev pub placed : Image → ℕ → ℕ → ℕ → Image
 placed a i w position = record { version = a .version; position = position; words = set (a .words) i w }
 
 unfoldable pub writeStateUnder : Plan → List ℕ → ℕ → Element → ℕ → Verdict (List ℕ)
-writeStateUnder p a i state position =
-    then (readImage p a) λ a.
+writeStateUnder p A i state position =
+    then (readImage p A) λ a.
     then (checkState (p .kinds) i state) λ w.
     done (imageBytes p (placed a i w position))
 
 unfoldable pub writeStateCall : List ℕ → List ℕ → ℕ → Element → ℕ → Verdict (List ℕ)
-writeStateCall t a i state position = then (readPlan t) λ p. writeStateUnder p a i state position
+writeStateCall T A i state position = then (readPlan T) λ p. writeStateUnder p A i state position
 
 -- ---- "the label is handed back as the very bytes of the lent table": where it stands in them
 
@@ -116,7 +115,7 @@ labelPlace t i = record { offset = 9 + (length (objectsBytes (take i (t .objects
 
 -- 13
 unfoldable pub labelCall : List ℕ → ℕ → Verdict Place
-labelCall t i =
-    then (readTable t) λ t.
+labelCall T i =
+    then (readTable T) λ t.
     refusalAt 13 i unless ltb i (length (t .objects)) ⨾
     done (labelPlace t i)

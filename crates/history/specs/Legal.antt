@@ -34,7 +34,7 @@ abbrev pub isAccepted : Finding → Bool
 isAccepted Finding.Accepted = true
 isAccepted (Finding.Refused r) = false
 
--- a number of w bytes that is an element of the kind
+-- the number fits the kind's bytes and is an element of it
 abbrev pub admits : Kind → ℕ → Bool
 admits k w = ltb w (256 ^ widthOf k) && isAccepted (element k w)
 

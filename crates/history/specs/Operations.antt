@@ -2,7 +2,7 @@
 -- the to position and the new elements, all else equal." (Joins and turning back are quoted at their definitions.)
 use Prim.Native.Nat.{ℕ, suc}
 use mathlib.Core.Bool.{Bool, true, cond}
-use mathlib.Core.List.{List, [], _∷_, map}
+use mathlib.Core.List.{List, [], _∷_, map, zipWith}
 use lib.Dec.{eqb, leb}
 use Rattle.history.specs.Verdict.{Verdict, done, refusal, refusalAt, _unless_⨾_}
 use Rattle.history.specs.Image.{Image}
@@ -46,11 +46,6 @@ back (swap old new) = swap new old
 -- ---- all objects (lists of one length)
 
 module _ {A B C : Type 0} where
-  abbrev pub zip : (A → B → C) → List A → List B → List C
-  zip f [] ys = []
-  zip f (x ∷ xs) [] = []
-  zip f (x ∷ xs) (y ∷ ys) = f x y ∷ zip f xs ys
-
   -- refused at the lowest object, counted from i, at which the test fails
   abbrev pub lowest : ℕ → (A → B → Bool) → ℕ → List A → List B → C → Verdict C
   lowest code test i [] ys c = done c
@@ -61,11 +56,11 @@ module _ {A B C : Type 0} where
 
 -- the list from one image to another
 unfoldable pub difference : Image → Image → Changes
-difference a b = record { from = a .position; to = b .position; each = zip differ (a .words) (b .words) }
+difference a b = record { from = a .position; to = b .position; each = zipWith differ (a .words) (b .words) }
 
 -- the result has the to position and the new elements, all else equal
 abbrev pub resultOf : Changes → Image → Image
-resultOf l a = record { version = a .version; position = l .to; words = zip after (l .each) (a .words) }
+resultOf l a = record { version = a .version; position = l .to; words = zipWith after (l .each) (a .words) }
 
 -- 16 late, 17 gap, 18
 unfoldable pub applied : Changes → Image → Verdict Image
@@ -76,7 +71,7 @@ applied l a =
 
 -- "the join of two lists goes from the first's start to the second's end"
 abbrev pub jointOf : Changes → Changes → Changes
-jointOf l m = record { from = l .from; to = m .to; each = zip joined (l .each) (m .each) }
+jointOf l m = record { from = l .from; to = m .to; each = zipWith joined (l .each) (m .each) }
 
 -- 19, 20
 unfoldable pub join : Changes → Changes → Verdict Changes

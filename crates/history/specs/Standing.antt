@@ -47,7 +47,7 @@ abbrev pub receivedAs : Outcome → Standing → Received
 receivedAs o s = record { answer = o .answer; output = o .output; standing = counted (o .answer .code) s }
 
 unfoldable pub receiveCall : List ℕ → List ℕ → List ℕ → List ℕ → Standing → Received
-receiveCall t a l out s = receivedAs (settled (applyCall t a l) out) s
+receiveCall T A L out s = receivedAs (settled (applyCall T A L) out) s
 
 -- ---- "While none has reached it, the four sum to the receive calls since fresh."
 

@@ -5,7 +5,7 @@ use mathlib.Core.Bool.{Bool, cond}
 use mathlib.Core.List.{List, [], _∷_}
 use Prim.Native.Nat.{ℕ}
 use borrow.Author.Tests.{ne-eqb}
-use Rattle.kinds.specs.Kinds.{layoutNo, lookup}
+use Rattle.kinds.specs.Kinds.{layoutNo, sortIn}
 use Rattle.kinds.specs.declared.Kind.{Kind}
 use Rattle.kinds.specs.declared.Sort.{Sort}
 
@@ -13,6 +13,6 @@ abbrev pub Apart : ℕ → List Kind → Type 0
 Apart n [] = Unit
 Apart n (k ∷ ks) = (n ≡ layoutNo k → ⊥) × Apart n ks
 
-pub vain : (n : ℕ) (ks : List Kind) → Apart n ks → Sort.Other ≡ lookup n ks
+pub vain : (n : ℕ) (ks : List Kind) → Apart n ks → Sort.Other ≡ sortIn n ks
 vain n [] a = refl
-vain n (k ∷ ks) a = vain n ks (a .1) ∙ sym (ap (λ (b : Bool). cond b (Sort.Carried k) (lookup n ks)) (ne-eqb n (layoutNo k) (a .0)))
+vain n (k ∷ ks) a = vain n ks (a .1) ∙ sym (ap (λ (b : Bool). cond b (Sort.Carried k) (sortIn n ks)) (ne-eqb n (layoutNo k) (a .0)))

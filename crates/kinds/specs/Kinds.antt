@@ -1,6 +1,6 @@
 -- An element state is one of the types, each with its own struct: the kinds, the layout of each, and the state of any kind from
 -- its fields' values.
--- Written by catalogue/write.py. Assumes nothing.
+-- Written by catalogue/write.py.
 use mathlib.Core.Bool.{cond}
 use mathlib.Core.List.{List, [], _∷_}
 use Prim.Native.Nat.{ℕ}
@@ -43,12 +43,12 @@ abbrev pub rowsOf : Kind → List Row
 rowsOf k = layoutRows (layoutOf k)
 
 -- the kind whose layout has a number
-abbrev pub lookup : ℕ → List Kind → Sort
-lookup n [] = Sort.Other
-lookup n (k ∷ ks) = cond (eqb n (layoutNo k)) (Sort.Carried k) (lookup n ks)
+abbrev pub sortIn : ℕ → List Kind → Sort
+sortIn n [] = Sort.Other
+sortIn n (k ∷ ks) = cond (eqb n (layoutNo k)) (Sort.Carried k) (sortIn n ks)
 
 abbrev pub sortNumbered : ℕ → Sort
-sortNumbered n = lookup n kinds
+sortNumbered n = sortIn n kinds
 
 abbrev pub elementOf : Kind → List ℕ → Element
 elementOf Kind.Signal vs = Element.Signal (signalOf vs)

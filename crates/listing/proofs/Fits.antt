@@ -3,16 +3,17 @@
 -- Assumes nothing.
 use Prim.Native.Nat.{ℕ, suc, _+_, _*_, _-_, _≤_, _<_}
 use native.Mathlib.Omega.{arith}
-use mathlib.Core.Path.{_≡_, refl, ap}
+use mathlib.Core.Path.{_≡_, refl, ap, _∙_}
 use mathlib.Core.Bool.{Bool, true, false, cond}
 use mathlib.Core.List.{List, [], _∷_, map}
 use lib.Dec.{eqb, leb, ltb}
 use lib.ListN.{length, getD, take, drop, length-append}
+use lib.Seq.{length-sets}
 use borrow.Author.Tests.{ltb-true, ltb-false, eqb-true}
 use Rattle.octets.specs.Octets.{bytes}
 use Rattle.octets.proofs.NumberLaws.{length-bytes}
 use Rattle.rows.specs.Table.{layouts}
-use Rattle.kinds.specs.Kinds.{layoutNo, widthOf, kinds, lookup, sortNumbered}
+use Rattle.kinds.specs.Kinds.{layoutNo, widthOf, kinds, sortIn, sortNumbered}
 use Rattle.kinds.specs.declared.Kind.{Kind}
 use Rattle.kinds.specs.declared.Sort.{Sort}
 use Rattle.elements.specs.Elements.{isCarried, carriedKind, carried, kindOf}
@@ -23,8 +24,10 @@ use Rattle.history.specs.Legal.{LegalTable}
 use Rattle.history.proofs.TableLaws.{table-is}
 use Rattle.history.proofs.VerdictLaws.{used, held}
 use Rattle.text.specs.Decimal.{decimalIn, decimal}
+use Rattle.text.specs.Wrote.{Wrote}
 use Rattle.text.proofs.Laws.{decimal-fits}
 use Rattle.listing.specs.Listing.{Panel, readBoth, tableSize, readPanel, firstLine, objectLine, linesOf, refusedLine, panelText, textOf, listingOf}
+use Rattle.listing.specs.Walk.{linesIn}
 use Rattle.listing.proofs.LineLaws.{first-length, refused-length, object-length}
 
 nobody : Object
@@ -87,9 +90,9 @@ found-at : (n : ℕ) (k : Kind) (s : Sort) (t : Bool) → eqb n (layoutNo k) ≡
 found-at n k s true q rest e = rw (eqb-true n (layoutNo k) q) (kind-few k)
 found-at n k s false q rest e = rest e
 
-found-few : (n : ℕ) (ks : List Kind) → isCarried (lookup n ks) ≡ true → length (decimal n) + 2 * widthOf (carriedKind (lookup n ks)) ≤ 9
+found-few : (n : ℕ) (ks : List Kind) → isCarried (sortIn n ks) ≡ true → length (decimal n) + 2 * widthOf (carriedKind (sortIn n ks)) ≤ 9
 found-few n [] e = absurd (let z : _≡_ {A = ℕ} 0 1 = cc in omega arith)
-found-few n (k ∷ ks) e = found-at n k (lookup n ks) (eqb n (layoutNo k)) refl (found-few n ks) e
+found-few n (k ∷ ks) e = found-at n k (sortIn n ks) (eqb n (layoutNo k)) refl (found-few n ks) e
 
 type-few : (x type : ℕ) → carried x type ≡ true → length (decimal type) + 2 * widthOf (kindOf x type) ≤ 9
 unfolding carried kindOf
@@ -134,16 +137,23 @@ each-few : {t : Table} → LegalTable t → (j : ℕ) → j < length (t .objects
 unfolding nobody labelLimit
 each-few h j m = record { type = h .each j m .type; label = omega (arith, h .each j m .few) }
 
-panel-few : {t : Table} (a : Image) → LegalTable t → length (panelText t a) ≤ 65494
+table-few : {t : Table} (a : Image) → LegalTable t → length (linesOf 0 (t .objects) (planOf t .kinds) (a .words)) ≤ 65450
 unfolding planOf
+table-few {t} a h =
+    omega (
+      arith,
+      lines-few (t .x) 0 (t .objects) (a .words) (omega (arith, h .count)) (each-few h),
+      digits-all (length (t .objects)) (h .count),
+      h .count,
+    )
+
+panel-few : {t : Table} (a : Image) → LegalTable t → length (panelText t a) ≤ 65494
 panel-few {t} a h =
     omega (
       arith,
       length-append (firstLine (t .x) (t .y) (a .position) (length (t .objects))) (linesOf 0 (t .objects) (planOf t .kinds) (a .words)),
       first-length (t .x) (t .y) (a .position) (length (t .objects)),
-      lines-few (t .x) 0 (t .objects) (a .words) (omega (arith, h .count)) (each-few h),
-      digits-all (length (t .objects)) (h .count),
-      h .count,
+      table-few a h,
     )
 
 both-legal : (b a : List ℕ) {p : Panel} → readBoth b a ≡ done p → LegalTable (p .table)
@@ -159,8 +169,23 @@ unfolding textOf
 text-few (refused code object bit) h = omega (arith, refused-length code object bit)
 text-few (done p) h = omega (arith, panel-few (p .image) (h p refl))
 
-pub text-fits : (b a : List ℕ) → length (textOf (readBoth b a)) ≤ 65536
-text-fits b a = text-few (readBoth b a) (λ p e. both-legal b a e)
+below-few : (v : Verdict Panel) → ((p : Panel) → v ≡ done p → LegalTable (p .table)) → length (linesIn v) ≤ 65450
+unfolding linesIn
+below-few (refused code object bit) h = omega arith
+below-few (done p) h = table-few (p .image) (h p refl)
+
+-- room for the lines below the first, once that is written
+pub lines-room : (b a : List ℕ) (x y position count : ℕ) {l m : List ℕ} {p : ℕ} → 65536 ≤ length l → Wrote l 0 (firstLine x y position count) m p
+    → p + length (linesIn (readBoth b a)) ≤ length m
+lines-room b a x y position count {l} h w =
+    let first : List ℕ = firstLine x y position count in
+    omega (
+      arith,
+      w .next,
+      ap length (w .text) ∙ length-sets l 0 first,
+      first-length x y position count,
+      below-few (readBoth b a) (λ p e. both-legal b a e),
+    )
 
 panel-legal : (input : List ℕ) {p : Panel} → readPanel input ≡ done p → LegalTable (p .table)
 unfolding readPanel

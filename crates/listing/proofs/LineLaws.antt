@@ -1,6 +1,6 @@
 -- The lines of the listing: writings one after the other make a line, and how long a line is.
 -- Assumes nothing.
-use Prim.Native.Nat.{ℕ, zero, suc, _+_, _/_, _%_, _≤_}
+use Prim.Native.Nat.{ℕ, zero, suc, _+_, _*_, _/_, _%_, _≤_}
 use native.Mathlib.Omega.{arith}
 use mathlib.Core.Path.{_≡_}
 use mathlib.Core.Bool.{Bool, true, false, cond}
@@ -40,6 +40,10 @@ numbered n mark w v = record { written = then w v; place = omega (arith, w .next
 
 next : {l : List ℕ} {at n mark : ℕ} {m : List ℕ} {p : ℕ} → Numbered l at n mark m p → {ys k : List ℕ} {r : ℕ} → Wrote m p ys k r → Wrote l at (decimal n ++ (mark ∷ ys)) k r
 next {n = n} {mark = mark} w {ys} v = rw (append-snoc (decimal n) mark ys) at (then (w .written) v)
+
+-- where an element in hex ends
+pub after-hexes : (element : List ℕ) {l : List ℕ} {at : ℕ} {m : List ℕ} {r : ℕ} → Wrote l at (hexes element) m r → r ≡ at + 2 * length element
+after-hexes element w = omega (arith, w .next, hexes-length element)
 
 -- ---- the three lines
 

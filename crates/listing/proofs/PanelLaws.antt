@@ -4,20 +4,23 @@ use Prim.Native.Nat.{ℕ, _+_, _-_, _≤_}
 use native.Mathlib.Omega.{arith}
 use mathlib.Core.Path.{_≡_, refl, sym, ap, _∙_, subst}
 use mathlib.Core.List.{List, _++_}
-use lib.ListN.{length, take, drop, getD, length-map, length-append}
-use lib.Seq.{length-sets}
-use Rattle.octets.specs.Octets.{Bytes, bytes, number}
+use lib.ListN.{length, take, drop, getD, length-map}
+use mir.Syntax.{w8}
+use mir.Val.{Fits}
+use Rattle.octets.specs.Octets.{bytes, number}
 use Rattle.octets.proofs.NumberLaws.{read-bytes}
 use Rattle.elements.specs.Elements.{kindOf}
 use Rattle.history.specs.declared.Answer.{Answer}
 use Rattle.history.specs.Verdict.{Verdict, refused, done, then, told}
-use Rattle.history.specs.Form.{formBytes}
-use Rattle.history.specs.Table.{Object, Table, Plan, objectsBytes, tableBytes, readTable, planOf}
-use Rattle.history.specs.Image.{Image, wordsBytes, imageBytes, readImage}
+use Rattle.history.specs.Form.{formBytes, readForm}
+use Rattle.history.specs.Table.{Object, Table, Plan, objectsBytes, tableBytes, versionGood, readTable, planOf}
+use Rattle.history.specs.Image.{Image, wordsBytes, imageBytes, imageVersionGood, readImage}
 use Rattle.history.specs.Calls.{tableCall, readPlan}
 use Rattle.history.specs.Legal.{LegalTable, Every, admits}
 use Rattle.history.proofs.VerdictLaws.{used}
-use Rattle.history.proofs.TableLaws.{table-is}
+use Rattle.history.proofs.FormLaws.{form-whole}
+use Rattle.history.proofs.TableLaws.{table-is, plan-fair}
+use Rattle.history.proofs.CodeLaws.{image-coded, zero-told}
 use Rattle.tables.specs.Outlines.{kindsOf, planAs, Outlined}
 use Rattle.tables.specs.declared.answers.Outline.{Outline}
 use Rattle.forms.proofs.Accepted.{image-accepted}
@@ -26,7 +29,6 @@ use Rattle.text.specs.Wrote.{Wrote}
 use Rattle.text.proofs.Laws.{then as text-then}
 use Rattle.listing.specs.Listing.{Panel, readBoth, firstLine, refusedLine, textOf}
 use Rattle.listing.specs.Walk.{Ready, linesIn}
-use Rattle.listing.proofs.Fits.{text-fits}
 
 -- ---- a refusal's line
 
@@ -57,6 +59,20 @@ refused-under b {p} a e f n =
 
 -- ---- an accepted table and image
 
+-- their heads are whole, and the objects few
+pub nine : {b a ns : List ℕ} → Ready b a ns → 9 ≤ length b
+unfolding readPlan readTable
+nine {b} r = form-whole 5 versionGood b (used (readForm 5 versionGood b) _ (used (readTable b) _ (r .plan) .1) .1) .long
+
+pub eleven : {b a ns : List ℕ} → Ready b a ns → 11 ≤ length a
+unfolding readImage
+eleven {a = a} {ns} r =
+    let p = planAs (r .x) (r .y) ns in
+    form-whole 7 imageVersionGood a (used (readForm 7 imageVersionGood a) _ (zero-told (readImage p a) (image-coded p a) (r .image) .1) .1) .long
+
+pub few : {b a ns : List ℕ} → Ready b a ns → length ns ≤ 1024
+few {b} {ns = ns} r = omega (arith, plan-fair b (r .plan) .count, length-kinds ns)
+
 -- the table and the image, and their parts in the bytes
 pub record Read (b a ns : List ℕ) : Type 0 where
   pub table : Table
@@ -65,8 +81,6 @@ pub record Read (b a ns : List ℕ) : Type 0 where
   pub legal : LegalTable table
   pub kinds : planOf table .kinds ≡ kindsOf ns
   pub count : length (table .objects) ≡ length ns
-  pub nine : 9 ≤ length b
-  pub eleven : 11 ≤ length a
   pub x : getD b 5 0 ≡ table .x
   pub y : getD b 6 0 ≡ table .y
   pub position : number (take 4 (drop 7 a)) ≡ image .position
@@ -76,10 +90,6 @@ pub record Read (b a ns : List ℕ) : Type 0 where
 
 -- the parts of a written form
 module _ (t : Table) where
-  table-long : 9 ≤ length (tableBytes t)
-  unfolding tableBytes formBytes bytes
-  table-long = omega arith
-
   table-x : getD (tableBytes t) 5 0 ≡ t .x
   unfolding tableBytes formBytes bytes
   table-x = refl
@@ -93,10 +103,6 @@ module _ (t : Table) where
   table-entries = refl
 
 module _ (p : Plan) (a : Image) where
-  image-long : 11 ≤ length (imageBytes p a)
-  unfolding imageBytes formBytes bytes
-  image-long = omega arith
-
   image-contents : drop 7 (imageBytes p a) ≡ bytes 4 (a .position) ++ wordsBytes (p .kinds) (a .words)
   unfolding imageBytes formBytes bytes
   image-contents = refl
@@ -114,14 +120,18 @@ plan-length : (t : Table) → length (t .objects) ≡ length (planOf t .kinds)
 unfolding planOf
 plan-length t = sym (length-map (t .objects) (λ (o : Object). kindOf (t .x) (o .type)))
 
-pub read-as : {b a ns : List ℕ} → Ready b a ns → Bytes b → Bytes a → Read b a ns
+-- each byte is one, as the code knows it of a slice
+abbrev pub Held : List ℕ → Type 0
+Held b = (i : ℕ) → Fits w8 (getD b i 0)
+
+pub read-as : {b a ns : List ℕ} → Ready b a ns → Held b → Held a → Read b a ns
 unfolding readPlan
 read-as {b} {a} {ns} r hb ha =
     let t = used (readTable b) _ (r .plan) in
     let plan : planOf (t .0) ≡ planAs (r .x) (r .y) ns = cc (t .2) in
     let tab = table-is b (t .1) in
-    let b-is = tab .same hb in
-    let i = image-accepted (planAs (r .x) (r .y) ns) a ha (r .image) in
+    let b-is = tab .same (λ i. hb i .fits) in
+    let i = image-accepted (planAs (r .x) (r .y) ns) a (λ i. ha i .fits) (r .image) in
     let a-is = i .same in
     let kinds : planOf (t .0) .kinds ≡ kindsOf ns = ap (λ (p : Plan). p .kinds) plan in
     record {
@@ -131,8 +141,6 @@ read-as {b} {a} {ns} r hb ha =
       legal = tab .legal;
       kinds = kinds;
       count = plan-length (t .0) ∙ ap length kinds ∙ length-kinds ns;
-      nine = rw b-is (table-long (t .0));
-      eleven = rw a-is (image-long _ (i .image));
       x = ap (λ (c : List ℕ). getD c 5 0) b-is ∙ table-x (t .0);
       y = ap (λ (c : List ℕ). getD c 6 0) b-is ∙ table-y (t .0);
       position = ap (λ (c : List ℕ). number (take 4 (drop 7 c))) a-is ∙ ap (λ (c : List ℕ). number (take 4 c)) (image-contents _ (i .image)) ∙ read-bytes 4 (i .image .position) _ (i .legal .position);
@@ -166,21 +174,7 @@ text-in {b} {a} {ns} r =
     ap textOf (r .reads)
     ∙ (λ j. firstLine (sym (r .x) j) (sym (r .y) j) (sym (r .position) j) (r .count j) ++ linesIn (sym (r .reads) j))
 
-module _ {b a ns : List ℕ} (r : Read b a ns) {position : ℕ} (e : position ≡ number (take 4 (drop 7 a))) {l m : List ℕ} {p : ℕ}
-    (w : Wrote l 0 (firstLine (getD b 5 0) (getD b 6 0) position (length ns)) m p) where
-  text-from : textOf (readBoth b a) ≡ firstLine (getD b 5 0) (getD b 6 0) position (length ns) ++ linesIn (readBoth b a)
-  text-from = text-in r ∙ ap (λ (n : ℕ). firstLine (getD b 5 0) (getD b 6 0) n (length ns) ++ linesIn (readBoth b a)) (sym e)
-
-  pub lines-room : 65536 ≤ length l → p + length (linesIn (readBoth b a)) ≤ length m
-  lines-room h =
-      omega (
-        arith,
-        w .next,
-        ap length (w .text) ∙ length-sets l 0 (firstLine (getD b 5 0) (getD b 6 0) position (length ns)),
-        text-fits b a,
-        ap length text-from,
-        length-append (firstLine (getD b 5 0) (getD b 6 0) position (length ns)) (linesIn (readBoth b a)),
-      )
-
-  pub lines-after : {n : List ℕ} {q : ℕ} → Wrote m p (linesIn (readBoth b a)) n q → Wrote l 0 (textOf (readBoth b a)) n q
-  lines-after v = wrote-as (sym text-from) (text-then w v)
+pub lines-after : {b a ns : List ℕ} → Ready b a ns → Held b → Held a → {position : ℕ} → position ≡ number (take 4 (drop 7 a)) → {l m n : List ℕ} {p q : ℕ}
+    → Wrote l 0 (firstLine (getD b 5 0) (getD b 6 0) position (length ns)) m p → Wrote m p (linesIn (readBoth b a)) n q → Wrote l 0 (textOf (readBoth b a)) n q
+lines-after {b} {a} {ns} r hb ha e w v =
+    wrote-as (ap (λ (k : ℕ). firstLine (getD b 5 0) (getD b 6 0) k (length ns) ++ linesIn (readBoth b a)) e ∙ sym (text-in (read-as r hb ha))) (text-then w v)

@@ -1,6 +1,6 @@
 -- The walk over an accepted table and image, a turn at a time: the whole text is what is written and the lines of the objects left.
 -- Assumes nothing.
-use Prim.Native.Nat.{ℕ, suc, _+_, _-_, _≤_, _<_}
+use Prim.Native.Nat.{ℕ, suc, _+_, _-_, _*_, _≤_, _<_}
 use native.Mathlib.Omega.{arith}
 use native.Mathlib.Nat.{add-zero}
 use native.Mathlib.Numerals.{add-one}
@@ -20,9 +20,9 @@ use Rattle.forms.proofs.KindLaws.{length-kinds, kinds-next, kinds-end}
 use Rattle.text.specs.Wrote.{Wrote}
 use Rattle.text.proofs.Laws.{then}
 use Rattle.listing.specs.Listing.{readBoth, objectLine, linesOf}
-use Rattle.listing.specs.Walk.{lineSize, linesIn}
+use Rattle.listing.specs.Walk.{lineSize, Ready, linesIn}
 use Rattle.listing.proofs.LineLaws.{object-length}
-use Rattle.listing.proofs.PanelLaws.{Read}
+use Rattle.listing.proofs.PanelLaws.{Held, few, eleven, Read, read-as}
 
 -- the objects left: their entries from one place on, their elements from another
 pub record Ahead (b a : List ℕ) (ks : List Kind) (os : List Object) (ws : List ℕ) (entry place : ℕ) : Type 0 where
@@ -73,6 +73,10 @@ lines-none : (i : ℕ) (os : List Object) (ws : List ℕ) → linesOf i os [] ws
 lines-none i [] ws = refl
 lines-none i (o ∷ os) ws = refl
 
+two-each : (os : List Object) → 2 * length os ≤ length (objectsBytes os)
+two-each [] = omega arith
+two-each (o ∷ os) = omega (arith, two-each os, length-append (o .label) (objectsBytes os))
+
 -- ---- the loop
 
 lines-in : {b a ns : List ℕ} (r : Read b a ns) → linesIn (readBoth b a) ≡ linesOf 0 (r .table .objects) (kindsOf ns) (r .image .words)
@@ -92,19 +96,21 @@ pub record Walked (b a ns out₀ : List ℕ) (at : ℕ) (out : List ℕ) (to ent
   pub whole : linesIn (readBoth b a) ≡ written ++ linesOf i objects (drop i (kindsOf ns)) words
   pub ahead : Ahead b a (drop i (kindsOf ns)) objects words entry place
 
-pub begin : {b a ns : List ℕ} → Read b a ns → (out : List ℕ) (at : ℕ) → at + length (linesIn (readBoth b a)) ≤ length out → Walked b a ns out at out at 9 11 0
-begin {b} {a} {ns} r out at h = record {
-  written = [];
-  objects = r .table .objects;
-  words = r .image .words;
-  bound = omega arith;
-  few = omega (arith, r .count, r .legal .count);
-  kept = refl;
-  space = h;
-  so-far = record { next = omega arith; text = refl };
-  whole = lines-in r;
-  ahead = record { entries = r .entries; elements = r .elements; each = r .each; count = r .count ∙ sym (length-kinds ns); inside = r .eleven };
-}
+pub begin : {b a ns : List ℕ} → Ready b a ns → Held b → Held a → (out : List ℕ) (at : ℕ) → at + length (linesIn (readBoth b a)) ≤ length out → Walked b a ns out at out at 9 11 0
+begin {b} {a} {ns} ready hb ha out at h =
+    let r = read-as ready hb ha in
+    record {
+      written = [];
+      objects = r .table .objects;
+      words = r .image .words;
+      bound = omega arith;
+      few = few ready;
+      kept = refl;
+      space = h;
+      so-far = record { next = omega arith; text = refl };
+      whole = lines-in r;
+      ahead = record { entries = r .entries; elements = r .elements; each = r .each; count = r .count ∙ sym (length-kinds ns); inside = eleven ready };
+    }
 
 module _ {b a ns out₀ : List ℕ} {at : ℕ} {out : List ℕ} {to entry place i : ℕ} (l : Walked b a ns out₀ at out to entry place i) where
   pub ended : length ns ≤ i → Wrote out₀ at (linesIn (readBoth b a)) out to
@@ -113,55 +119,77 @@ module _ {b a ns out₀ : List ℕ} {at : ℕ} {out : List ℕ} {to entry place 
       let all : linesIn (readBoth b a) ≡ l .written = l .whole ∙ ap (λ (r : List ℕ). l .written ++ r) last ∙ append-nil (l .written) in
       rw all (l .so-far)
 
-  module _ (h : i < length ns) where
-    -- the next object's kind
-    abbrev kind : Kind
-    kind = kindAt (kindsOf ns) i
+  -- an entry has two bytes at least
+  pub entries-left : 2 * (length ns - i) ≤ length b - entry
+  entries-left =
+      omega (
+        arith,
+        l .bound,
+        two-each (l .objects),
+        ap length (l .ahead .entries),
+        length-drop entry b,
+        l .ahead .count,
+        length-drop i (kindsOf ns),
+        length-kinds ns,
+      )
 
-    pub here : Next b a kind (drop (i + 1) (kindsOf ns)) i entry place (linesOf i (l .objects) (drop i (kindsOf ns)) (l .words))
+  module _ (h : i < length ns) where
+    -- the next object
+    here : Next b a (kindAt (kindsOf ns) i) (drop (i + 1) (kindsOf ns)) i entry place (linesOf i (l .objects) (drop i (kindsOf ns)) (l .words))
     here = next b a entry place i (kinds-next ns i h) (l .ahead)
 
-    -- over what the code has in hand: the element's width and where the label ends
-    module _ {w : ℕ} (w-is : w ≡ widthOf kind) {end : ℕ} (end-is : end ≡ entry + 2 + getD b (entry + 1) 0) where
-      abbrev label : List ℕ
-      label = take (end - (entry + 2)) (drop (entry + 2) b)
+    -- over what the code has in hand: where the label ends
+    pub label-inside : {end : ℕ} → end ≡ entry + 2 + getD b (entry + 1) 0 → end ≤ length b
+    label-inside e = omega (arith, here .entry-inside)
 
-      abbrev element : List ℕ
-      element = take (place + w - place) (drop place a)
+    -- the object's kind and its element's width
+    module _ {kind : Kind} (kind-is : kind ≡ kindAt (kindsOf ns) i) {w : ℕ} (w-is : w ≡ widthOf kind) where
+      width-is : w ≡ widthOf (kindAt (kindsOf ns) i)
+      width-is = w-is ∙ ap widthOf kind-is
 
-      abbrev later : List ℕ
-      later = linesOf (i + 1) (here .objects) (drop (i + 1) (kindsOf ns)) (here .words)
+      pub element-inside : place + w ≤ length a
+      element-inside = omega (arith, here .element-inside, width-is)
 
-      lines-are : linesIn (readBoth b a) ≡ l .written ++ (objectLine i (getD b entry 0) label element ++ later)
-      lines-are =
-          let size : end - (entry + 2) ≡ getD b (entry + 1) 0 = omega arith in
-          let wide : place + w - place ≡ widthOf kind = omega arith in
-          l .whole ∙ ap (λ (r : List ℕ). l .written ++ r) (here .first ∙ (λ j. objectLine i (getD b entry 0) (take (sym size j) (drop (entry + 2) b)) (take (sym wide j) (drop place a)) ++ linesOf (sym (add-one i) j) (here .objects) (drop (i + 1) (kindsOf ns)) (here .words)))
+      module _ {end : ℕ} (end-is : end ≡ entry + 2 + getD b (entry + 1) 0) where
+        abbrev label : List ℕ
+        label = take (end - (entry + 2)) (drop (entry + 2) b)
 
-      pub has-room : to + lineSize i (getD b entry 0) label element ≤ length out
-      has-room =
-          omega (
-            arith,
-            l .kept,
-            l .space,
-            l .so-far .next,
-            ap length lines-are,
-            length-append (l .written) (objectLine i (getD b entry 0) label element ++ later),
-            length-append (objectLine i (getD b entry 0) label element) later,
-            object-length i (getD b entry 0) label element,
-          )
+        abbrev element : List ℕ
+        element = take (place + w - place) (drop place a)
 
-      pub goes-on : {out′ : List ℕ} {to′ : ℕ} → length out′ ≡ length out → Wrote out to (objectLine i (getD b entry 0) label element) out′ to′
-          → Walked b a ns out₀ at out′ to′ end (place + w) (i + 1)
-      goes-on e v = record {
-        written = l .written ++ objectLine i (getD b entry 0) label element;
-        objects = here .objects;
-        words = here .words;
-        bound = omega arith;
-        few = l .few;
-        kept = e ∙ l .kept;
-        space = l .space;
-        so-far = then (l .so-far) v;
-        whole = lines-are ∙ sym (append-assoc (l .written) (objectLine i (getD b entry 0) label element) later);
-        ahead = rw (end-is, w-is) (here .rest);
-      }
+        abbrev later : List ℕ
+        later = linesOf (i + 1) (here .objects) (drop (i + 1) (kindsOf ns)) (here .words)
+
+        lines-are : linesIn (readBoth b a) ≡ l .written ++ (objectLine i (getD b entry 0) label element ++ later)
+        lines-are =
+            let size : end - (entry + 2) ≡ getD b (entry + 1) 0 = omega arith in
+            let wide : place + w - place ≡ widthOf (kindAt (kindsOf ns) i) = omega (arith, width-is) in
+            l .whole ∙ ap (λ (r : List ℕ). l .written ++ r) (here .first ∙ (λ j. objectLine i (getD b entry 0) (take (sym size j) (drop (entry + 2) b)) (take (sym wide j) (drop place a)) ++ linesOf (sym (add-one i) j) (here .objects) (drop (i + 1) (kindsOf ns)) (here .words)))
+
+        pub has-room : to + lineSize i (getD b entry 0) label element ≤ length out
+        has-room =
+            omega (
+              arith,
+              l .kept,
+              l .space,
+              l .so-far .next,
+              ap length lines-are,
+              length-append (l .written) (objectLine i (getD b entry 0) label element ++ later),
+              length-append (objectLine i (getD b entry 0) label element) later,
+              object-length i (getD b entry 0) label element,
+            )
+
+        pub goes-on : {out′ : List ℕ} {to′ : ℕ} → length out′ ≡ length out → Wrote out to (objectLine i (getD b entry 0) label element) out′ to′
+            → Walked b a ns out₀ at out′ to′ end (place + w) (i + 1)
+        goes-on e v = record {
+          written = l .written ++ objectLine i (getD b entry 0) label element;
+          objects = here .objects;
+          words = here .words;
+          bound = omega arith;
+          few = l .few;
+          kept = e ∙ l .kept;
+          space = l .space;
+          so-far = then (l .so-far) v;
+          whole = lines-are ∙ sym (append-assoc (l .written) (objectLine i (getD b entry 0) label element) later);
+          ahead = rw (end-is, width-is) (here .rest);
+        }

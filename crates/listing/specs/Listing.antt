@@ -2,7 +2,6 @@
 -- bytes, is code 1. First line: catalogue version, position, count. Then per object: number, type, label, element in upper-case hex. Numbers
 -- are decimal, highest digit first, without leading zeros. One space between, one newline after each line. A refusal gives one line,
 -- "refused", code, object, bit."
--- Assumes nothing.
 use Prim.Native.Nat.{ℕ, suc, _+_}
 use mathlib.Core.List.{List, [], _∷_, _++_}
 use lib.Dec.{leb}

@@ -1,5 +1,4 @@
 -- What the writers of lines, and the walk over an accepted table and image, go by. A device of the code: the meaning is `Listing`'s.
--- Assumes nothing.
 use Prim.Native.Nat.{ℕ, _+_, _*_, _≤_}
 use mathlib.Core.Path.{_≡_}
 use mathlib.Core.List.{List, [], _∷_, _++_}

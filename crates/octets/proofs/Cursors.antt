@@ -58,12 +58,15 @@ same-apart (x ∷ xs) (y ∷ ys) n = rw (same-apart xs ys (λ e. n (ap suc e))) 
     never true = refl
     never false = refl
 
-module _ (xs ys : List ℕ) (i : ℕ) (h : i < length xs) (k : i < length ys) where
-  pub same-next : getD xs i 0 ≡ getD ys i 0 → sameBytes (drop i xs) (drop i ys) ≡ sameBytes (drop (i + 1) xs) (drop (i + 1) ys)
-  same-next e = rw (drop-next xs i h, drop-next ys i k, e, eq-eqb _ _ refl)
+-- the answer for the whole is the answer for what is left from i on
+module _ (xs ys : List ℕ) (i : ℕ) (left : sameBytes xs ys ≡ sameBytes (drop i xs) (drop i ys)) where
+  pub same-next : i < length xs → i < length ys → getD xs i 0 ≡ getD ys i 0 → sameBytes xs ys ≡ sameBytes (drop (i + 1) xs) (drop (i + 1) ys)
+  same-next h k e = left ∙ rw (drop-next xs i h, drop-next ys i k, e, eq-eqb _ _ refl)
 
-  pub same-stop : (getD xs i 0 ≡ getD ys i 0 → ⊥) → sameBytes (drop i xs) (drop i ys) ≡ false
-  same-stop n = rw (drop-next xs i h, drop-next ys i k, ne-eqb _ _ n)
+  pub same-stop : i < length xs → i < length ys → (getD xs i 0 ≡ getD ys i 0 → ⊥) → false ≡ sameBytes xs ys
+  same-stop h k n = sym (left ∙ rw (drop-next xs i h, drop-next ys i k, ne-eqb _ _ n))
 
-pub same-end : (xs ys : List ℕ) (i : ℕ) → i ≡ length xs → i ≡ length ys → sameBytes (drop i xs) (drop i ys) ≡ true
-same-end xs ys i e f = ap (λ (k : ℕ). sameBytes (drop k xs) (drop i ys)) e ∙ rw (f, drop-length xs, drop-length ys)
+  pub same-end : i ≤ length xs → length xs ≤ i → length xs ≡ length ys → true ≡ sameBytes xs ys
+  same-end h k e =
+      let f : i ≡ length xs = omega arith in
+      sym (left ∙ ap (λ (j : ℕ). sameBytes (drop j xs) (drop i ys)) f ∙ rw (f ∙ e, drop-length xs, drop-length ys))

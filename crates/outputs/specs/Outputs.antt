@@ -1,5 +1,4 @@
 -- The bytes that are written, on any walk: a list's head and its entries; an image's head, its new position and its elements.
--- Assumes nothing.
 use Prim.Native.Nat.{ℕ}
 use mathlib.Core.List.{List, [], _∷_, _++_}
 use lib.ListN.{take, drop}

@@ -47,7 +47,7 @@ read-image T A i e h q =
 module _ (T A : List ℕ) (i : ℕ) (e : Element) (position : ℕ) {out : List ℕ} {r : Answer} {m : List ℕ} (w : Ran (writeStateCall T A i e position) out r m) where
   -- a refusal writes no output
   pub refused-writes-nothing : (r .code ≡ 0 → ⊥) → m ≡ out
-  refused-writes-nothing n = w .output ∙ refusal-stays (writeStateCall T A i e position) out (λ z. n (ap (λ (a : Answer). a .code) (w .answer) ∙ z))
+  refused-writes-nothing n = w .leaves .1 ∙ refusal-stays (writeStateCall T A i e position) out (λ z. n (ap (λ (a : Answer). a .code) (w .leaves .0) ∙ z))
 
   module _ (ok : r .code ≡ 0) where
     written : Delivered (writeStateCall T A i e position) out r m
@@ -75,4 +75,4 @@ write-after-read T A i e out h q room w =
     let v = state-read (readStateCall T A i) e q in
     let a = read-image T A i e h v in
     let same : writeStateCall T A i e (number (take 4 (drop 7 A))) ≡ done A = ap (writeStateCall T A i e) (sym (a .2)) ∙ read-then-write T A i h (a .1) v in
-    (rw (le-leb (length A) (length out) room) at (rw same at (w .answer)), rw (le-leb (length A) (length out) room) at (rw same at (w .output)))
+    (rw (le-leb (length A) (length out) room) at (rw same at (w .leaves .0)), rw (le-leb (length A) (length out) room) at (rw same at (w .leaves .1)))

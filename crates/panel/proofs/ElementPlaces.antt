@@ -158,20 +158,18 @@ place-sum ns i sum e =
     let all : i - 0 ≡ i = omega arith in
     ap (λ (n : ℕ). 11 + n) (e ∙ ap (λ (n : ℕ). widths (map kindNumbered (take n ns))) all ∙ ap widths (map-take kindNumbered i ns))
 
+pub image-few : {ns A : List ℕ} {i : ℕ} → Sized ns A i → length A ≤ 4107
+image-few {ns} s = omega (arith, s .long, s .few, widths-few (kindsOf ns), length-kinds ns)
+
 -- ---- what the code has in hand of an object: its place, its kind, its width
 
 module _ {ns A : List ℕ} {i : ℕ} (s : Sized ns A i) {at : ℕ} (at-is : at ≡ placeIn (kindsOf ns) i) {kind : Kind} (kind-is : kind ≡ kindAt (kindsOf ns) i) {w : ℕ} (w-is : w ≡ widthOf kind) where
   pub own-width : w ≡ widthOf (kindAt (kindsOf ns) i)
   own-width = w-is ∙ ap widthOf kind-is
 
-  -- the element is inside the image, behind its position
-  pub inside : (11 ≤ at) × (at ≤ at + w) × (at + w ≤ length A) × (length A ≤ 4107)
-  inside = (
-    omega (arith, at-is),
-    omega arith,
-    omega (arith, own-width, at-is, s .long, place-inside (kindsOf ns) i (omega (arith, s .below, length-kinds ns))),
-    omega (arith, s .long, s .few, widths-few (kindsOf ns), length-kinds ns),
-  )
+  -- the element is inside the image
+  pub element-inside : at + w ≤ length A
+  element-inside = omega (arith, own-width, at-is, s .long, place-inside (kindsOf ns) i (omega (arith, s .below, length-kinds ns)))
 
   -- .. where its number is read
   pub number-at : number (take w (drop at A)) ≡ number (take (widthOf (kindAt (kindsOf ns) i)) (drop (placeIn (kindsOf ns) i) A))

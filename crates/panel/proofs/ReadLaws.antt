@@ -9,7 +9,9 @@ use mathlib.Core.List.{List}
 use lib.Dec.{ltb}
 use lib.ListN.{length, take, drop, getD}
 use borrow.Author.Tests.{lt-ltb, le-ltb}
-use Rattle.octets.specs.Octets.{Bytes, number}
+use mir.Syntax.{w8}
+use mir.Val.{Fits}
+use Rattle.octets.specs.Octets.{number}
 use Rattle.rows.specs.declared.Finding.{Finding}
 use Rattle.rows.specs.declared.Refusal.{Refusal}
 use Rattle.kinds.specs.Kinds.{widthOf}
@@ -37,7 +39,11 @@ use Rattle.panel.specs.Readings.{readingOf, answerIn}
 use Rattle.panel.specs.Places.{placeIn, Sized}
 use Rattle.panel.proofs.ElementPlaces.{image-long, image-number}
 
--- an answer that refuses is the reading
+-- an answer that refuses is the answer of all that comes after
+pub first-told : {A B : Type 0} (v : Verdict A) (f : A → Verdict B) {r : Answer} → r ≡ told v → (r .code ≡ 0 → ⊥) → r ≡ told (then v f)
+first-told v f e bad = e ∙ told-first v f (λ z. bad (ap (λ (a : Answer). a .code) e ∙ z))
+
+-- .. and it is the reading
 pub refusal-read : {r : Answer} (v : Verdict Element) → r ≡ told v → (r .code ≡ 0 → ⊥) → Reading.Refused r ≡ readingOf v
 unfolding told readingOf
 refusal-read (refused code object bit) e n = ap Reading.Refused e
@@ -76,12 +82,12 @@ never-refused k w r h e =
 module _ (x y : ℕ) (ns A : List ℕ) (i : ℕ) {r : Answer} (r-is : r ≡ told (readImage (planAs x y ns) A)) where
   pub image-read : (r .code ≡ 0 → ⊥) → Reading.Refused r ≡ readingOf (readStateUnder (planAs x y ns) A i)
   unfolding readStateUnder
-  image-read bad =
-      refusal-read _ (r-is ∙ told-first (readImage (planAs x y ns) A) _ (λ z. bad (ap (λ (a : Answer). a .code) r-is ∙ z))) bad
+  image-read bad = refusal-read _ (first-told (readImage (planAs x y ns) A) _ r-is bad) bad
 
-  module _ (h : Bytes A) (good : r .code ≡ 0) where
+  -- each byte is one, as the code knows it of a slice
+  module _ (h : (n : ℕ) → Fits w8 (getD A n 0)) (good : r .code ≡ 0) where
     pub taken : AcceptedImage (planAs x y ns) A
-    taken = image-accepted (planAs x y ns) A h (ap (λ (a : Answer). a .code) (sym r-is) ∙ good)
+    taken = image-accepted (planAs x y ns) A (λ n. h n .fits) (ap (λ (a : Answer). a .code) (sym r-is) ∙ good)
 
     under : readStateUnder (planAs x y ns) A i ≡ (refusalAt 13 i unless ltb i (length (kindsOf ns)) ⨾ done (stateAt (planAs x y ns) (taken .image) i))
     unfolding readStateUnder
@@ -110,11 +116,11 @@ module _ (x y : ℕ) (ns A : List ℕ) (i : ℕ) {r : Answer} (r-is : r ≡ told
         admitted : admits kind word ≡ true
         admitted = rw (kind-is, own-word) (admitted-at (taken .legal .words) i inside-kinds)
 
-        pub state-is : (e : Element) → State.Read e ≡ stateRead kind word → Reading.State e ≡ readingOf (readStateUnder (planAs x y ns) A i)
+        pub state-is : {e : Element} {s : State} → s ≡ State.Read e → s ≡ stateRead kind word → Reading.State e ≡ readingOf (readStateUnder (planAs x y ns) A i)
         unfolding readingOf
-        state-is e s =
+        state-is {e} s-is s-read =
             let own : readStateUnder (planAs x y ns) A i ≡ done (stateAt (planAs x y ns) (taken .image) i) = under ∙ rw (lt-ltb i (length (kindsOf ns)) inside-kinds) in
-            ap Reading.State (read-read kind word e s .1 ∙ ap₂ stateOf kind-is own-word) ∙ sym (ap readingOf own)
+            ap Reading.State (read-read kind word e (sym s-is ∙ s-read) .1 ∙ ap₂ stateOf kind-is own-word) ∙ sym (ap readingOf own)
 
-        pub no-refusal : (f : Refusal) → State.Refused f ≡ stateRead kind word → ⊥
-        no-refusal f s = never-refused kind word f admitted (read-refused kind word f s)
+        pub no-refusal : {f : Refusal} {s : State} → s ≡ State.Refused f → s ≡ stateRead kind word → {q : Reading} → q ≡ readingOf (readStateUnder (planAs x y ns) A i)
+        no-refusal {f} s-is s-read = absurd (never-refused kind word f admitted (read-refused kind word f (sym s-is ∙ s-read)))

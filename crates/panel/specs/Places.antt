@@ -1,5 +1,4 @@
 -- Where an object's element stands in an image. A device of the code: the meaning is `history`'s.
--- Assumes nothing.
 use Prim.Native.Nat.{ℕ, _+_, _≤_, _<_}
 use mathlib.Core.Path.{_≡_}
 use mathlib.Core.List.{List}

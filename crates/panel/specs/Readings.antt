@@ -1,5 +1,4 @@
 -- What reading a state gives: "A refused reading gives a code and no state."
--- Assumes nothing.
 use Rattle.kinds.specs.declared.Element.{Element}
 use Rattle.history.specs.declared.Answer.{Answer}
 use Rattle.history.specs.Verdict.{Verdict, refused, done, numbers}

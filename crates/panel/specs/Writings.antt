@@ -1,5 +1,4 @@
 -- The image's bytes with one element and the position anew. A device of the code: the meaning is `history`'s.
--- Assumes nothing.
 use Prim.Native.Nat.{ℕ, _+_}
 use mathlib.Core.List.{List, _++_}
 use lib.ListN.{length, take, drop}

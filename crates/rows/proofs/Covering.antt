@@ -1,13 +1,13 @@
 -- The covering rule: one computed test over the whole table, carried to each layout; each bit of an element is held by exactly one
 -- row of its layout.
 -- Assumes nothing.
-use mathlib.Core.Path.{_≡_, _∙_, refl, sym, ap, ap₂}
+use mathlib.Core.Path.{_≡_, _∙_, refl, ap, ap₂}
 use mathlib.Core.Bool.{Bool, true, false, cond, _&&_}
 use mathlib.Core.List.{List, [], _∷_}
 use Prim.Native.Nat.{ℕ, zero, suc, _+_, _*_, _<_, _≤_}
 use native.Mathlib.Omega.{arith}
 use native.Mathlib.Nat.{le-of-suc-le-suc, not-suc-le-zero}
-use borrow.Author.Tests.{le-leb, lt-leb, lt-ltb, le-ltb, ltb-true, ltb-false}
+use borrow.Author.Tests.{le-leb, lt-leb, ltb-true, ltb-false}
 use lib.Dec.{T, leb, ltb, eqb, leb→le, eqb→eq}
 use lib.ListN.{length, getD}
 use Rattle.rows.specs.Table.{Row, table, layout, layouts, layoutAt, rowTotal, numberAt}

@@ -1,18 +1,17 @@
 -- Values as their rows admit them: what a state keeps of any values, once over the rows and once over the named cases.
 -- Assumes nothing.
-use mathlib.Core.Path.{_≡_, _∙_, refl, sym, ap, ap₂, subst}
+use mathlib.Core.Path.{_≡_, _∙_, refl, sym, ap, ap₂}
 use mathlib.Core.Bool.{Bool, true, false, cond, _&&_}
 use mathlib.Core.List.{List, [], _∷_, _++_}
 use Prim.Native.Nat.{ℕ, zero, suc, _+_, _*_, _^_, _<_, _≤_, zero-le}
 use native.Mathlib.Omega.{arith}
-use native.Mathlib.Nat.{zero-add, zero-div, zero-mod, add-zero, add-suc, suc-add, le-of-suc-le-suc, not-suc-le-zero, le-refl}
-use native.Mathlib.Decide.{decLe}
+use native.Mathlib.Nat.{zero-add, zero-div, zero-mod, add-zero, add-suc, suc-add, le-of-suc-le-suc, not-suc-le-zero}
 use borrow.Author.Tests.{le-leb, lt-leb, leb-true, leb-false, ne-eqb}
 use lib.Dec.{T, leb, eqb, eqb→eq}
 use lib.ListN.{length, getD, length-append, List·getD-eq-default}
 use lib.Seq.{getD-append-seam, append-snoc}
 use Rattle.rows.specs.Table.{Row}
-use Rattle.rows.specs.Fields.{codeAt, fieldOf, fieldRead, orElse, checkRows, valuesOf, composeOf, bitNo}
+use Rattle.rows.specs.Fields.{codeAt, fieldOf, fieldRead, onField, checkRows, valuesOf, composeOf, bitNo}
 use Rattle.rows.specs.declared.Field.{Field}
 use Rattle.rows.specs.declared.Finding.{Finding}
 use Rattle.rows.proofs.Tests.{both-left, both-right}
@@ -51,11 +50,11 @@ listed-from (r ∷ rs) pre (u ∷ us) post h =
     (ap₂ (λ (k : ℕ) (l : List ℕ). listedFrom k rs l) (sym n) (sym (append-snoc pre u (us ++ post))) ∙ listed-from rs (pre ++ (u ∷ [])) us post (h .1))
 
 -- the fields of an accepted number are within their rows, and the other way round
-within-step : (w : ℕ) (r : Row) (next : Finding) → orElse (fieldRead w r) next ≡ Finding.Accepted → (fieldOf w r ≤ r .top) × (next ≡ Finding.Accepted)
+within-step : (w : ℕ) (r : Row) (next : Finding) → onField (fieldRead w r) next ≡ Finding.Accepted → (fieldOf w r ≤ r .top) × (next ≡ Finding.Accepted)
 within-step w r next = go (leb (fieldOf w r) (r .top)) refl
   where
     go : (b : Bool) → leb (fieldOf w r) (r .top) ≡ b
-        → orElse (cond b (Field.Value (fieldOf w r)) (Field.Refused (codeAt (cond (eqb (r .top) 0) 10 11) (r .low)))) next ≡ Finding.Accepted → (fieldOf w r ≤ r .top) × (next ≡ Finding.Accepted)
+        → onField (cond b (Field.Value (fieldOf w r)) (Field.Refused (codeAt (cond (eqb (r .top) 0) 10 11) (r .low)))) next ≡ Finding.Accepted → (fieldOf w r ≤ r .top) × (next ≡ Finding.Accepted)
     go true e h = (leb-true _ _ e, h)
     go false e h = let z : _≡_ {A = ℕ} 0 1 = cc in absurd (omega arith)
 
@@ -65,7 +64,7 @@ accepted-within w (r ∷ rs) e = let s = within-step w r (checkRows w rs) e in (
 
 pub within-accepted : (w : ℕ) (rs : List Row) → Within rs (valuesOf w rs) → checkRows w rs ≡ Finding.Accepted
 within-accepted w [] h = refl
-within-accepted w (r ∷ rs) h = ap (λ (b : Bool). orElse (cond b (Field.Value (fieldOf w r)) (Field.Refused (codeAt (cond (eqb (r .top) 0) 10 11) (r .low)))) (checkRows w rs)) (le-leb _ _ (h .0)) ∙ within-accepted w rs (h .1)
+within-accepted w (r ∷ rs) h = ap (λ (b : Bool). onField (cond b (Field.Value (fieldOf w r)) (Field.Refused (codeAt (cond (eqb (r .top) 0) 10 11) (r .low)))) (checkRows w rs)) (le-leb _ _ (h .0)) ∙ within-accepted w rs (h .1)
 
 -- the number 0 has nothing but zeros
 pub zero-within : (rs : List Row) → Within rs (valuesOf 0 rs)

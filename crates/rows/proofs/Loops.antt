@@ -1,8 +1,8 @@
 -- What the loops over rows keep: of the loop that reads fields, and of the loop that composes a number.
 -- Assumes nothing.
-use mathlib.Core.Path.{_≡_, _∙_, refl, sym, ap, ap₂, subst}
+use mathlib.Core.Path.{_≡_, _∙_, refl, sym, ap, ap₂}
 use mathlib.Core.Bool.{Bool, true, false, cond}
-use mathlib.Core.List.{List, [], _∷_, _++_, append-assoc}
+use mathlib.Core.List.{List, [], _∷_, _++_}
 use Prim.Native.Nat.{ℕ, zero, suc, _+_, _-_, _*_, _%_, _^_, _<_, _≤_}
 use native.Mathlib.Omega.{arith}
 use native.Mathlib.Nat.{add-zero, zero-add, add-suc, suc-add, mod-eq-of-lt}
@@ -11,9 +11,8 @@ use lib.Dec.{leb, eqb}
 use lib.ListN.{length, getD, set, drop, replicate, length-append}
 use borrow.Author.Tests.{eq-eqb, ne-eqb}
 use lib.Seq.{set-append-seam, append-snoc, drop-cons}
-use Rattle.rows.specs.Table.{Row, rowAt, rowsFrom, numberAt, table}
-use Rattle.rows.specs.Covering.{bearing}
-use Rattle.rows.specs.Fields.{fieldOf, fieldRead, orElse, findingOf, checkRows, valuesOf, composeOf, filled, padded, onFinding, fieldsRead, refusedFields}
+use Rattle.rows.specs.Table.{Row, rowAt, rowsFrom, numberAt}
+use Rattle.rows.specs.Fields.{fieldOf, fieldRead, onField, findingOf, checkRows, valuesOf, composeOf, filled, padded, onFinding, fieldsRead, refusedFields, bearing}
 use Rattle.rows.specs.declared.Fields.{Fields}
 use Rattle.rows.specs.declared.Refusal.{Refusal}
 use Rattle.rows.specs.declared.Field.{Field}
@@ -63,14 +62,11 @@ pub record Checking (w : ℕ) (all rest : List Row) : Type 0 where
 
 -- where the field f of the next row has been read
 module _ {w : ℕ} {all rest more : List Row} {r : Row} (c : Checking w all rest) (e : rest ≡ r ∷ more) {f : Field} (q : f ≡ fieldRead w r) where
-  next : {g : Field} → f ≡ g → checkRows w all ≡ orElse g (checkRows w more)
-  next t = c .to-come ∙ ap (checkRows w) e ∙ ap (λ (f : Field). orElse f (checkRows w more)) (sym q ∙ t)
+  next : {g : Field} → f ≡ g → checkRows w all ≡ onField g (checkRows w more)
+  next t = c .to-come ∙ ap (checkRows w) e ∙ ap (λ (f : Field). onField f (checkRows w more)) (sym q ∙ t)
 
   pub goes-on : {v : ℕ} → f ≡ Field.Value v → Checking w all more
   goes-on t = record { to-come = next t }
-
-  pub stops : {x : Refusal} → f ≡ Field.Refused x → findingOf f ≡ checkRows w all
-  stops t = ap findingOf t ∙ sym (next t)
 
 pub checked : {w : ℕ} {all rest : List Row} → Checking w all rest → rest ≡ [] → Finding.Accepted ≡ checkRows w all
 checked {w} c e = sym (c .to-come ∙ ap (checkRows w) e)
@@ -95,6 +91,11 @@ module _ (number i : ℕ) where
   bears-end h =
       let z : 107 - i ≡ 0 = omega arith in
       ap (bearing number i) z
+
+  -- the next row's field is refused
+  pub stops : {w n : ℕ} {all : List Row} {f : Field} {x : Refusal} → Checking w all (bearing number i (107 - i)) → i < 107 → n ≡ numberAt i → n ≡ number
+      → f ≡ fieldRead w (rowAt i) → f ≡ Field.Refused x → findingOf f ≡ checkRows w all
+  stops c h is e q t = ap findingOf t ∙ sym (next c (bears-next h is e) q t)
 
 -- what the reading loop keeps
 pub record Reading (w first count : ℕ) (values : List ℕ) (k : ℕ) : Type 0 where
@@ -152,26 +153,30 @@ compose-starts vs first count =
     let e′ : count - 0 ≡ count = omega arith in
     record { bound = omega arith; whole = zero-add _ ∙ ap₂ (λ (i n : ℕ). composeOf (rowsFrom i n) vs) e e′ }
 
--- the machine's shift of a value that is part of a sum below 2^32, and the next turn
-pub record Turn (vs : List ℕ) (first count word k low : ℕ) : Type 0 where
-  pub exact : getD vs k 0 * 2 ^ low % 4294967296 ≡ getD vs k 0 * 2 ^ low
-  pub fits : word + getD vs k 0 * 2 ^ low < 4294967296
-  pub next : Composing vs first count (word + getD vs k 0 * 2 ^ low) (k + 1)
+-- where the next row's lowest bit has been read: the machine's shift of a value that is part of a sum below 2^32, and the next turn
+module _ {vs : List ℕ} {first count word k : ℕ} (r : Composing vs first count word k) (h : k < count) (few : count ≤ 24) (long : length vs ≡ 24)
+    (small : composeOf (rowsFrom first count) vs < 4294967296) {low : ℕ} (e : low ≡ rowAt (first + k) .low) where
+  rest : ℕ
+  rest = composeOf (rowsFrom (first + (k + 1)) (count - (k + 1))) (drop (k + 1) vs)
 
-pub compose-turn : {vs : List ℕ} {first count word k : ℕ} → Composing vs first count word k → k < count → k < length vs
-    → composeOf (rowsFrom first count) vs < 4294967296 → (low : ℕ) → low ≡ rowAt (first + k) .low → Turn vs first count word k low
-compose-turn {vs} {first} {count} {word} {k} r h long small low e =
-    let x = getD vs k 0 * 2 ^ low in
-    let rest = composeOf (rowsFrom (first + (k + 1)) (count - (k + 1))) (drop (k + 1) vs) in
-    let s : composeOf (rowsFrom (first + k) (count - k)) (drop k vs) ≡ x + rest =
-    ap₂ composeOf (rows-next first count k h) (drop-cons vs k 0 long ∙ ap (λ (j : ℕ). getD vs k 0 ∷ drop j vs) (sym (add-one k)))
-    ∙ ap (λ (l : ℕ). getD vs k 0 * 2 ^ l + rest) (sym e) in
-    let w = r .whole in
-    record {
-      exact = mod-eq-of-lt (omega arith);
-      fits = omega arith;
-      next = record { bound = omega arith; whole = omega arith };
-    }
+  split : word + (getD vs k 0 * 2 ^ low + rest) ≡ composeOf (rowsFrom first count) vs
+  unfolding rest
+  split =
+      ap (λ (n : ℕ). word + n)
+      (sym
+      (ap₂ composeOf (rows-next first count k h) (drop-cons vs k 0 (omega arith) ∙ ap (λ (j : ℕ). getD vs k 0 ∷ drop j vs) (sym (add-one k)))
+      ∙ ap (λ (l : ℕ). getD vs k 0 * 2 ^ l + rest) (sym e)))
+      ∙ r .whole
+
+  exact : getD vs k 0 * 2 ^ low % 4294967296 ≡ getD vs k 0 * 2 ^ low
+  exact = mod-eq-of-lt (omega (arith, split))
+
+  pub compose-fits : word + getD vs k 0 * 2 ^ low % 4294967296 < 4294967296
+  compose-fits = rw exact (omega (arith, split))
+
+  pub compose-turn : Composing vs first count (word + getD vs k 0 * 2 ^ low % 4294967296) (k + 1)
+  unfolding rest
+  compose-turn = rw exact (record { bound = omega arith; whole = omega (arith, split) })
 
 pub compose-ends : {vs : List ℕ} {first count word k : ℕ} → Composing vs first count word k → count ≤ k → word ≡ composeOf (rowsFrom first count) vs
 compose-ends {vs} {first} {count} {word} {k} r h =

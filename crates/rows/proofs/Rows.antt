@@ -1,9 +1,10 @@
 -- The range rule at each row of the table, and what a row that keeps it tells: one computed test, carried to each row.
 -- Assumes nothing.
 use mathlib.Core.Path.{_≡_, _∙_, ap}
-use mathlib.Core.Bool.{Bool, true, false, _&&_}
+use mathlib.Core.Bool.{_&&_}
 use Prim.Native.Nat.{ℕ, _+_, _*_, _%_, _^_, _<_, _≤_}
 use native.Mathlib.Nat.{one-mul, mod-eq-of-lt}
+use native.Mathlib.Omega.{arith}
 use lib.Pow.{pow-lt}
 use lib.Dec.{T, leb, ltb, leb→le, ltb→lt}
 use Rattle.rows.specs.Table.{Row, table, rowAt, rowTotal}
@@ -32,6 +33,14 @@ good r t =
 pub row-good : (i : ℕ) → i < rowTotal → Good (rowAt i)
 unfolding table
 row-good i h = good (rowAt i) (below (λ (k : ℕ). rowGood (rowAt k)) rowTotal tt i h)
+
+-- the numbers of a row, as they were read
+module _ (i : ℕ) (h : i < rowTotal) where
+  pub low-small : {l : ℕ} → l ≡ rowAt i .low → l < 32
+  low-small e = rw e (let g = row-good i h in omega arith)
+
+  pub width-small : {d : ℕ} → d ≡ rowAt i .width → d < 32
+  width-small e = rw e (row-good i h .small)
 
 -- the machine's 1 << k is 2^k below 32 bits
 pub one-shl : (k : ℕ) → k < 32 → 1 * 2 ^ k % 4294967296 ≡ 2 ^ k

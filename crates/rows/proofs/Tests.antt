@@ -1,6 +1,6 @@
 -- From a computed test to the rule at each place.
 -- Assumes nothing.
-use mathlib.Core.Path.{_≡_, _∙_, refl, subst, sym}
+use mathlib.Core.Path.{_≡_, _∙_, subst, sym}
 use mathlib.Core.Bool.{Bool, true, false, _&&_}
 use Prim.Native.Nat.{ℕ, zero, suc, _+_, _<_, _≤_, zero-le}
 use lib.Arith.{lt-of-le-ne}

@@ -2,16 +2,16 @@
 -- composed number are the values.
 -- Assumes nothing.
 use mathlib.Core.Path.{_≡_, _∙_, refl, sym, ap, ap₂, subst}
-use mathlib.Core.Bool.{Bool, true, false, _&&_}
-use mathlib.Core.List.{List, [], _∷_, _++_, append-assoc}
-use Prim.Native.Nat.{ℕ, zero, suc, _+_, _*_, _/_, _%_, _^_, _<_, _≤_}
+use mathlib.Core.Bool.{_&&_}
+use mathlib.Core.List.{List, [], _∷_}
+use Prim.Native.Nat.{ℕ, _+_, _*_, _/_, _%_, _^_, _<_, _≤_}
 use native.Mathlib.Omega.{arith}
 use native.Mathlib.Nat.{add-mul, mul-assoc, mul-comm, mul-one, zero-mul, one-mul, div-one, div-eq-of-lt, mul-le-mul-right, add-assoc, zero-add, lt-of-le-of-lt}
 use native.Mathlib.Numerals.{add-one-le}
 use lib.Pow.{pow-pos, pow-add, shr-shr, split, high, low}
 use lib.Dec.{T, eqb, eqb→eq}
 use Rattle.rows.specs.Table.{Row}
-use Rattle.rows.specs.Fields.{fieldOf, valuesOf, composeOf}
+use Rattle.rows.specs.Fields.{valuesOf, composeOf}
 use Rattle.rows.specs.Covering.{rowGood, tiles}
 use Rattle.rows.proofs.Tests.{both-left, both-right}
 use Rattle.rows.proofs.Rows.{Good, good}

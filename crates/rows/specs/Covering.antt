@@ -1,11 +1,10 @@
 -- The rows cover each element's bits once, without gap or overlap, and admit only values that their fields can hold: as one test
 -- that is computed over the whole table.
--- Assumes nothing.
-use mathlib.Core.Bool.{Bool, true, false, cond, _&&_}
+use mathlib.Core.Bool.{Bool, true, cond, _&&_}
 use mathlib.Core.List.{List, [], _∷_}
 use Prim.Native.Nat.{ℕ, zero, suc, _+_, _*_, _^_}
 use lib.Dec.{leb, ltb, eqb}
-use Rattle.rows.specs.Table.{Row, rowAt, rowsFrom, rowTotal, numberAt, layouts}
+use Rattle.rows.specs.Table.{Row, rowsFrom, rowTotal, numberAt}
 use Rattle.rows.specs.declared.Layout.{Layout}
 
 -- a row's field is not empty, is within 32 bits, and can hold the values that it admits
@@ -25,11 +24,6 @@ allFrom test i (suc n) = test i && allFrom test (suc i) n
 -- the rows of a layout
 abbrev pub layoutRows : Layout → List Row
 layoutRows l = rowsFrom (l .first) (l .count)
-
--- at most n rows from row i on, as long as they bear a layout's number
-abbrev pub bearing : ℕ → ℕ → ℕ → List Row
-bearing number i zero = []
-bearing number i (suc n) = cond (eqb (numberAt i) number) (rowAt i ∷ bearing number (suc i) n) []
 
 -- a layout has at most 24 rows and 4 bytes; its rows bear its number and cover its bits
 abbrev pub layoutGood : Layout → Bool

@@ -1,11 +1,10 @@
 -- Element: fields from bit 0 up. A field's value by its row, the refusals 10 and 11, and the number that is made of values.
--- Assumes nothing.
 use mathlib.Core.Bool.{Bool, true, false, cond}
 use mathlib.Core.List.{List, [], _∷_, _++_}
-use Prim.Native.Nat.{ℕ, _+_, _-_, _*_, _/_, _%_, _^_}
+use Prim.Native.Nat.{ℕ, zero, suc, _+_, _-_, _*_, _/_, _%_, _^_}
 use lib.Dec.{leb, eqb}
 use lib.ListN.{length, replicate}
-use Rattle.rows.specs.Table.{Row}
+use Rattle.rows.specs.Table.{Row, rowAt, numberAt}
 use Rattle.rows.specs.declared.Refusal.{Refusal}
 use Rattle.rows.specs.declared.Field.{Field}
 use Rattle.rows.specs.declared.Finding.{Finding}
@@ -26,14 +25,19 @@ fieldRead w r =
     (Field.Refused (codeAt (cond (eqb (r .top) 0) 10 11) (r .low)))
 
 -- a refused field is passed up at once
-abbrev pub orElse : Field → Finding → Finding
-orElse (Field.Value v) rest = rest
-orElse (Field.Refused r) rest = Finding.Refused r
+abbrev pub onField : Field → Finding → Finding
+onField (Field.Value v) rest = rest
+onField (Field.Refused r) rest = Finding.Refused r
 
 -- the fields from bit 0 up: the first that is refused
 abbrev pub checkRows : ℕ → List Row → Finding
 checkRows w [] = Finding.Accepted
-checkRows w (r ∷ rs) = orElse (fieldRead w r) (checkRows w rs)
+checkRows w (r ∷ rs) = onField (fieldRead w r) (checkRows w rs)
+
+-- the rows that the check of a number goes through: at most n from row i on, as long as they bear a layout's number
+abbrev pub bearing : ℕ → ℕ → ℕ → List Row
+bearing number i zero = []
+bearing number i (suc n) = cond (eqb (numberAt i) number) (rowAt i ∷ bearing number (suc i) n) []
 
 abbrev pub valuesOf : ℕ → List Row → List ℕ
 valuesOf w [] = []
@@ -66,7 +70,7 @@ fieldsRead w rs =
 
 -- what is found of one field, and what a refused one leaves of them all
 abbrev pub findingOf : Field → Finding
-findingOf f = orElse f Finding.Accepted
+findingOf f = onField f Finding.Accepted
 
 abbrev pub refusedFields : Field → Fields
 refusedFields f = record { finding = findingOf f; values = replicate 24 0 }

@@ -1,6 +1,6 @@
 -- Every row of every layout, 107 rows of layout, lowest bit, width and highest admitted value (0: reserved), in one constant
 -- table; and the layouts, each with its number, its first row, how many, its width in bytes and whether bit 0 is DAT.
--- Written by catalogue/write.py. Assumes nothing.
+-- Written by catalogue/write.py.
 use mathlib.Core.Bool.{Bool, true, false}
 use mathlib.Core.List.{List, [], _∷_}
 use Prim.Native.Nat.{ℕ, zero, suc, _+_, _*_}

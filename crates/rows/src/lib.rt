@@ -4,8 +4,7 @@
 ghost use mathlib.Core.Path.{_≡_};
 ghost use Prim.Native.Nat.{_<_, _≤_, _+_, _-_, _*_};
 ghost use Rattle.rows.specs.Table.{table, rowTotal, cellAt, rowAt, rowsFrom};
-ghost use Rattle.rows.specs.Covering.{bearing};
-ghost use Rattle.rows.specs.Fields.{fieldRead, findingOf, checkRows, fieldsRead, refusedFields, composeOf};
+ghost use Rattle.rows.specs.Fields.{fieldRead, findingOf, checkRows, fieldsRead, refusedFields, composeOf, bearing};
 
 // A row each: layout, lowest bit, width, highest admitted value (0: reserved). Written by catalogue/write.py.
 const ROWS: [u8; 428] = [

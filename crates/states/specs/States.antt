@@ -1,5 +1,5 @@
 -- Each type's state from its fields' values in the rows' order, and a state's values (a reserved row's is 0).
--- Written by catalogue/write.py. Assumes nothing.
+-- Written by catalogue/write.py.
 use mathlib.Core.List.{List, [], _∷_}
 use Prim.Native.Nat.{ℕ}
 use lib.ListN.{getD}
@@ -19,7 +19,7 @@ use Rattle.states.specs.declared.GeneralNotices.{GeneralNotices}
 use Rattle.states.specs.declared.ControlBoundary.{ControlBoundary}
 use Rattle.states.specs.declared.Bits.{Bits}
 
--- the bits at the places where a type has one
+-- b3 is whether the value of row 3 is 1: for each place among the rows at which some type has a field of one bit
 abbrev pub bitsOf : List ℕ → Bits
 bitsOf vs = record {
   b0 = eqb (getD vs 0 0) 1;

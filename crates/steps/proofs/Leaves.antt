@@ -2,20 +2,22 @@
 -- Assumes nothing.
 use Prim.Native.Nat.{ℕ, _+_, _-_, _≤_, _<_}
 use native.Mathlib.Omega.{arith}
-use mathlib.Core.Path.{_≡_, refl, ap}
+use mathlib.Core.Path.{_≡_, refl, sym, ap, ap₂, _∙_}
 use mathlib.Core.Bool.{Bool, true, false, cond}
 use mathlib.Core.List.{List, [], _∷_, _++_, append-assoc}
 use lib.Dec.{eqb, leb}
 use lib.ListN.{length, take, drop, length-drop}
 use lib.Seq.{drop-drop}
 use borrow.Author.Tests.{eq-eqb, ne-eqb, le-leb, lt-leb, leb-true}
+use borrow.Rule.Slice.PartMut.{putMid, midOf}
 use Rattle.octets.specs.Octets.{bytes, number}
+use Rattle.octets.proofs.Writing.{start, append-put, filled}
 use Rattle.history.specs.declared.Change.{Change}
 use Rattle.history.specs.declared.Change.the-variants.{Keep as keep, Swap as swap}
 use Rattle.history.specs.Operations.{differ, fits, meets, joined, back}
 use Rattle.steps.specs.declared.Walk.{Walk}
 use Rattle.steps.specs.declared.Step.{Step}
-use Rattle.steps.specs.Steps.{span, entryBytes, changeAt, reach, stepOf, Stepped}
+use Rattle.steps.specs.Steps.{span, entryBytes, changeAt, reach, stepOf, Stepped, renewed}
 
 -- ---- an element at a cursor
 
@@ -65,6 +67,15 @@ span-room i w b = go (leb (2 + (w + w)) (length b)) (eqb (number (take 2 b)) i) 
     go true false e = omega arith
     go false u e = omega arith
 
+-- ---- an object in both lists
+
+module _ {c d : Change} {old mid mid′ new : ℕ} (e : c ≡ swap old mid) (f : d ≡ swap mid′ new) where
+  pub joined-both : {r : Change} → r ≡ differ old new → r ≡ joined c d
+  joined-both p = p ∙ sym (ap₂ joined e f)
+
+  pub meets-both : eqb mid mid′ ≡ meets c d
+  meets-both = sym (ap₂ meets e f)
+
 -- ---- the step
 
 near-room : (walk : Walk) (i w : ℕ) (f s : List ℕ) → stepOf walk i w f s .first ≤ length f
@@ -82,7 +93,7 @@ far-room Walk.Turn i w f s = omega arith
 far-room Walk.Apply i w f s = reach-room w s
 
 -- a step as defined leaves neither form
-pub stepped : {walk : Walk} {i w : ℕ} {f : List ℕ} {p : ℕ} {s : List ℕ} {q : ℕ} {r : Step} → p ≤ length f → q ≤ length s
+stepped : {walk : Walk} {i w : ℕ} {f : List ℕ} {p : ℕ} {s : List ℕ} {q : ℕ} {r : Step} → p ≤ length f → q ≤ length s
     → r ≡ stepOf walk i w (drop p f) (drop q s) → Stepped walk i w f p s q r
 stepped {walk} {i} {w} {f} {p} {s} {q} {r} h k e = record {
   is = e;
@@ -91,36 +102,67 @@ stepped {walk} {i} {w} {f} {p} {s} {q} {r} h k e = record {
 }
 
 -- each walk's step, from what its functions ensure
-module _ (walk : Walk) (i w : ℕ) (f s : List ℕ) where
-  pub difference-step : walk ≡ Walk.Difference → {m n a b : ℕ} {c : Change} → m ≡ reach w f → n ≡ reach w s → a ≡ number (take m f) → b ≡ number (take n s) → c ≡ differ a b
-      → _≡_ {A = Step} (record { change = c; agrees = true; first = m; second = n }) (stepOf walk i w f s)
+module _ {walk : Walk} {i w : ℕ} {f : List ℕ} {p : ℕ} {s : List ℕ} {q : ℕ} (h : p ≤ length f) (k : q ≤ length s) where
+  pub difference-step : walk ≡ Walk.Difference → {m n a b : ℕ} {c : Change}
+      → m ≡ reach w (drop p f) → n ≡ reach w (drop q s) → a ≡ number (take m (drop p f)) → b ≡ number (take n (drop q s)) → c ≡ differ a b
+      → Stepped walk i w f p s q (record { change = c; agrees = true; first = m; second = n })
   unfolding stepOf
-  difference-step t em en ea eb ec = rw (t, ec, ea, eb, em, en)
+  difference-step t em en ea eb ec = stepped h k (rw (t, ec, ea, eb, em, en))
 
-  module _ {c : Change} (ec : c ≡ changeAt i w f) where
-    pub join-step : walk ≡ Walk.Join → {d e : Change} {t : Bool} {m n : ℕ} → d ≡ changeAt i w s → e ≡ joined c d → t ≡ meets c d → m ≡ span w c → n ≡ span w d
-        → _≡_ {A = Step} (record { change = e; agrees = t; first = m; second = n }) (stepOf walk i w f s)
+  module _ {c : Change} (ec : c ≡ changeAt i w (drop p f)) where
+    pub join-step : walk ≡ Walk.Join → {d e : Change} {t : Bool} {m n : ℕ} → d ≡ changeAt i w (drop q s) → e ≡ joined c d → t ≡ meets c d → m ≡ span w c → n ≡ span w d
+        → Stepped walk i w f p s q (record { change = e; agrees = t; first = m; second = n })
     unfolding stepOf
-    join-step t ed ee et em en = rw (t, ee, et, em, en, ec, ed)
+    join-step t ed ee et em en = stepped h k (rw (t, ee, et, em, en, ec, ed))
 
     pub turn-step : walk ≡ Walk.Turn → {d : Change} {m : ℕ} → d ≡ back c → m ≡ span w c
-        → _≡_ {A = Step} (record { change = d; agrees = true; first = m; second = 0 }) (stepOf walk i w f s)
+        → Stepped walk i w f p s q (record { change = d; agrees = true; first = m; second = 0 })
     unfolding stepOf
-    turn-step t ed em = rw (t, ed, em, ec)
+    turn-step t ed em = stepped h k (rw (t, ed, em, ec))
 
-    pub apply-step : walk ≡ Walk.Apply → {t : Bool} {m n a : ℕ} → n ≡ reach w s → a ≡ number (take n s) → t ≡ fits c a → m ≡ span w c
-        → _≡_ {A = Step} (record { change = c; agrees = t; first = m; second = n }) (stepOf walk i w f s)
+    pub apply-step : walk ≡ Walk.Apply → {t : Bool} {m n a : ℕ} → n ≡ reach w (drop q s) → a ≡ number (take n (drop q s)) → t ≡ fits c a → m ≡ span w c
+        → Stepped walk i w f p s q (record { change = c; agrees = t; first = m; second = n })
     unfolding stepOf
-    apply-step t en ea et em = rw (t, et, em, ea, en, ec)
+    apply-step t en ea et em = stepped h k (rw (t, et, em, ea, en, ec))
 
--- ---- an entry as it is written
+-- ---- an element and an entry as they are written
 
-pub none : (xs : List ℕ) → length xs ≡ 0 → xs ≡ []
+pub renewed-put : (part : List ℕ) {ys : List ℕ} {old new : ℕ} {c : Change} → c ≡ swap old new → ys ≡ bytes (length part) new → ys ≡ renewed c part
+renewed-put part e p = p ∙ sym (ap (λ (d : Change). renewed d part) e)
+
+none : (xs : List ℕ) → length xs ≡ 0 → xs ≡ []
 none [] h = refl
 none (x ∷ xs) h = absurd (omega arith)
 
-pub entry-done : (i w old new : ℕ) → (([] ++ bytes 2 i) ++ bytes (2 + w - 2) old) ++ bytes (2 + w + w - (2 + w)) new ≡ entryBytes i w (swap old new)
+pub entry-kept : (part : List ℕ) (i w : ℕ) {c : Change} → length part ≡ span w c → c ≡ keep → part ≡ entryBytes i w c
+entry-kept part i w l e = none part (l ∙ ap (span w) e) ∙ sym (ap (entryBytes i w) e)
+
+entry-done : (i w old new : ℕ) → (([] ++ bytes 2 i) ++ bytes (2 + w - 2) old) ++ bytes (2 + w + w - (2 + w)) new ≡ entryBytes i w (swap old new)
 entry-done i w old new =
     let m : 2 + w - 2 ≡ w = omega arith in
     let n : 2 + w + w - (2 + w) ≡ w = omega arith in
     rw (m, n) (simp append-assoc)
+
+-- the number, the old and the new element, each where the one before it ends
+module _ (part : List ℕ) (w : ℕ) {old new : ℕ} {c : Change} (l : length part ≡ span w c) (e : c ≡ swap old new) where
+  long : length part ≡ 2 + (w + w)
+  long = l ∙ ap (span w) e
+
+  pub number-inside : 2 ≤ length part
+  number-inside = omega (arith, long)
+
+  -- the part keeps its length
+  pub old-inside : (b : List ℕ) → length b ≡ length part → 2 + w ≤ length b
+  old-inside b p = omega (arith, long)
+
+  pub new-inside : (b d : List ℕ) → length b ≡ length part → length d ≡ length b → 2 + w + w ≤ length d
+  new-inside b d p q = omega (arith, long)
+
+  pub entry-put : (i : ℕ) {xs ys zs : List ℕ} → xs ≡ bytes (length (midOf 0 2 part)) i → ys ≡ bytes (length (midOf 2 (2 + w - 2) (putMid 0 2 part xs))) old
+      → zs ≡ bytes (length (midOf (2 + w) (2 + w + w - (2 + w)) (putMid 2 (2 + w - 2) (putMid 0 2 part xs) ys))) new
+      → putMid (2 + w) (2 + w + w - (2 + w)) (putMid 2 (2 + w - 2) (putMid 0 2 part xs) ys) zs ≡ entryBytes i w c
+  entry-put i p q r =
+      let w₁ = append-put (start part) i 2 p (omega arith) number-inside in
+      let w₂ = append-put w₁ old (2 + w) q (omega arith) (omega (arith, long)) in
+      let w₃ = append-put w₂ new (2 + w + w) r (omega arith) (omega (arith, long)) in
+      filled w₃ (omega (arith, long)) ∙ entry-done i w old new ∙ sym (ap (entryBytes i w) e)

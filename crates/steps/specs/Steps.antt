@@ -1,6 +1,5 @@
 -- One object's step over two forms, on any bytes. A device between the code and the meaning, which is history's: the laws of the walks
 -- tie it to the meaning where the bytes are those of accepted forms.
--- Assumes nothing.
 use Prim.Native.Nat.{ℕ, _+_, _≤_}
 use mathlib.Core.Path.{_≡_}
 use mathlib.Core.Bool.{true, cond}
@@ -30,7 +29,7 @@ changeAt i w b =
     (cond (eqb (number (take 2 b)) i) (swap (number (take w (drop 2 b))) (number (take w (drop (2 + w) b)))) keep)
     keep
 
--- the first element of b, and the bytes that it takes: none where it is cut
+-- the bytes that the first element of b takes, none where it is cut; and the element
 unfoldable pub reach : ℕ → List ℕ → ℕ
 reach w b = cond (leb w (length b)) w 0
 
@@ -42,7 +41,7 @@ abbrev pub renewed : Change → List ℕ → List ℕ
 renewed keep b = b
 renewed (swap old new) b = bytes (length b) new
 
--- the step at object i, of width w, where f and s are left of the two forms
+-- the step at object i, of width w, where f and s are left of the two forms; of application f are entries and s elements
 unfoldable pub stepOf : Walk → ℕ → ℕ → List ℕ → List ℕ → Step
 stepOf Walk.Difference i w f s = record { change = differ (wordAt w f) (wordAt w s); agrees = true; first = reach w f; second = reach w s }
 stepOf Walk.Join i w f s = record {

@@ -1,6 +1,6 @@
 -- An entry but for repeats: each answer from the tests that lead there, and what an accepted entry says.
 -- Assumes nothing.
-use Prim.Native.Nat.{ℕ, _+_, _≤_, _<_}
+use Prim.Native.Nat.{ℕ, _+_, _-_, _≤_, _<_}
 use mathlib.Core.Path.{_≡_, sym, ap, _∙_}
 use mathlib.Core.List.{List}
 use mathlib.Core.Bool.{true, false, _&&_}
@@ -13,37 +13,43 @@ use Rattle.history.specs.Verdict.{done, numbers, told}
 use Rattle.elements.specs.Elements.{carried}
 use Rattle.history.specs.Table.{labelLimit, labelGood}
 use Rattle.history.proofs.VerdictLaws.{left, right, held}
-use Rattle.tables.specs.Places.{entryCheck}
+use Rattle.tables.specs.Places.{checkObjectAt}
 use Rattle.history.proofs.CodeLaws.{Coded, coded-unless, zero-told}
 
 module _ (b : List ℕ) (at k : ℕ) where
-  pub entry-cut : length b < at + 2 → numbers 8 65535 255 0 ≡ told (entryCheck b at k)
-  unfolding entryCheck told
-  entry-cut h = simp (lt-leb _ _ h)
+  pub entry-cut : length b - at < 2 → numbers 8 65535 255 0 ≡ told (checkObjectAt b at k)
+  unfolding checkObjectAt told
+  entry-cut h = simp (lt-leb (at + 2) (length b) (omega arith))
 
-  module _ (two : at + 2 ≤ length b) where
-    pub entry-type : carried (getD b 5 0) (getD b at 0) ≡ false → numbers 5 k 255 0 ≡ told (entryCheck b at k)
-    unfolding entryCheck told
-    entry-type h = simp (le-leb _ _ two, h)
+  module _ (two : 2 ≤ length b - at) where
+    both : leb (at + 2) (length b) ≡ true
+    both = le-leb (at + 2) (length b) (omega arith)
+
+    pub entry-type : carried (getD b 5 0) (getD b at 0) ≡ false → numbers 5 k 255 0 ≡ told (checkObjectAt b at k)
+    unfolding checkObjectAt told
+    entry-type h = simp (both, h)
 
     module _ (type : carried (getD b 5 0) (getD b at 0) ≡ true) (n : ℕ) (e : n ≡ getD b (at + 1) 0) where
-      pub entry-size : leb 1 n && leb n (labelLimit (getD b 4 0)) ≡ false → numbers 6 k 255 0 ≡ told (entryCheck b at k)
-      unfolding entryCheck told
-      entry-size h = rw (← e) (simp (le-leb _ _ two, type, h))
+      pub entry-size : leb 1 n && leb n (labelLimit (getD b 4 0)) ≡ false → numbers 6 k 255 0 ≡ told (checkObjectAt b at k)
+      unfolding checkObjectAt told
+      entry-size h = rw (← e) (simp (both, type, h))
 
       module _ (size : leb 1 n && leb n (labelLimit (getD b 4 0)) ≡ true) where
-        pub label-cut : length b < at + (2 + n) → numbers 8 65535 255 0 ≡ told (entryCheck b at k)
-        unfolding entryCheck told
-        label-cut h = rw (← e) (simp (le-leb _ _ two, type, size, lt-leb _ _ h))
+        pub label-cut : length b - at - 2 < n → numbers 8 65535 255 0 ≡ told (checkObjectAt b at k)
+        unfolding checkObjectAt told
+        label-cut h = rw (← e) (simp (both, type, size, lt-leb (at + (2 + n)) (length b) (omega arith)))
 
-        module _ (all : at + (2 + n) ≤ length b) where
-          pub label-bad : labelGood (take n (drop (at + 2) b)) ≡ false → numbers 6 k 255 0 ≡ told (entryCheck b at k)
-          unfolding entryCheck told
-          label-bad h = rw (← e) (simp (le-leb _ _ two, type, size, le-leb _ _ all, h))
+        module _ (rest : n ≤ length b - at - 2) where
+          all : leb (at + (2 + n)) (length b) ≡ true
+          all = le-leb (at + (2 + n)) (length b) (omega arith)
 
-          pub entry-good : labelGood (take n (drop (at + 2) b)) ≡ true → numbers 0 65535 255 0 ≡ told (entryCheck b at k)
-          unfolding entryCheck told
-          entry-good h = rw (← e) (simp (le-leb _ _ two, type, size, le-leb _ _ all, h))
+          pub label-bad : labelGood (take n (drop (at + 2) b)) ≡ false → numbers 6 k 255 0 ≡ told (checkObjectAt b at k)
+          unfolding checkObjectAt told
+          label-bad h = rw (← e) (simp (both, type, size, all, h))
+
+          pub entry-good : labelGood (take n (drop (at + 2) b)) ≡ true → numbers 0 65535 255 0 ≡ told (checkObjectAt b at k)
+          unfolding checkObjectAt told
+          entry-good h = rw (← e) (simp (both, type, size, all, h))
 
 -- what an accepted entry says
 pub record GoodEntry (b : List ℕ) (at : ℕ) : Type 0 where
@@ -53,8 +59,8 @@ pub record GoodEntry (b : List ℕ) (at : ℕ) : Type 0 where
   pub all : at + (2 + getD b (at + 1) 0) ≤ length b
   pub label : labelGood (take (getD b (at + 1) 0) (drop (at + 2) b)) ≡ true
 
-pub good-entry : (b : List ℕ) (at k : ℕ) {n : ℕ} → entryCheck b at k ≡ done n → GoodEntry b at
-unfolding entryCheck
+pub good-entry : (b : List ℕ) (at k : ℕ) {n : ℕ} → checkObjectAt b at k ≡ done n → GoodEntry b at
+unfolding checkObjectAt
 good-entry b at k e =
     let n : ℕ = getD b (at + 1) 0 in
     let p₁ = held (leb (at + 2) (length b)) _ _ _ _ e in
@@ -70,8 +76,8 @@ good-entry b at k e =
       label = p₅ .0;
     }
 
-entry-coded : (b : List ℕ) (at k : ℕ) → Coded (entryCheck b at k)
-unfolding entryCheck
+entry-coded : (b : List ℕ) (at k : ℕ) → Coded (checkObjectAt b at k)
+unfolding checkObjectAt
 entry-coded b at k =
     let n = getD b (at + 1) 0 in
     coded-unless _ _ _ (leb (at + 2) (length b)) _ (omega arith) (omega arith)
@@ -81,8 +87,15 @@ entry-coded b at k =
     (coded-unless _ _ _ (labelGood (take n (drop (at + 2) b))) _ (omega arith) (omega arith) tt))))
 
 -- an entry whose answer has code 0 is accepted
-pub entry-of : (a : Answer) (b : List ℕ) (at k : ℕ) → a ≡ told (entryCheck b at k) → a .code ≡ 0 → (n : ℕ) × (entryCheck b at k ≡ done n)
-entry-of a b at k e z = zero-told (entryCheck b at k) (entry-coded b at k) (ap (λ (x : Answer). x .code) (sym e) ∙ z)
+pub entry-of : (a : Answer) (b : List ℕ) (at k : ℕ) → a ≡ told (checkObjectAt b at k) → a .code ≡ 0 → (n : ℕ) × (checkObjectAt b at k ≡ done n)
+entry-of a b at k e z = zero-told (checkObjectAt b at k) (entry-coded b at k) (ap (λ (x : Answer). x .code) (sym e) ∙ z)
 
-pub good-of : (a : Answer) (b : List ℕ) (at k : ℕ) → a ≡ told (entryCheck b at k) → a .code ≡ 0 → GoodEntry b at
-good-of a b at k e z = good-entry b at k (entry-of a b at k e z .1)
+module _ (a : Answer) (b : List ℕ) (at k : ℕ) (e : a ≡ told (checkObjectAt b at k)) (z : a .code ≡ 0) where
+  good-of : GoodEntry b at
+  good-of = good-entry b at k (entry-of a b at k e z .1)
+
+  pub two-of : at + 2 ≤ length b
+  two-of = omega (arith, good-of)
+
+  pub end-of : (size : ℕ) → size ≡ 2 + getD b (at + 1) 0 → at + size ≤ length b
+  end-of size s = omega (arith, good-of)

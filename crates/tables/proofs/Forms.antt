@@ -1,9 +1,9 @@
 -- What the three forms share, by the tests that the code makes: whole, its version, and under X and Y.
 -- Assumes nothing.
-use Prim.Native.Nat.{ℕ, _-_}
+use Prim.Native.Nat.{ℕ, _+_, _-_, _≤_}
 use native.Mathlib.Omega.{arith}
-use mathlib.Core.Path.{_≡_, refl, ap, _∙_}
-use mathlib.Core.Bool.{Bool, true, false}
+use mathlib.Core.Path.{_≡_, refl}
+use mathlib.Core.Bool.{Bool, true, false, not}
 use mathlib.Core.List.{List}
 use lib.Dec.{eqb}
 use lib.ListN.{length, take, drop, getD, length-drop}
@@ -11,7 +11,13 @@ use lib.Seq.{take-all}
 use borrow.Author.Tests.{eq-eqb, ne-eqb}
 use Rattle.history.specs.Verdict.{Verdict, done, then, refusal, _unless_⨾_}
 use Rattle.history.specs.Form.{Form, isWhole, readForm}
+use Rattle.history.proofs.FormLaws.{whole}
 use Rattle.tables.specs.Under.{isUnder}
+use Rattle.tables.proofs.AnswerLaws.{yes}
+
+-- how long a form is that passed the first test
+pub long-enough : {t : Bool} (least : ℕ) (b : List ℕ) → t ≡ isWhole least b → not t ≡ false → (n : ℕ) → n ≤ 4 + least → n ≤ length b
+long-enough least b e h n l = omega (arith, whole least b (yes e h) .long)
 
 module _ (x y : ℕ) (b : List ℕ) where
   pub other-x : (getD b 5 0 ≡ x → ⊥) → isUnder x y b ≡ false

@@ -14,7 +14,7 @@ use borrow.Author.Tests.{le-leb, lt-leb, leb-true, leb-false, eq-eqb, ne-eqb, eq
 use Rattle.history.specs.Verdict.{Verdict, done, then, refusal, refusalAt, _unless_⨾_}
 use Rattle.elements.specs.Elements.{carried}
 use Rattle.history.specs.Table.{Object, ObjectEntry, objectAt, labelLimit, labelGood, sameObject, repeats, checkObject, readObjects}
-use Rattle.tables.specs.Places.{placeOf, entryCheck}
+use Rattle.tables.specs.Places.{placeOf, checkObjectAt}
 use Rattle.tables.proofs.AnswerLaws.{then-same}
 use Rattle.tables.proofs.EntryLaws.{good-entry}
 
@@ -35,7 +35,7 @@ repeatsBelow b k (suc j) = sameObject (objectOf b j) (objectOf b k) || repeatsBe
 unfoldable pub entriesCheck : List ℕ → ℕ → ℕ → Verdict (List Object)
 entriesCheck b zero k = refusal 8 unless eqb (placeOf b k) (length b) ⨾ done (objectsBelow b k)
 entriesCheck b (suc n) k =
-    then (entryCheck b (placeOf b k) k) λ next.
+    then (checkObjectAt b (placeOf b k) k) λ next.
     refusalAt 7 k unless not (repeatsBelow b k k) ⨾
     entriesCheck b n (suc k)
 
@@ -53,16 +53,20 @@ place-more : (b : List ℕ) (j n : ℕ) → placeOf b j ≤ placeOf b (j + n)
 place-more b j zero = rw add-zero (le-refl _)
 place-more b j (suc n) = rw add-suc (omega (arith, place-more b j n, place-suc b (j + n)))
 
-pub place-le : (b : List ℕ) (j k : ℕ) → j ≤ k → placeOf b j ≤ placeOf b k
+place-le : (b : List ℕ) (j k : ℕ) → j ≤ k → placeOf b j ≤ placeOf b k
 place-le b j k h = let e : j + (k - j) ≡ k = omega arith in rw e at (place-more b j (k - j))
 
-pub place-nine : (b : List ℕ) (k : ℕ) → 9 ≤ placeOf b k
+pub place-nine : (b : List ℕ) (k at : ℕ) → at ≡ placeOf b k → 9 ≤ at
 unfolding placeOf
-place-nine b k = place-le b 0 k (omega arith)
+place-nine b k at e = omega (arith, place-le b 0 k (omega arith))
 
--- the next place, as the code has it
-pub place-next : (b : List ℕ) (k at : ℕ) → at ≡ placeOf b k → at + (2 + getD b (at + 1) 0) ≡ placeOf b (k + 1)
-place-next b k at e = rw (e, add-one k, place-suc)
+-- the next place, by the entry's size as the code has it
+pub place-next : (b : List ℕ) (k at size : ℕ) → at ≡ placeOf b k → size ≡ 2 + getD b (at + 1) 0 → at + size ≡ placeOf b (k + 1)
+place-next b k at size e e′ = rw (e′, e, add-one k, place-suc)
+
+-- an earlier entry ends before a later one begins
+pub place-before : (b : List ℕ) (j k was at size : ℕ) → j < k → was ≡ placeOf b j → at ≡ placeOf b k → size ≡ 2 + getD b (was + 1) 0 → was + size ≤ at
+place-before b j k was at size h ej ek e = omega (arith, place-next b j was size ej e, place-le b (j + 1) k (omega arith))
 
 -- ---- tests on what is left are tests on the whole
 
@@ -135,8 +139,8 @@ module _ (b : List ℕ) where
 
   entry-checked : (k : ℕ) → placeOf b k ≤ length b → (f : ObjectEntry → Verdict (List Object))
       → then (checkObject version catalogue (objectsBelow b k) (drop (placeOf b k) b) (objectAt (drop (placeOf b k) b))) f
-      ≡ then (entryCheck b (placeOf b k) k) (λ next. refusalAt 7 k unless not (repeatsBelow b k k) ⨾ f (here k))
-  unfolding checkObject entryCheck
+      ≡ then (checkObjectAt b (placeOf b k) k) (λ next. refusalAt 7 k unless not (repeatsBelow b k k) ⨾ f (here k))
+  unfolding checkObject checkObjectAt
   entry-checked k inside f =
       let c : List ℕ = drop (placeOf b k) b in
       let n : ℕ = getD b (placeOf b k + 1) 0 in
@@ -150,6 +154,6 @@ module _ (b : List ℕ) where
   entries-read zero k h = ap (λ (t : Bool). refusal 8 unless t ⨾ done (objectsBelow b k)) (eqb-drop (placeOf b k) b h)
   entries-read (suc n) k h =
       entry-checked k h (λ e. readObjects version catalogue (objectsBelow b k ++ (e .object ∷ [])) n (e .rest))
-      ∙ then-same (entryCheck b (placeOf b k) k) _ _ (λ next e.
+      ∙ then-same (checkObjectAt b (placeOf b k) k) _ _ (λ next e.
       ap (λ (v : Verdict (List Object)). refusalAt 7 k unless not (repeatsBelow b k k) ⨾ v)
       (entries-read n (suc k) (rw (place-suc b k) (good-entry b (placeOf b k) k e .all))))

@@ -17,10 +17,10 @@ use Rattle.history.specs.declared.Answer.{Answer}
 use Rattle.history.specs.Verdict.{Verdict, refused, done, told}
 use Rattle.history.specs.Table.{Object, Table, planOf}
 use Rattle.history.specs.Calls.{tableCall, readPlan}
-use Rattle.tables.specs.Places.{countIn, placeOf}
-use Rattle.tables.specs.Outlines.{kindsOf, planAs, layoutsIn, outlineOf, Outlined}
-use Rattle.tables.proofs.PlaceLaws.{objectOf, objectsBelow, length-below, place-next}
-use Rattle.tables.proofs.TableLaws.{Accepted, accepted, table-of}
+use Rattle.tables.specs.Places.{countIn}
+use Rattle.tables.specs.Outlines.{kindsOf, layoutsIn, outlineOf, Outlined}
+use Rattle.tables.proofs.PlaceLaws.{objectOf, objectsBelow, length-below}
+use Rattle.tables.proofs.TableLaws.{Accepted, accepted, table-of, Stands, stands-first, stands-next}
 
 -- ---- numbers and kinds
 
@@ -51,33 +51,30 @@ module _ (b : List ℕ) where
       ap (map layoutNo) (map-append kind (objectsBelow b k) (objectOf b k ∷ []))
       ∙ map-append layoutNo (map kind (objectsBelow b k)) (kind (objectOf b k) ∷ [])
 
--- what the loop keeps: the place, and the numbers so far
+-- what the loop keeps: the cursor's place, and the numbers so far
 pub record Filling (b : List ℕ) (count : ℕ) (kinds : List ℕ) (i at : ℕ) : Type 0 where
   pub long : 9 ≤ length b
-  pub bound : i ≤ count
   pub few : count ≤ 1024
-  pub place : at ≡ placeOf b i
+  pub stands : Stands b count i at
   pub so-far : kinds ≡ filled 1024 (layoutsBelow b i)
 
 pub begin : (b : List ℕ) (count : ℕ) → told (tableCall b) .code ≡ 0 → count ≡ countIn b → Filling b count (replicate 1024 0) 0 9
-unfolding placeOf
 begin b count z e =
     let a = accepted b (table-of b z .1) in
-    record { long = a .long; bound = omega arith; few = omega (arith, a .few); place = refl; so-far = refl }
+    record { long = a .long; few = omega (arith, a .few); stands = stands-first b count z (omega arith); so-far = refl }
 
 pub turn : {b : List ℕ} {count : ℕ} {kinds : List ℕ} {i at : ℕ} → Filling b count kinds i at → i < count → (n : ℕ) → n ≡ layoutNo (kindOf (getD b 5 0) (getD b at 0))
-    → (m : ℕ) → m ≡ 2 + getD b (at + 1) 0 → Filling b count (set kinds i n) (i + 1) (at + m)
-turn {b} {count} {kinds} {i} {at} f h n e m e′ =
+    → (size : ℕ) → size ≡ 2 + getD b (at + 1) 0 → Filling b count (set kinds i n) (i + 1) (at + size)
+turn {b} {count} {kinds} {i} {at} f h n e size e′ =
     let l = layouts-length b i in
     record {
       long = f .long;
-      bound = omega arith;
       few = f .few;
-      place = omega (arith, place-next b i at (f .place));
+      stands = stands-next (f .stands) h size e′;
       so-far =
           ap₂ (λ (ks : List ℕ) (k : ℕ). set ks k n) (f .so-far) (sym l)
           ∙ fill-store 1024 (layoutsBelow b i) n (omega (arith, f .few))
-          ∙ ap (λ (n : ℕ). filled 1024 (layoutsBelow b i ++ (n ∷ []))) (e ∙ ap (λ (p : ℕ). layoutNo (kindOf (getD b 5 0) (getD b p 0))) (f .place))
+          ∙ ap (λ (n : ℕ). filled 1024 (layoutsBelow b i ++ (n ∷ []))) (e ∙ ap (λ (p : ℕ). layoutNo (kindOf (getD b 5 0) (getD b p 0))) (f .stands .place))
           ∙ ap (filled 1024) (sym (layouts-next b i) ∙ ap (layoutsBelow b) (sym (add-one i)));
     }
 
@@ -90,7 +87,7 @@ pub all-filled : {b : List ℕ} {count : ℕ} {kinds : List ℕ} {i at : ℕ} �
     → kinds ≡ layoutsIn (tableCall b)
 all-filled {b} {count} {kinds} {i} {at} f h e z =
     let t = table-of b z in
-    let i-is : i ≡ countIn b = omega (arith, f .bound) in
+    let i-is : i ≡ countIn b = omega (arith, f .stands .bound) in
     f .so-far ∙ ap (λ (k : ℕ). filled 1024 (layoutsBelow b k)) i-is ∙ layouts-are b (accepted b (t .1)) ∙ ap layoutsIn (sym (t .1))
 
 -- ---- the outline

@@ -6,44 +6,31 @@ use native.Mathlib.Nat.{add-zero, add-suc}
 use native.Mathlib.Numerals.{add-one}
 use mathlib.Core.Path.{_≡_, refl, sym, ap, _∙_}
 use mathlib.Core.Bool.{Bool, true, false, or-true}
-use mathlib.Core.List.{List, [], _∷_}
+use mathlib.Core.List.{List}
 use lib.Dec.{eqb}
 use lib.ListN.{length, getD, take, drop, length-drop}
 use lib.Seq.{ext-getD, getD-take, getD-drop, length-take-le}
+use borrow.Author.Count.{below-none, below-more}
 use borrow.Author.Tests.{eq-eqb, eqb-true}
-use Rattle.octets.specs.Octets.{sameBytes}
 use Rattle.history.specs.Table.{sameObject}
 use Rattle.history.proofs.VerdictLaws.{all, left, right}
+use Rattle.history.proofs.TableLaws.{same-refl, same-eq}
 use Rattle.tables.specs.Places.{placeOf}
-use Rattle.tables.proofs.PlaceLaws.{objectOf, repeatsBelow}
-
--- equal lists
-same-refl : (l : List ℕ) → sameBytes l l ≡ true
-same-refl [] = refl
-same-refl (x ∷ l) = all (eq-eqb x x refl) (same-refl l)
-
-same-eq : (l m : List ℕ) → sameBytes l m ≡ true → l ≡ m
-same-eq [] [] h = refl
-same-eq [] (y ∷ m) h = let z : _≡_ {A = ℕ} 0 1 = cc in absurd (omega arith)
-same-eq (x ∷ l) [] h = let z : _≡_ {A = ℕ} 0 1 = cc in absurd (omega arith)
-same-eq (x ∷ l) (y ∷ m) h =
-    let e = eqb-true x y (left (eqb x y) (sameBytes l m) h) in
-    let f = same-eq l m (right (eqb x y) (sameBytes l m) h) in
-    cc
+use Rattle.tables.proofs.PlaceLaws.{objectOf, repeatsBelow, place-before}
 
 -- ---- the search
 
 abbrev same : List ℕ → ℕ → ℕ → Bool
 same b j k = sameObject (objectOf b j) (objectOf b k)
 
-pub repeats-not : (b : List ℕ) (k j : ℕ) → repeatsBelow b k j ≡ false → same b j k ≡ false → repeatsBelow b k (j + 1) ≡ false
+repeats-not : (b : List ℕ) (k j : ℕ) → repeatsBelow b k j ≡ false → same b j k ≡ false → repeatsBelow b k (j + 1) ≡ false
 repeats-not b k j h n = rw (add-one j, n) h
 
 repeats-more : (b : List ℕ) (k j n : ℕ) → repeatsBelow b k j ≡ true → repeatsBelow b k (j + n) ≡ true
 repeats-more b k j zero h = rw add-zero h
 repeats-more b k j (suc n) h = rw (add-suc, repeats-more b k j n h, or-true)
 
-pub repeats-yes : (b : List ℕ) (k j : ℕ) → j < k → same b j k ≡ true → repeatsBelow b k k ≡ true
+repeats-yes : (b : List ℕ) (k j : ℕ) → j < k → same b j k ≡ true → repeatsBelow b k k ≡ true
 repeats-yes b k j h e =
     let f : suc j + (k - suc j) ≡ k = omega arith in
     let g : repeatsBelow b k (suc j) ≡ true = rw e in
@@ -78,17 +65,28 @@ module _ (b : List ℕ) (p q n : ℕ) where
       let e₂ : q + suc (suc y) ≡ q + 2 + y = omega arith in
       rw (e₁, e₂) (sym (part-at b (p + 2) n y (omega arith)) ∙ ap (λ (z : List ℕ). getD z y 0) l ∙ part-at b (q + 2) n y (omega arith))
 
+-- the bytes from p and from q on are the same up to byte i
+pub record Agree (b : List ℕ) (p q i : ℕ) : Type 0 where
+  pub each : (x : ℕ) → x < i → getD b (p + x) 0 ≡ getD b (q + x) 0
+
+pub agree-none : (b : List ℕ) (p q : ℕ) → Agree b p q 0
+agree-none b p q = record { each = below-none _ }
+
+pub agree-more : {b : List ℕ} {p q i : ℕ} → Agree b p q i → getD b (p + i) 0 ≡ getD b (q + i) 0 → Agree b p q (i + 1)
+agree-more {b} {p} {q} {i} a e = record { each = below-more _ i (a .each) e }
+
 -- entries j and k, of which k's is size bytes long, compared from the first byte up to byte i
 module _ (b : List ℕ) (j k was at size i : ℕ) (ej : was ≡ placeOf b j) (ek : at ≡ placeOf b k)
     (es : size ≡ 2 + getD b (at + 1) 0) (le : was ≤ at) (fits : at + size ≤ length b) where
-  pub same-yes : ((x : ℕ) → x < i → getD b (was + x) 0 ≡ getD b (at + x) 0) → i ≡ size → same b j k ≡ true
-  same-yes h e =
+  same-yes : Agree b was at i → i ≡ size → same b j k ≡ true
+  same-yes a e =
+      let h = a .each in
       let t : getD b was 0 ≡ getD b at 0 = rw (add-zero was, add-zero at) at (h 0 (omega arith)) in
       let n : getD b (was + 1) 0 ≡ getD b (at + 1) 0 = h 1 (omega arith) in
       let l = same-part b was at (getD b (at + 1) 0) (omega arith) (omega arith) (λ x hx. h x (omega arith)) in
       rw (← ej, ← ek, n, l) (all (eq-eqb (getD b was 0) (getD b at 0) t) (same-refl (take (getD b (at + 1) 0) (drop (at + 2) b))))
 
-  pub same-no : was + (2 + getD b (was + 1) 0) ≤ length b → i < size → (getD b (was + i) 0 ≡ getD b (at + i) 0 → ⊥) → same b j k ≡ false
+  same-no : was + (2 + getD b (was + 1) 0) ≤ length b → i < size → (getD b (was + i) 0 ≡ getD b (at + i) 0 → ⊥) → same b j k ≡ false
   same-no fj hi d = go _ refl
     where
       go : (t : Bool) → same b j k ≡ t → t ≡ false
@@ -99,3 +97,9 @@ module _ (b : List ℕ) (j k was at size i : ℕ) (ej : was ≡ placeOf b j) (ek
           let m : getD b (was + 1) 0 ≡ getD b (at + 1) 0 =
           sym (part-length b (was + 2) (getD b (was + 1) 0) (omega arith)) ∙ ap length l ∙ part-length b (at + 2) (getD b (at + 1) 0) (omega arith) in
           absurd (d (same-at b was at (getD b (at + 1) 0) (eqb-true (getD b was 0) (getD b at 0) (left (eqb (getD b was 0) (getD b at 0)) _ f)) m (rw m at l) i (omega arith)))
+
+  pub repeats-here : j < k → Agree b was at i → i ≡ size → repeatsBelow b k k ≡ true
+  repeats-here lt a e = repeats-yes b k j lt (same-yes a e)
+
+  pub repeats-later : j < k → repeatsBelow b k j ≡ false → i < size → (getD b (was + i) 0 ≡ getD b (at + i) 0 → ⊥) → repeatsBelow b k (j + 1) ≡ false
+  repeats-later lt h hi d = repeats-not b k j h (same-no (omega (arith, place-before b j k was at _ lt ej ek refl)) hi d)

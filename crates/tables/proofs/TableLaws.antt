@@ -4,7 +4,7 @@ use Prim.Native.Nat.{ℕ, zero, suc, _+_, _≤_, _<_}
 use native.Mathlib.Omega.{arith}
 use native.Mathlib.Nat.{add-zero, eq-or-lt-of-le}
 use mathlib.Core.Path.{_≡_, refl, sym, ap, _∙_}
-use mathlib.Core.Bool.{Bool, true, false, not}
+use mathlib.Core.Bool.{true, false, not}
 use mathlib.Core.List.{List}
 use mathlib.Core.Logic.{⊎-elim}
 use lib.Dec.{eqb, leb}
@@ -18,12 +18,12 @@ use Rattle.history.specs.Table.{Object, Table, versionGood, catalogueGood, read
 use Rattle.history.specs.Calls.{tableCall}
 use Rattle.history.proofs.FormLaws.{whole}
 use Rattle.history.proofs.VerdictLaws.{held, used}
-use Rattle.tables.specs.Places.{countIn, placeOf, entryCheck, entriesIn}
+use Rattle.tables.specs.Places.{countIn, placeOf, checkObjectAt, entriesIn}
 use Rattle.history.proofs.CodeLaws.{table-call-coded, zero-told}
 use Rattle.tables.proofs.AnswerLaws.{told-then}
 use Rattle.tables.proofs.Forms.{form-then}
 use Rattle.tables.proofs.EntryLaws.{GoodEntry, good-entry}
-use Rattle.tables.proofs.PlaceLaws.{objectsBelow, repeatsBelow, entriesCheck, length-below}
+use Rattle.tables.proofs.PlaceLaws.{objectsBelow, repeatsBelow, entriesCheck, length-below, place-next}
 use Rattle.tables.proofs.TurnLaws.{entries-are}
 
 -- a table of these bytes' head
@@ -52,12 +52,6 @@ module _ (b : List ℕ) where
   table-1 h = rw (in-order, h)
 
   module _ (w : isWhole 5 b ≡ true) where
-    pub nine : 9 ≤ length b
-    nine = whole 5 b w .long
-
-    pub inside : (i : ℕ) → i < 9 → i < length b
-    inside i h = omega (arith, nine)
-
     pub table-2 : versionGood (getD b 4 0) ≡ false → numbers 2 65535 255 0 ≡ told (tableCall b)
     unfolding told
     table-2 h = rw (in-order, w, h)
@@ -93,7 +87,7 @@ good-run b zero k {os} h =
       objects = let e : os ≡ objectsBelow b k = cc (p .1) in e ∙ ap (objectsBelow b) (sym (add-zero k));
     }
 good-run b (suc n) k h =
-    let p = used (entryCheck b (placeOf b k) k) _ h in
+    let p = used (checkObjectAt b (placeOf b k) k) _ h in
     let q = held (not (repeatsBelow b k k)) _ _ _ _ (p .2) in
     let r = good-run b n (suc k) (q .1) in
     let e : k + suc n ≡ suc k + n = omega arith in
@@ -143,6 +137,35 @@ table-of b = zero-told (tableCall b) (table-call-coded b)
 -- an entry of an accepted table, at its place
 pub entry-at : (b : List ℕ) → told (tableCall b) .code ≡ 0 → (k at : ℕ) → at ≡ placeOf b k → k < countIn b → GoodEntry b at
 entry-at b z k at e l = rw e (accepted b (table-of b z .1) .each k l)
+
+-- a cursor on the way through the first n entries: at entry k, or behind the last
+pub record Stands (b : List ℕ) (n k at : ℕ) : Type 0 where
+  pub good : told (tableCall b) .code ≡ 0
+  pub few : n ≤ countIn b
+  pub bound : k ≤ n
+  pub place : at ≡ placeOf b k
+  pub inside : at ≤ length b
+
+pub stands-first : (b : List ℕ) (n : ℕ) → told (tableCall b) .code ≡ 0 → n ≤ countIn b → Stands b n 0 9
+unfolding placeOf
+stands-first b n z h = record { good = z; few = h; bound = omega arith; place = refl; inside = accepted b (table-of b z .1) .long }
+
+module _ {b : List ℕ} {n k at : ℕ} (s : Stands b n k at) where
+  pub stands-last : n ≤ k → at ≡ placeOf b n
+  stands-last h = let e : k ≡ n = omega arith in s .place ∙ ap (placeOf b) e
+
+  module _ (h : k < n) where
+    entry-there : GoodEntry b at
+    entry-there = entry-at b (s .good) k at (s .place) (omega arith)
+
+    pub two-there : at + 2 ≤ length b
+    two-there = omega (arith, entry-there)
+
+    pub type-there : at < length b
+    type-there = omega (arith, entry-there)
+
+    pub stands-next : (size : ℕ) → size ≡ 2 + getD b (at + 1) 0 → Stands b n (k + 1) (at + size)
+    stands-next size e = record { good = s .good; few = s .few; bound = omega arith; place = place-next b k at size (s .place) e; inside = omega (arith, entry-there) }
 
 -- what is known past a table's check
 module _ (a : Answer) (b : List ℕ) (e : a ≡ told (tableCall b)) (z : a .code ≡ 0) where

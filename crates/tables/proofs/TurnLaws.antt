@@ -1,57 +1,118 @@
--- The loop over the entries, a turn at a time: the answer for the whole is the answer for what is left.
+-- The loop over the entries, and in it the search among the earlier ones, a turn at a time: the answer for the whole is that for what is left.
 -- Assumes nothing.
 use Prim.Native.Nat.{ℕ, zero, suc, _+_, _-_, _≤_, _<_}
 use native.Mathlib.Omega.{arith}
 use native.Mathlib.Nat.{sub-zero}
 use native.Mathlib.Numerals.{add-one}
-use mathlib.Core.Path.{_≡_, sym, ap, ap₂, _∙_}
-use mathlib.Core.Bool.{true, false, not}
+use mathlib.Core.Path.{_≡_, refl, sym, ap, ap₂, _∙_}
+use mathlib.Core.Bool.{false, not}
 use mathlib.Core.List.{List}
-use lib.ListN.{length}
+use lib.ListN.{length, getD}
 use borrow.Author.Tests.{eq-eqb, ne-eqb}
 use Rattle.history.specs.declared.Answer.{Answer}
-use Rattle.history.specs.Verdict.{Verdict, done, then, refusalAt, _unless_⨾_, numbers, told}
-use Rattle.tables.specs.Places.{placeOf, entryCheck, entriesIn}
+use Rattle.history.specs.Verdict.{Verdict, then, refusalAt, _unless_⨾_, numbers, told}
+use Rattle.tables.specs.Places.{placeOf, checkObjectAt, entriesIn}
 use Rattle.tables.proofs.AnswerLaws.{told-first}
-use Rattle.tables.proofs.PlaceLaws.{repeatsBelow, entriesCheck, entries-read}
+use Rattle.tables.proofs.EntryLaws.{entry-of, end-of}
+use Rattle.tables.proofs.PlaceLaws.{repeatsBelow, entriesCheck, entries-read, place-nine, place-next, place-before}
+use Rattle.tables.proofs.RepeatLaws.{Agree, repeats-here, repeats-later}
 
 pub entries-are : (b : List ℕ) (count : ℕ) → 9 ≤ length b → entriesIn b count ≡ entriesCheck b count 0
 unfolding entriesIn placeOf
 entries-are b count h = entries-read b count 0 h
 
-pub begin : (b : List ℕ) (count : ℕ) → 9 ≤ length b → entriesIn b count ≡ entriesCheck b (count - 0) 0
-begin b count h = entries-are b count h ∙ ap (λ (n : ℕ). entriesCheck b n 0) (sym (sub-zero count))
+-- k entries are passed, and the cursor stands behind them
+pub record Walking (b : List ℕ) (count k at : ℕ) : Type 0 where
+  pub bound : k ≤ count
+  pub place : at ≡ placeOf b k
+  pub inside : at ≤ length b
+  pub left : entriesIn b count ≡ entriesCheck b (count - k) k
 
-module _ (b : List ℕ) (count k at : ℕ) (lt : k < count) (ek : at ≡ placeOf b k) (inv : entriesIn b count ≡ entriesCheck b (count - k) k) where
-  turn : entriesIn b count ≡ then (entryCheck b at k) (λ next. refusalAt 7 k unless not (repeatsBelow b k k) ⨾ entriesCheck b (count - (k + 1)) (k + 1))
-  unfolding entriesCheck
-  turn =
-      let e : count - k ≡ suc (count - (k + 1)) = omega arith in
-      inv ∙ ap (λ (n : ℕ). entriesCheck b n k) e
-      ∙ ap₂ (λ (p m : ℕ). then (entryCheck b p k) (λ next. refusalAt 7 k unless not (repeatsBelow b k k) ⨾ entriesCheck b (count - (k + 1)) m)) (sym ek) (sym (add-one k))
+pub walk-begins : (b : List ℕ) (count : ℕ) → 9 ≤ length b → Walking b count 0 9
+unfolding placeOf
+walk-begins b count h = record { bound = omega arith; place = refl; inside = h; left = entries-are b count h ∙ ap (λ (n : ℕ). entriesCheck b n 0) (sym (sub-zero count)) }
 
-  pub turn-refused : (a : Answer) → a ≡ told (entryCheck b at k) → (a .code ≡ 0 → ⊥) → a ≡ told (entriesIn b count)
-  turn-refused a e n = e ∙ told-first (entryCheck b at k) _ (λ z. n (ap (λ (x : Answer). x .code) e ∙ z)) ∙ ap told (sym turn)
+-- the entry at the cursor is good but for repeats, and j earlier ones are unlike it; the next of these is at was
+pub record Searching (b : List ℕ) (count k at size j was : ℕ) : Type 0 where
+  pub walking : Walking b count k at
+  pub more : k < count
+  pub good : told (checkObjectAt b at k) .code ≡ 0
+  pub size-is : size ≡ 2 + getD b (at + 1) 0
+  pub fits : at + size ≤ length b
+  pub passed : j ≤ k
+  pub earlier : was ≡ placeOf b j
+  pub before : was ≤ at
+  pub unlike : repeatsBelow b k j ≡ false
 
-  module _ (next : ℕ) (good : entryCheck b at k ≡ done next) where
-    after : entriesIn b count ≡ (refusalAt 7 k unless not (repeatsBelow b k k) ⨾ entriesCheck b (count - (k + 1)) (k + 1))
-    after = turn ∙ ap (λ (v : Verdict ℕ). then v (λ next. refusalAt 7 k unless not (repeatsBelow b k k) ⨾ entriesCheck b (count - (k + 1)) (k + 1))) good
+module _ {b : List ℕ} {count k at : ℕ} (w : Walking b count k at) where
+  module _ (more : k < count) where
+    turn : entriesIn b count ≡ then (checkObjectAt b at k) (λ next. refusalAt 7 k unless not (repeatsBelow b k k) ⨾ entriesCheck b (count - (k + 1)) (k + 1))
+    unfolding entriesCheck
+    turn =
+        let e : count - k ≡ suc (count - (k + 1)) = omega arith in
+        w .left ∙ ap (λ (n : ℕ). entriesCheck b n k) e
+        ∙ ap₂ (λ (p m : ℕ). then (checkObjectAt b p k) (λ next. refusalAt 7 k unless not (repeatsBelow b k k) ⨾ entriesCheck b (count - (k + 1)) m)) (sym (w .place)) (sym (add-one k))
 
-    pub turn-repeat : repeatsBelow b k k ≡ true → numbers 7 k 255 0 ≡ told (entriesIn b count)
+    module _ (a : Answer) (e : a ≡ told (checkObjectAt b at k)) where
+      pub walk-stops : (a .code ≡ 0 → ⊥) → a ≡ told (entriesIn b count)
+      walk-stops n = e ∙ told-first (checkObjectAt b at k) _ (λ z. n (ap (λ (x : Answer). x .code) e ∙ z)) ∙ ap told (sym turn)
+
+      pub search-begins : a .code ≡ 0 → (size : ℕ) → size ≡ 2 + getD b (at + 1) 0 → Searching b count k at size 0 9
+      unfolding placeOf
+      search-begins z size s = record {
+        walking = w;
+        more = more;
+        good = ap (λ (x : Answer). x .code) (sym e) ∙ z;
+        size-is = s;
+        fits = end-of a b at k e z size s;
+        passed = omega arith;
+        earlier = refl;
+        before = place-nine b k at (w .place);
+        unlike = refl;
+      }
+
+  module _ (le : count ≤ k) where
+    none : entriesIn b count ≡ entriesCheck b zero k
+    none = let e : count - k ≡ zero = omega arith in w .left ∙ ap (λ (n : ℕ). entriesCheck b n k) e
+
+    pub end-over : (at ≡ length b → ⊥) → numbers 8 65535 255 0 ≡ told (entriesIn b count)
+    unfolding entriesCheck told
+    end-over n = rw (none, ← w .place, ne-eqb _ _ n)
+
+    pub end-good : at ≡ length b → numbers 0 65535 255 0 ≡ told (entriesIn b count)
+    unfolding entriesCheck told
+    end-good e = rw (none, ← w .place, eq-eqb _ _ e)
+
+module _ {b : List ℕ} {count k at size j was : ℕ} (s : Searching b count k at size j was) where
+  after : entriesIn b count ≡ (refusalAt 7 k unless not (repeatsBelow b k k) ⨾ entriesCheck b (count - (k + 1)) (k + 1))
+  after =
+      turn (s .walking) (s .more)
+      ∙ ap (λ (v : Verdict ℕ). then v (λ next. refusalAt 7 k unless not (repeatsBelow b k k) ⨾ entriesCheck b (count - (k + 1)) (k + 1))) (entry-of _ b at k refl (s .good) .1)
+
+  -- no earlier entry is left
+  pub search-ends : k ≤ j → Walking b count (k + 1) (at + size)
+  search-ends h =
+      let e : j ≡ k = omega arith in
+      let r : repeatsBelow b k k ≡ false = rw e at (s .unlike) in
+      record { bound = omega (arith, s .more); place = place-next b k at size (s .walking .place) (s .size-is); inside = s .fits; left = after ∙ rw r }
+
+  module _ (h : j < k) (i : ℕ) where
+    pub search-goes : i < size → (getD b (was + i) 0 ≡ getD b (at + i) 0 → ⊥) → (n : ℕ) → n ≡ 2 + getD b (was + 1) 0 → Searching b count k at size (j + 1) (was + n)
+    search-goes l d n e = record {
+      walking = s .walking;
+      more = s .more;
+      good = s .good;
+      size-is = s .size-is;
+      fits = s .fits;
+      passed = omega arith;
+      earlier = place-next b j was n (s .earlier) e;
+      before = place-before b j k was at n h (s .earlier) (s .walking .place) e;
+      unlike = repeats-later b j k was at size i (s .earlier) (s .walking .place) (s .size-is) (s .before) (s .fits) h (s .unlike) l d;
+    }
+
+    pub search-finds : Agree b was at i → i ≡ size → numbers 7 k 255 0 ≡ told (entriesIn b count)
     unfolding told
-    turn-repeat r = let e : entriesIn b count ≡ refusalAt 7 k = after ∙ rw r in sym (ap told e)
-
-    pub turn-next : repeatsBelow b k k ≡ false → entriesIn b count ≡ entriesCheck b (count - (k + 1)) (k + 1)
-    turn-next r = after ∙ rw r
-
-module _ (b : List ℕ) (count k at : ℕ) (le : count ≤ k) (le′ : k ≤ count) (ek : at ≡ placeOf b k) (inv : entriesIn b count ≡ entriesCheck b (count - k) k) where
-  none : entriesIn b count ≡ entriesCheck b zero k
-  none = let e : count - k ≡ zero = omega arith in inv ∙ ap (λ (n : ℕ). entriesCheck b n k) e
-
-  pub end-over : (at ≡ length b → ⊥) → numbers 8 65535 255 0 ≡ told (entriesIn b count)
-  unfolding entriesCheck told
-  end-over n = rw (none, ← ek, ne-eqb _ _ n)
-
-  pub end-good : at ≡ length b → numbers 0 65535 255 0 ≡ told (entriesIn b count)
-  unfolding entriesCheck told
-  end-good e = rw (none, ← ek, eq-eqb _ _ e)
+    search-finds a e =
+        let r = repeats-here b j k was at size i (s .earlier) (s .walking .place) (s .size-is) (s .before) (s .fits) h a e in
+        let v : entriesIn b count ≡ refusalAt 7 k = after ∙ rw r in
+        sym (ap told v)

@@ -1,5 +1,4 @@
 -- A label request as the code answers it: the numbers, and where the label stands.
--- Assumes nothing.
 use Prim.Native.Nat.{ℕ, _+_, _≤_}
 use mathlib.Core.Path.{_≡_}
 use mathlib.Core.List.{List}

@@ -1,5 +1,4 @@
 -- What the other forms go by, as the code hands it on: X, Y, the count, and each object's layout number.
--- Assumes nothing.
 use Prim.Native.Nat.{ℕ, _≤_}
 use mathlib.Core.Path.{_≡_}
 use mathlib.Core.List.{List, [], map}

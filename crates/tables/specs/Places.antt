@@ -1,5 +1,4 @@
 -- The table's entries by their places in the bytes, as a loop with a cursor walks them. A device of the proofs: the meaning is `history`'s.
--- Assumes nothing.
 use Prim.Native.Nat.{ℕ, zero, suc, _+_}
 use mathlib.Core.Bool.{_&&_}
 use mathlib.Core.List.{List, []}
@@ -20,8 +19,8 @@ placeOf b zero = 9
 placeOf b (suc k) = placeOf b k + (2 + getD b (placeOf b k + 1) 0)
 
 -- an entry but for repeats, from its place: 8 (two bytes lacking), 5, 6 (length), 8 (label cut), 6 (bytes); where the next begins
-unfoldable pub entryCheck : List ℕ → ℕ → ℕ → Verdict ℕ
-entryCheck b at k =
+unfoldable pub checkObjectAt : List ℕ → ℕ → ℕ → Verdict ℕ
+checkObjectAt b at k =
     refusal 8 unless leb (at + 2) (length b) ⨾
     refusalAt 5 k unless carried (getD b 5 0) (getD b at 0) ⨾
     refusalAt 6 k unless leb 1 (getD b (at + 1) 0) && leb (getD b (at + 1) 0) (labelLimit (getD b 4 0)) ⨾

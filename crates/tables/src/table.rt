@@ -14,7 +14,7 @@ ghost use lib.ListN.{length, getD};
 ghost use Rattle.history.specs.Verdict.{told};
 ghost use Rattle.history.specs.Table.{versionGood, catalogueGood, labelLimit};
 ghost use Rattle.history.specs.Calls.{tableCall};
-ghost use Rattle.tables.specs.Places.{countIn, entryCheck, entriesIn};
+ghost use Rattle.tables.specs.Places.{countIn, checkObjectAt, entriesIn};
 
 const MOST_OBJECTS: usize = 1024;
 
@@ -100,7 +100,7 @@ pub fn entry_size(table: &[u8], at: usize) -> usize
 // An entry but for repeats: 8 (two bytes lacking), 5, 6 (length), 8 (label cut), 6 (bytes).
 fn check_entry(table: &[u8], at: usize, object: u16) -> Answer
     requires { ⌜ (9 ≤ length (now table)) × (at ≤ length (now table)) ⌝ }
-    ensures { λ r. ⌜ r ≡ told (entryCheck (now (table .entry)) at object) ⌝ }
+    ensures { λ r. ⌜ r ≡ told (checkObjectAt (now (table .entry)) at object) ⌝ }
 {
     let left = table.len() - at;
     if left < 2 {

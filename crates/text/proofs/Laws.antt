@@ -3,13 +3,13 @@
 use mathlib.Core.Path.{_≡_, refl, sym, ap, _∙_}
 use mathlib.Core.Bool.{Bool, true, false, cond}
 use mathlib.Core.List.{List, [], _∷_, _++_}
-use Prim.Native.Nat.{ℕ, zero, suc, _+_, _*_, _/_, _%_, _^_, _-_, _≤_, _<_}
-use native.Mathlib.Nat.{add-zero, add-suc, suc-add, le-of-lt, le-refl, le-trans, div-lt-iff-lt-mul, pow-suc}
+use Prim.Native.Nat.{ℕ, zero, suc, _+_, _*_, _/_, _%_, _^_, _≤_, _<_}
+use native.Mathlib.Nat.{add-zero, add-suc, suc-add, le-of-lt, div-lt-iff-lt-mul, pow-suc}
 use native.Mathlib.Omega.{arith}
 use native.Mathlib.Numerals.{add-one}
 use lib.Dec.{ltb, lit<}
-use lib.ListN.{length, getD, take, drop, set, length-append}
-use lib.Seq.{sets, length-take-le, take-suc, drop-cons}
+use lib.ListN.{length, getD, take, set, length-append}
+use lib.Seq.{sets, length-take-le, take-all, take-suc}
 use borrow.Author.Tests.{lt-ltb, le-ltb, ltb-true, ltb-false}
 use Rattle.text.specs.Decimal.{decimalIn, decimal}
 use Rattle.text.specs.Hex.{hexDigit, hexes}
@@ -48,11 +48,6 @@ sets-append l i (a ∷ xs) ys =
 pub decimal-length : (n : ℕ) → 10 ≤ n → n < 10000000000 → length (decimal n) ≡ length (decimal (n / 10)) + 1
 decimal-length n h h′ = ap length (decimal-more n h h′) ∙ length-append (decimal (n / 10)) ((48 + n % 10) ∷ [])
 
--- the store of the last digit, after the digits of a tenth of n
-pub last-digit : (l m : List ℕ) (at p n : ℕ) → 10 ≤ n → n < 10000000000 → p ≡ at + length (decimal (n / 10)) → m ≡ sets l at (decimal (n / 10)) → set m p (48 + n % 10) ≡ sets l at (decimal n)
-last-digit l m at p n h h′ e d =
-    (λ i. set (d i) (e i) (48 + n % 10)) ∙ sets-append l at (decimal (n / 10)) ((48 + n % 10) ∷ []) ∙ ap (sets l at) (sym (decimal-more n h h′))
-
 -- a number below 10 ^ k, with k not 0, has at most k digits
 fits-at : (b : Bool) (k n : ℕ) → ltb n 10 ≡ b → n < 10000000000 → (10 ≤ n → length (decimal (n / 10)) ≤ k) → length (decimal n) ≤ suc k
 fits-at true k n e h less = omega (arith, ap length (decimal-small n (ltb-true n 10 e)))
@@ -68,14 +63,30 @@ then {l} {at} {xs} {m} {p} {ys} {n} {r} a b = record {
   text = b .text ∙ (λ i. sets (a .text i) (a .next i) ys) ∙ sets-append l at xs ys;
 }
 
--- a turn of the loop that copies s: one element more
-pub copy-next : (l m s : List ℕ) (at i : ℕ) → i < length s → m ≡ sets l at (take i s) → set m (at + i) (getD s i 0) ≡ sets l at (take (i + 1) s)
-copy-next l m s at i h e =
-    (λ j. set (e j) (at + sym (length-take-le i s (le-of-lt h)) j) (getD s i 0))
-    ∙ sets-append l at (take i s) (getD s i 0 ∷ [])
-    ∙ ap (sets l at) (sym (take-suc s i 0 h) ∙ ap (λ (k : ℕ). take k s) (sym (add-one i)))
+-- a tenth of n is written, and then its last digit, where n has two digits or more
+module _ {n : ℕ} (h : 10 ≤ n) (h′ : n < 4294967296) where
+  pub tenth-room : (at k : ℕ) → at + length (decimal n) ≤ k → at + length (decimal (n / 10)) ≤ k
+  tenth-room at k r = omega (arith, decimal-length n h (omega arith))
 
--- bytes in hex, one more
+  module _ {l m : List ℕ} {at p : ℕ} (w : Wrote l at (decimal (n / 10)) m p) where
+    pub last-room : at + length (decimal n) ≤ length l → length m ≡ length l → p < length m
+    last-room r s = omega (arith, decimal-length n h (omega arith), w .next)
+
+    pub last-digit : Wrote l at (decimal n) (set m p (48 + n % 10)) (p + 1)
+    last-digit = rw (decimal-more n h (omega arith)) (then w (record { next = refl; text = refl }))
+
+-- the first i bytes of s are written
+module _ (l s : List ℕ) {m : List ℕ} (at i : ℕ) (e : m ≡ sets l at (take i s)) where
+  pub copy-next : i < length s → set m (at + i) (getD s i 0) ≡ sets l at (take (i + 1) s)
+  copy-next h =
+      (λ j. set (e j) (at + sym (length-take-le i s (le-of-lt h)) j) (getD s i 0))
+      ∙ sets-append l at (take i s) (getD s i 0 ∷ [])
+      ∙ ap (sets l at) (sym (take-suc s i 0 h) ∙ ap (λ (k : ℕ). take k s) (sym (add-one i)))
+
+  pub copy-end : i ≤ length s → length s ≤ i → Wrote l at s m (at + i)
+  copy-end h k = record { next = omega arith; text = e ∙ ap (sets l at) (take-all i s k) }
+
+-- bytes in hex
 pub hexes-length : (bs : List ℕ) → length (hexes bs) ≡ 2 * length bs
 hexes-length [] = refl
 hexes-length (b ∷ bs) = omega (arith, hexes-length bs)
@@ -84,8 +95,18 @@ hexes-append : (xs bs : List ℕ) → hexes (xs ++ bs) ≡ hexes xs ++ hexes bs
 hexes-append [] bs = refl
 hexes-append (a ∷ xs) bs = ap (λ (l : List ℕ). hexDigit (a / 16) ∷ hexDigit (a % 16) ∷ l) (hexes-append xs bs)
 
-pub hexes-next : (s : List ℕ) (i : ℕ) → i < length s → hexes (take i s) ++ hexes (getD s i 0 ∷ []) ≡ hexes (take (i + 1) s)
-hexes-next s i h = sym (ap hexes (ap (λ (k : ℕ). take k s) (add-one i) ∙ take-suc s i 0 h) ∙ hexes-append (take i s) (getD s i 0 ∷ []))
+-- the two digits of a byte
+pub two-digits : {l m k : List ℕ} {at p r d e : ℕ} (b : ℕ) → d ≡ hexDigit (b / 16) → e ≡ hexDigit (b % 16) → Wrote l at (d ∷ []) m p → Wrote m p (e ∷ []) k r
+    → Wrote l at (hexes (b ∷ [])) k r
+two-digits b high low a c = simp (high, low) at (then a c)
 
-pub hexes-taken : (s : List ℕ) (i : ℕ) → i ≤ length s → length (hexes (take i s)) ≡ 2 * i
-hexes-taken s i h = hexes-length (take i s) ∙ ap (λ (n : ℕ). 2 * n) (length-take-le i s h)
+-- the first i bytes of s are written, in hex
+module _ (s : List ℕ) {l m : List ℕ} {at i p : ℕ} (w : Wrote l at (hexes (take i s)) m p) where
+  pub hex-room : i < length s → at + 2 * length s ≤ length l → length m ≡ length l → p + 2 ≤ length m
+  hex-room h r e = omega (arith, hexes-length (take i s), length-take-le i s (le-of-lt h), w .next)
+
+  pub hex-next : i < length s → {k : List ℕ} {r : ℕ} → Wrote m p (hexes (getD s i 0 ∷ [])) k r → Wrote l at (hexes (take (i + 1) s)) k r
+  hex-next h b = rw (add-one, take-suc s i 0, hexes-append) (then w b)
+
+  pub hex-end : length s ≤ i → Wrote l at (hexes s) m p
+  hex-end h = rw (take-all i s h) at w

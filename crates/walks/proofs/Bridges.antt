@@ -4,7 +4,7 @@ use Prim.Native.Nat.{ℕ, suc, _+_, _^_, _≤_, _<_}
 use native.Mathlib.Omega.{arith}
 use mathlib.Core.Path.{_≡_, refl, sym, _∙_}
 use mathlib.Core.Bool.{Bool, true, false, cond}
-use mathlib.Core.List.{List, _∷_, _++_, map, append-assoc}
+use mathlib.Core.List.{List, _∷_, _++_, map, append-assoc, zipWith}
 use lib.Dec.{leb}
 use lib.ListN.{length, drop, length-append}
 use lib.Seq.{drop-drop, drop-at}
@@ -17,7 +17,7 @@ use Rattle.history.specs.declared.Change.the-variants.{Keep as keep, Swap as sw
 use Rattle.history.specs.Changes.{entriesBytes}
 use Rattle.history.specs.Image.{wordsBytes}
 use Rattle.history.specs.Verdict.{Verdict, done, refusalAt, _unless_⨾_}
-use Rattle.history.specs.Operations.{differ, fits, meets, joined, back, after, zip, lowest}
+use Rattle.history.specs.Operations.{differ, fits, meets, joined, back, after, lowest}
 use Rattle.history.specs.Legal.{Every, nil, and, admits, lawful}
 use Rattle.octets.proofs.NumberLaws.{length-bytes, take-bytes, drop-bytes, read-bytes}
 use Rattle.history.proofs.ChangeLaws.{lawful-swap}
@@ -99,8 +99,8 @@ reach-is w a r =
 -- ---- the changes that the walks find
 
 pub difference-walk : {ks : List Kind} {a b : List ℕ} (i : ℕ) → Every admits ks a → Every admits ks b
-    → walked Walk.Difference i ks (wordsBytes ks a) (wordsBytes ks b) ≡ zip differ a b
-unfolding walked stepOf
+    → walked Walk.Difference i ks (wordsBytes ks a) (wordsBytes ks b) ≡ zipWith differ a b
+unfolding walked stepOf zipWith
 difference-walk i nil nil = refl
 difference-walk i (and {a = k} {b = a} {xs = ks} {ys = as′} p ps) (and {b = b} {ys = bs} q qs) =
     let w : ℕ = widthOf k in
@@ -117,8 +117,8 @@ difference-walk i (and {a = k} {b = a} {xs = ks} {ys = as′} p ps) (and {b = b}
     )
 
 pub join-walk : {ks : List Kind} {c d : List Change} (i : ℕ) → i + length ks ≤ 65536 → Every lawful ks c → Every lawful ks d
-    → walked Walk.Join i ks (entriesBytes i ks c) (entriesBytes i ks d) ≡ zip joined c d
-unfolding walked stepOf
+    → walked Walk.Join i ks (entriesBytes i ks c) (entriesBytes i ks d) ≡ zipWith joined c d
+unfolding walked stepOf zipWith
 join-walk i s nil nil = refl
 join-walk i s (and {a = k} {b = c} p ps) (and {b = d} q qs) =
     let x = found i k c s p ps in
@@ -180,8 +180,8 @@ renewed-is w a keep = refl
 renewed-is w a (swap old new) = rw (length-bytes w a)
 
 pub renewal-is : {ks : List Kind} {c : List Change} {a : List ℕ} (i : ℕ) → i + length ks ≤ 65536 → Every lawful ks c → Every admits ks a
-    → renewal i ks (entriesBytes i ks c) (wordsBytes ks a) ≡ wordsBytes ks (zip after c a)
-unfolding renewal
+    → renewal i ks (entriesBytes i ks c) (wordsBytes ks a) ≡ wordsBytes ks (zipWith after c a)
+unfolding renewal zipWith
 renewal-is i s nil nil = refl
 renewal-is i s (and {a = k} {b = c} {xs = ks} p ps) (and {b = a} {ys = as′} q qs) =
     let x = found i k c s p ps in

@@ -1,6 +1,6 @@
 -- The turns of the loops: at object i, with the cursors p and q, what is done and what the walk still gives make up the whole.
 -- Assumes nothing.
-use Prim.Native.Nat.{ℕ, suc, _+_, _-_, _*_, _≤_, _<_}
+use Prim.Native.Nat.{ℕ, suc, _+_, _-_, _*_, _^_, _≤_, _<_}
 use native.Mathlib.Omega.{arith}
 use native.Mathlib.Numerals.{add-one}
 use mathlib.Core.Path.{_≡_, refl, sym, ap, ap₂, _∙_}
@@ -8,7 +8,7 @@ use mathlib.Core.Bool.{true, false, cond}
 use mathlib.Core.List.{List, [], _∷_, _++_}
 use lib.ListN.{length, take, drop, length-append, length-drop}
 use lib.Seq.{drop-drop, length-take-le}
-use borrow.Rule.Slice.PartMut.{putMid, midOf}
+use borrow.Rule.Slice.PartMut.{putMid, midOf, mid-len}
 use Rattle.octets.specs.Octets.{bytes}
 use Rattle.kinds.specs.Kinds.{widthOf}
 use Rattle.kinds.specs.declared.Kind.{Kind}
@@ -166,8 +166,17 @@ module _ {walk : Walk} {ns f s part₀ part : List ℕ} {at p q i : ℕ} (z : Pu
     next = along (z .fill) (bytes-next walk ns f s i p q h e t)
 
     -- the entry has room
-    pub put-room : (at + n ≤ length part₀) × (length part ≡ length part₀)
-    put-room = (omega (arith, length-entry i w (r .change), simp length-append at (has-room next)), keeps next)
+    put-room : at + n ≤ length part₀
+    put-room = omega (arith, length-entry i w (r .change), simp length-append at (has-room next))
+
+    pub put-fits : length part₀ < 2 ^ 64 → at + n < 2 ^ 64
+    put-fits k = omega (arith, put-room)
+
+    pub put-inside : at + n ≤ length part
+    put-inside = omega (arith, put-room, put-keeps)
+
+    pub put-long : length (midOf at (at + n - at) part) ≡ span w (r .change)
+    put-long = mid-len at (at + n) part put-inside ∙ omega arith
 
     pub one-put : {ys : List ℕ} → ys ≡ entryBytes i w (r .change)
         → Putting walk ns f s part₀ (putMid at (at + n - at) part ys) (at + n) (p + r .first) (q + r .second) (i + 1)
@@ -224,8 +233,14 @@ module _ {ns e part₀ part : List ℕ} {at p i : ℕ} (z : Renewing ns e part�
 
   module _ (h : i < length ns) {w : ℕ} (ew : w ≡ widthOf (kindAt (kindsOf ns) i)) where
     -- the element is there
-    pub renew-room : at + w ≤ length part₀
+    renew-room : at + w ≤ length part₀
     renew-room = omega (arith, z .room, ap widths (kinds-next ns i h))
+
+    pub renew-fits : length part₀ < 2 ^ 64 → at + w < 2 ^ 64
+    renew-fits k = omega (arith, renew-room)
+
+    pub renew-inside : at + w ≤ length part
+    renew-inside = omega (arith, renew-room, renew-keeps)
 
     pub one-renewed : {n : ℕ} {c : Change} {ys : List ℕ} → c ≡ changeAt i w (drop p e) → n ≡ span w c → ys ≡ renewed c (midOf at (at + w - at) part)
         → Renewing ns e part₀ (putMid at (at + w - at) part ys) (at + w) (p + n) (i + 1)

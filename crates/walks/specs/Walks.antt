@@ -1,6 +1,5 @@
 -- The walk over two forms, object by object, on any bytes. A device between the code and the meaning, which is history's: the laws
 -- (proofs/Bridges) tie it to the meaning where the bytes are those of accepted forms.
--- Assumes nothing.
 use Prim.Native.Nat.{ℕ, suc, _≤_}
 use mathlib.Core.Path.{_≡_}
 use mathlib.Core.Bool.{cond}

@@ -1,6 +1,7 @@
 -- `changes::call` meets its contract: a refused table's answer is the whole answer; under an accepted one the other forms decide.
 -- Assumes nothing.
 use borrow.Author.Needs.{needs}
+use Rattle.history.proofs.OutputLaws.{leaves-as}
 use Rattle.forms.proofs.UnderPlan.{kinds-counted, few-kinds}
 use Rattle.changes.proofs.Calls.{table-stops, table-goes}
 use Rattle.changes.proofs.call.Statement.{statement}
@@ -10,11 +11,7 @@ returns : tie.Need-returns
 returns c = table-stops (c .before .before .before .outline .ensures) _ _ _ _ (c .if1 .taken)
 
 returns-2 : tie.Need-returns-2
-returns-2 c =
-    let under = c .before .before in
-    let tested = under .before .before .before .before in
-    let known = tested .before .before .before in
-    table-goes (known .outline .ensures) _ _ _ _ (tested .if1 .left) (under .call-under .ensures)
+returns-2 c = leaves-as _ (search table-goes) (c .before .before .call-under .ensures)
 
 pub call-spec : {M : Type 1} → statement M
 call-spec =

@@ -7,10 +7,10 @@ use Rattle.elements.proofs.check_element.Statement.{statement}
 use Rattle.elements.proofs.check_element.Tie as tie
 
 returns : tie.Need-returns
-returns c = check-refused (c .before .before .before .args .kind) (c .before .before .before .args .word) _ (c .before .before .check-fields .ensures) _ (c .enum-told2 .given .1)
+returns c = search check-refused
 
 returns-2 : tie.Need-returns-2
-returns-2 c = c .dat-rule .ensures ∙ check-rest (c .before .before .before .before .args .kind) (c .before .before .before .before .args .word) _ (c .before .before .before .check-fields .ensures) (c .before .enum-told .given .1)
+returns-2 c = c .dat-rule .ensures ∙ search check-rest
 
 pub check-element-spec : {M : Type 1} → statement M
 check-element-spec = tie.close (tie.spec (λ c κs. search needs) (λ c. search needs) (λ c. search needs) returns (λ c κs. search needs) returns-2)

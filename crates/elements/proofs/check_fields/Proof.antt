@@ -5,8 +5,7 @@ use Prim.Native.Nat.{_-_}
 use borrow.Author.Needs.{needs}
 use Rattle.rows.specs.declared.Layout.{Layout}
 use Rattle.rows.specs.Table.{rowTotal}
-use Rattle.rows.specs.Covering.{bearing}
-use Rattle.rows.specs.Fields.{checkRows}
+use Rattle.rows.specs.Fields.{checkRows, bearing}
 use Rattle.elements.proofs.Bearing.{bearing-rows}
 use Rattle.elements.proofs.check_fields.Statement.{statement}
 use Rattle.elements.proofs.check_fields.Tie as tie

@@ -1,7 +1,6 @@
 -- `elements::width` meets its contract: a field of the layout, at most 4 by the covering rule.
 -- Assumes nothing.
-use mathlib.Core.Path.{_≡_, ap}
-use Prim.Native.Nat.{ℕ, _≤_}
+use mathlib.Core.Path.{ap}
 use borrow.Author.Needs.{needs}
 use Rattle.rows.specs.declared.Layout.{Layout}
 use Rattle.elements.proofs.Covering.{cover}

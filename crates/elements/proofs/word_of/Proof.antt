@@ -10,7 +10,7 @@ compose-rows-requires : tie.Need-compose-rows-requires
 compose-rows-requires c κs = spans (c .before .before .before .args .element) _ _ _ (c .before .before .kind-in .ensures) (c .before .values-of .ensures) (c .layout .ensures)
 
 returns : tie.Need-returns
-returns c = c .compose-rows .ensures ∙ whole (c .before .before .before .before .args .element) _ _ _ (c .before .before .before .kind-in .ensures) (c .before .before .values-of .ensures) (c .before .layout .ensures)
+returns c = c .compose-rows .ensures ∙ search whole
 
 pub word-of-spec : {M : Type 1} → statement M
 word-of-spec = tie.close (tie.spec (λ c κs. search needs) (λ c κs. search needs) (λ c κs. search needs) compose-rows-requires returns)

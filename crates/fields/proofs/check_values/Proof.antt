@@ -9,11 +9,8 @@ use Rattle.fields.specs.Fields.{named}
 use Rattle.fields.proofs.check_values.Statement.{statement}
 use Rattle.fields.proofs.check_values.Tie as tie
 
-check-rows-requires : tie.Need-check-rows-requires
-check-rows-requires c κs = in-table (c .before .args .kind) _ (c .layout .ensures)
-
 returns : tie.Need-returns
 returns c = c .check-rows .ensures ∙ ap (λ (l : Layout). named (layoutRows l) (c .before .before .args .values)) (c .before .layout .ensures)
 
 pub check-values-spec : {M : Type 1} → statement M
-check-values-spec = tie.close (tie.spec (λ c κs. search needs) check-rows-requires returns)
+check-values-spec = tie.close (tie.spec (λ c κs. search needs) (λ c κs. search in-table) returns)

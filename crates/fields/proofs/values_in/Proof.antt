@@ -10,11 +10,8 @@ use Rattle.fields.specs.Fields.{spread}
 use Rattle.fields.proofs.values_in.Statement.{statement}
 use Rattle.fields.proofs.values_in.Tie as tie
 
-take-rows-requires : tie.Need-take-rows-requires
-take-rows-requires c κs = in-table (c .before .args .kind) _ (c .layout .ensures)
-
 returns : tie.Need-returns
 returns c = c .take-rows .ensures ∙ ap (λ (l : Layout). padded (spread (layoutRows l) (c .before .before .args .fields))) (c .before .layout .ensures)
 
 pub values-in-spec : {M : Type 1} → statement M
-values-in-spec = tie.close (tie.spec (λ c κs. search needs) take-rows-requires returns)
+values-in-spec = tie.close (tie.spec (λ c κs. search needs) (λ c κs. search in-table) returns)

@@ -9,14 +9,8 @@ use Rattle.listing.proofs.list_into.Tie as tie
 returns : tie.Need-returns
 returns c = stays _ _ (omega arith)
 
-put-listing-requires : tie.Need-put-listing-requires
-put-listing-requires c κs = search needs
-
-same-length : tie.Need-same-length
-same-length c = search needs
-
 returns-2 : tie.Need-returns-2
 returns-2 c = in-front (omega arith) (c .before .before .put-listing .ensures)
 
 pub list-into-spec : {M : Type 1} → statement M
-list-into-spec = tie.close (tie.spec returns put-listing-requires same-length returns-2)
+list-into-spec = tie.close (tie.spec returns (λ c κs. search needs) (λ c. search needs) returns-2)

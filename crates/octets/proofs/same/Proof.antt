@@ -2,7 +2,7 @@
 -- Assumes nothing.
 use Prim.Native.Nat.{_≤_, _-_}
 use native.Mathlib.Omega.{arith}
-use mathlib.Core.Path.{_≡_, refl, sym, _∙_}
+use mathlib.Core.Path.{_≡_, refl, sym}
 use lib.ListN.{length, drop}
 use Rattle.octets.specs.Octets.{sameBytes}
 use Rattle.octets.proofs.Cursors.{same-apart, same-next, same-stop, same-end}
@@ -18,9 +18,7 @@ abbrev μ-loop : tie.MeasureT-loop
 returns : tie.Need-returns Inv-loop μ-loop
 returns c = sym (same-apart (c .before .args .a .now) (c .before .args .b .now) (λ e. omega arith))
 
-loop-holds : tie.Need-loop-holds Inv-loop μ-loop
-loop-holds c = (omega arith, refl)
-
+-- the cursor is below both lengths
 shared-slice-read-if2 : tie.Need-shared-slice-read-if2 Inv-loop μ-loop
 shared-slice-read-if2 c = omega arith
 
@@ -28,25 +26,13 @@ shared-slice-read-if2-2 : tie.Need-shared-slice-read-if2-2 Inv-loop μ-loop
 shared-slice-read-if2-2 c = omega arith
 
 returns-2 : tie.Need-returns-2 Inv-loop μ-loop
-returns-2 c =
-    let l = c .before .before .before .before .loop in
-    sym (l .inv .1 ∙ same-stop _ _ (l .i) (omega arith) (omega arith) (c .if2 .taken))
-
-add-i : tie.Need-add-i Inv-loop μ-loop
-add-i c = omega arith
-
-loop-less : tie.Need-loop-less Inv-loop μ-loop
-loop-less c = omega arith
+returns-2 c = search (same-stop, shared-slice-read-if2 (c .before .before), shared-slice-read-if2-2 (c .before))
 
 loop-again : tie.Need-loop-again Inv-loop μ-loop
-loop-again c =
-    let l = c .before .before .before .before .loop in
-    (omega arith, l .inv .1 ∙ same-next _ _ (l .i) (omega arith) (omega arith) (c .if2 .left))
+loop-again c = (omega arith, search (same-next, shared-slice-read-if2 (c .before .before), shared-slice-read-if2-2 (c .before)))
 
 returns-3 : tie.Need-returns-3 Inv-loop μ-loop
-returns-3 c =
-    let l = c .before .loop in
-    sym (l .inv .1 ∙ same-end _ _ (l .i) (omega arith) (omega arith))
+returns-3 c = search same-end
 
 pub same-spec : {M : Type 1} → statement M
 same-spec =
@@ -55,11 +41,11 @@ same-spec =
     Inv-loop
     μ-loop
     returns
-    loop-holds
+    (λ c. (omega arith, refl))
     shared-slice-read-if2
     shared-slice-read-if2-2
     returns-2
-    add-i
-    loop-less
+    (λ c. omega arith)
+    (λ c. omega arith)
     loop-again
     returns-3)

@@ -19,7 +19,8 @@ returns-2 c =
     let from = to .before in
     let tested = from .before in
     let checked = tested .before .before in
-    let s = checked .before .before .before .before .before in
+    let known = checked .before .before .before in
+    let s = known .before .before in
     leaves-as _
     (join-is _ _ _ (s .pre .0) (s .pre .1 .0) (s .pre .1 .1) (checked .check-joins .ensures) (tested .if1 .left) (from .get-at .ensures .0) (to .get-at2 .ensures .0) (first .entries-of .ensures) (second .entries-of2 .ensures))
     (wrote .write-list .ensures)

@@ -7,36 +7,19 @@ use Rattle.forms.proofs.UnderPlan.{list-refused, list-under, kinds-coun
 use Rattle.forms.proofs.list.check_list.Statement.{statement}
 use Rattle.forms.proofs.list.check_list.Tie as tie
 
-outline-requires : tie.Need-outline-requires
-outline-requires c κs = search needs
-
 returns : tie.Need-returns
-returns c =
-    let known = c .before .before .before in
-    list-refused (known .outline .ensures) (λ e. omega arith) _
-
-array-share-prefix-kinds : tie.Need-array-share-prefix-kinds
-array-share-prefix-kinds c = search needs
-
-slice-aggregate-check-list-under : tie.Need-slice-aggregate-check-list-under
-slice-aggregate-check-list-under c = search kinds-counted
-
-check-list-under-requires : tie.Need-check-list-under-requires
-check-list-under-requires c κs = search few-kinds
+returns c = list-refused (c .before .before .before .outline .ensures) (λ e. omega arith) _
 
 returns-2 : tie.Need-returns-2
-returns-2 c =
-    let test = c .before .before .before in
-    let known = test .before .before .before in
-    c .check-list-under .ensures ∙ list-under (known .outline .ensures) (omega arith) _
+returns-2 c = c .check-list-under .ensures ∙ search list-under
 
 pub check-list-spec : {M : Type 1} → statement M
 check-list-spec =
     tie.close
     (tie.spec
-    outline-requires
+    (λ c κs. search needs)
     returns
-    array-share-prefix-kinds
-    slice-aggregate-check-list-under
-    check-list-under-requires
+    (λ c. search needs)
+    (λ c. search kinds-counted)
+    (λ c κs. search few-kinds)
     returns-2)

@@ -5,17 +5,8 @@ use Rattle.listing.proofs.LineLaws.{numbered}
 use Rattle.listing.proofs.lines.put_number.Statement.{statement}
 use Rattle.listing.proofs.lines.put_number.Tie as tie
 
-put-decimal-requires : tie.Need-put-decimal-requires
-put-decimal-requires c κs = search needs
-
-put-byte-requires : tie.Need-put-byte-requires
-put-byte-requires c κs = search needs
-
-same-length : tie.Need-same-length
-same-length c = search needs
-
 returns : tie.Need-returns
-returns c = numbered _ _ (c .before .before .before .before .before .before .put-decimal .ensures) (c .before .before .put-byte .ensures)
+returns c = search numbered
 
 pub put-number-spec : {M : Type 1} → statement M
-put-number-spec = tie.close (tie.spec put-decimal-requires put-byte-requires same-length returns)
+put-number-spec = tie.close (tie.spec (λ c κs. search needs) (λ c κs. search needs) (λ c. search needs) returns)

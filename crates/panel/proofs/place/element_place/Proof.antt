@@ -6,21 +6,6 @@ use borrow.Author.Needs.{needs}
 use Rattle.panel.proofs.place.element_place.Statement.{statement}
 use Rattle.panel.proofs.place.element_place.Tie as tie
 
-sub-widths-of : tie.Need-sub-widths-of
-sub-widths-of c = search needs
-
-part-widths-of-start : tie.Need-part-widths-of-start
-part-widths-of-start c = search needs
-
-part-widths-of-end : tie.Need-part-widths-of-end
-part-widths-of-end c = search needs
-
-widths-of-requires : tie.Need-widths-of-requires
-widths-of-requires c κs = search needs
-
-add-result : tie.Need-add-result
-add-result c = search needs
-
 returns : tie.Need-returns
 returns c =
     let s = c .before .before .before in
@@ -30,9 +15,9 @@ pub element-place-spec : {M : Type 1} → statement M
 element-place-spec =
     tie.close
     (tie.spec
-    sub-widths-of
-    part-widths-of-start
-    part-widths-of-end
-    widths-of-requires
-    add-result
+    (λ c. search needs)
+    (λ c. search needs)
+    (λ c. search needs)
+    (λ c κs. search needs)
+    (λ c. search needs)
     returns)

@@ -8,7 +8,8 @@ use Rattle.states.proofs.ChangerSignal.values.Tie as tie
 
 returns : tie.Need-returns
 returns c =
-    let s = c .before .before .args .self in
+    let at-current = c .before in
+    let s = at-current .before .args .self in
     λ i.
     padded
     (bitNo (s .current) ∷ (c .number .ensures) i ∷ 0 ∷

@@ -7,12 +7,14 @@ use Rattle.states.proofs.ControlBoundary.of_values.Statement.{statement
 use Rattle.states.proofs.ControlBoundary.of_values.Tie as tie
 
 returns : tie.Need-returns
-returns c = λ i.
-    let bits = (c .before .before .before .before .bits-of .ensures) i in
+returns c =
+    let at-entry-movement = c .before .before in
+    λ i.
+    let bits = (at-entry-movement .before .before .bits-of .ensures) i in
     record {
       current = bits .b0;
       «entry_active» = bits .b1;
-      «entry_movement» = (c .before .before .of .ensures ∙ ap boundaryMovementOf (c .before .before .before .value .ensures)) i;
+      «entry_movement» = (at-entry-movement .of .ensures ∙ ap boundaryMovementOf (at-entry-movement .before .value .ensures)) i;
       «exit_active» = bits .b3;
       «exit_movement» = (c .of2 .ensures ∙ ap boundaryMovementOf (c .before .value2 .ensures)) i;
       «inc_inwards» = bits .b5;

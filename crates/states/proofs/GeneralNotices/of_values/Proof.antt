@@ -7,14 +7,16 @@ use Rattle.states.proofs.GeneralNotices.of_values.Statement.{statement}
 use Rattle.states.proofs.GeneralNotices.of_values.Tie as tie
 
 returns : tie.Need-returns
-returns c = λ i.
-    let bits = (c .before .before .before .before .bits-of .ensures) i in
+returns c =
+    let at-heaters = c .before .before in
+    λ i.
+    let bits = (at-heaters .before .before .bits-of .ensures) i in
     record {
       «power_in_order» = bits .b0;
       «points_moving» = bits .b1;
       «auto_routes_set» = bits .b2;
       «points_group_blocked» = bits .b3;
-      heaters = (c .before .before .of .ensures ∙ ap heaterIndicationOf (c .before .before .before .value .ensures)) i;
+      heaters = (at-heaters .of .ensures ∙ ap heaterIndicationOf (at-heaters .before .value .ensures)) i;
       «station_closed» = bits .b5;
       «earth_fault» = (c .of2 .ensures ∙ ap earthFaultIndicationOf (c .before .value2 .ensures)) i;
     }

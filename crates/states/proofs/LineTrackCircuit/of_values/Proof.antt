@@ -7,15 +7,18 @@ use Rattle.states.proofs.LineTrackCircuit.of_values.Statement.{statemen
 use Rattle.states.proofs.LineTrackCircuit.of_values.Tie as tie
 
 returns : tie.Need-returns
-returns c = λ i.
-    let bits = (c .before .before .before .before .before .before .bits-of .ensures) i in
+returns c =
+    let at-overlap = c .before .before in
+    let at-occupancy = at-overlap .before .before in
+    λ i.
+    let bits = (at-occupancy .before .before .bits-of .ensures) i in
     record {
       current = bits .b0;
       «special_command_pending» = bits .b1;
       «movement_blocked» = bits .b2;
       «unexpected_occupancy» = bits .b3;
-      occupancy = (c .before .before .before .before .of .ensures ∙ ap sectionOccupancyOf (c .before .before .before .before .before .value .ensures)) i;
-      overlap = (c .before .before .of2 .ensures ∙ ap overlapOf (c .before .before .before .value2 .ensures)) i;
+      occupancy = (at-occupancy .of .ensures ∙ ap sectionOccupancyOf (at-occupancy .before .value .ensures)) i;
+      overlap = (at-overlap .of2 .ensures ∙ ap overlapOf (at-overlap .before .value2 .ensures)) i;
       «axle_counter_fault» = bits .b6;
       «axle_counter_preset» = bits .b7;
       gauge = (c .of3 .ensures ∙ ap gaugePresenceOf (c .before .value3 .ensures)) i;

@@ -7,13 +7,15 @@ use Rattle.states.proofs.PointsTrackCircuit.of_values.Statement.{statem
 use Rattle.states.proofs.PointsTrackCircuit.of_values.Tie as tie
 
 returns : tie.Need-returns
-returns c = λ i.
-    let bits = (c .before .before .before .before .bits-of .ensures) i in
+returns c =
+    let at-occupancy = c .before .before in
+    λ i.
+    let bits = (at-occupancy .before .before .bits-of .ensures) i in
     record {
       current = bits .b0;
       «special_command_pending» = bits .b1;
       «unexpected_occupancy» = bits .b3;
-      occupancy = (c .before .before .of .ensures ∙ ap pointsSectionOccupancyOf (c .before .before .before .value .ensures)) i;
+      occupancy = (at-occupancy .of .ensures ∙ ap pointsSectionOccupancyOf (at-occupancy .before .value .ensures)) i;
       «axle_counter_fault» = bits .b6;
       «axle_counter_preset» = bits .b7;
       gauge = (c .of2 .ensures ∙ ap gaugePresenceOf (c .before .value2 .ensures)) i;

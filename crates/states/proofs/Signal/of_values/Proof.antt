@@ -7,12 +7,16 @@ use Rattle.states.proofs.Signal.of_values.Statement.{statement}
 use Rattle.states.proofs.Signal.of_values.Tie as tie
 
 returns : tie.Need-returns
-returns c = λ i.
-    let bits = (c .before .before .before .before .before .before .before .before .bits-of .ensures) i in
+returns c =
+    let at-mixed-gauge = c .before .before in
+    let at-aspect = at-mixed-gauge .before .before in
+    let at-kind = at-aspect .before .before in
+    λ i.
+    let bits = (at-kind .before .before .bits-of .ensures) i in
     record {
       current = bits .b0;
-      kind = (c .before .before .before .before .before .before .of .ensures ∙ ap signalKindOf (c .before .before .before .before .before .before .before .value .ensures)) i;
-      aspect = (c .before .before .before .before .of2 .ensures ∙ ap signalAspectOf (c .before .before .before .before .before .value2 .ensures)) i;
+      kind = (at-kind .of .ensures ∙ ap signalKindOf (at-kind .before .value .ensures)) i;
+      aspect = (at-aspect .of2 .ensures ∙ ap signalAspectOf (at-aspect .before .value2 .ensures)) i;
       «red_fitted» = bits .b3;
       «red_blown» = bits .b4;
       «white_fitted» = bits .b5;
@@ -29,7 +33,7 @@ returns c = λ i.
       «green_blown» = bits .b16;
       «special_command_pending» = bits .b17;
       «command_blocked» = bits .b18;
-      «mixed_gauge» = (c .before .before .of3 .ensures ∙ ap mixedGaugeIndicationOf (c .before .before .before .value3 .ensures)) i;
+      «mixed_gauge» = (at-mixed-gauge .of3 .ensures ∙ ap mixedGaugeIndicationOf (at-mixed-gauge .before .value3 .ensures)) i;
       «automatic_succession» = bits .b20;
       «auto_route_set» = bits .b21;
       «auto_route_indication» = (c .of4 .ensures ∙ ap autoRouteIndicationOf (c .before .value4 .ensures)) i;

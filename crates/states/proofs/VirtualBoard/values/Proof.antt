@@ -8,10 +8,12 @@ use Rattle.states.proofs.VirtualBoard.values.Tie as tie
 
 returns : tie.Need-returns
 returns c =
-    let s = c .before .before .before .args .self in
+    let at-aspect = c .before in
+    let at-current = at-aspect .before in
+    let s = at-current .before .args .self in
     λ i.
     padded
-    (bitNo (s .current) ∷ (c .before .number .ensures) i ∷ bitNo (s .«closing_commanded») ∷ 0 ∷
+    (bitNo (s .current) ∷ (at-aspect .number .ensures) i ∷ bitNo (s .«closing_commanded») ∷ 0 ∷
     [])
 
 pub values-spec : {M : Type 1} → statement M

@@ -3,7 +3,8 @@
 use native.Mathlib.Omega.{arith}
 use mathlib.Core.Path.{_∙_}
 use Rattle.tables.proofs.AnswerLaws.{no, yes}
-use Rattle.tables.proofs.TableLaws.{nine, inside, table-1, table-2, table-3, table-4, table-rest}
+use Rattle.tables.proofs.Forms.{long-enough}
+use Rattle.tables.proofs.TableLaws.{table-1, table-2, table-3, table-4, table-rest}
 use borrow.Author.Needs.{needs}
 use Rattle.tables.proofs.table.check_table.Statement.{statement}
 use Rattle.tables.proofs.table.check_table.Tie as tie
@@ -18,7 +19,7 @@ returns : tie.Need-returns
 returns c = c .refused .ensures ∙ table-1 _ (search (needs, no))
 
 shared-slice-read-is-version : tie.Need-shared-slice-read-is-version
-shared-slice-read-is-version c = search (needs, inside, yes)
+shared-slice-read-is-version c = search (long-enough, needs)
 
 is-version-requires : tie.Need-is-version-requires
 is-version-requires c κs = search needs
@@ -30,10 +31,10 @@ returns-2 : tie.Need-returns-2
 returns-2 c = c .refused2 .ensures ∙ table-2 _ (search (needs, yes)) (search (needs, no))
 
 shared-slice-read-is-catalogue : tie.Need-shared-slice-read-is-catalogue
-shared-slice-read-is-catalogue c = search (needs, inside, yes)
+shared-slice-read-is-catalogue c = search (long-enough, needs)
 
 shared-slice-read-is-catalogue-2 : tie.Need-shared-slice-read-is-catalogue-2
-shared-slice-read-is-catalogue-2 c = search (needs, inside, yes)
+shared-slice-read-is-catalogue-2 c = search (long-enough, needs)
 
 is-catalogue-requires : tie.Need-is-catalogue-requires
 is-catalogue-requires c κs = search needs
@@ -45,7 +46,7 @@ returns-3 : tie.Need-returns-3
 returns-3 c = c .refused3 .ensures ∙ table-3 _ (search (needs, yes)) (search (needs, yes)) (search (needs, no))
 
 object-count-requires : tie.Need-object-count-requires
-object-count-requires c κs = search (needs, nine, yes)
+object-count-requires c κs = search (long-enough, needs)
 
 refused-requires-4 : tie.Need-refused-requires-4
 refused-requires-4 c κs = search needs
@@ -54,7 +55,7 @@ returns-4 : tie.Need-returns-4
 returns-4 c = c .refused4 .ensures ∙ table-4 _ (search (needs, yes)) (search (needs, yes)) (search (needs, yes)) _ (c .before .before .object-count .ensures) (omega arith)
 
 check-entries-requires : tie.Need-check-entries-requires
-check-entries-requires c κs = search (needs, nine, yes)
+check-entries-requires c κs = search (long-enough, needs)
 
 returns-5 : tie.Need-returns-5
 returns-5 c = table-rest _ (search (needs, yes)) (search (needs, yes)) (search (needs, yes)) _ (c .before .before .object-count .ensures) (omega arith) _ (c .check-entries .ensures)
