@@ -10,7 +10,7 @@ use lib.ListN.{length, take, drop}
 use borrow.Author.Tests.{eq-eqb, ne-eqb, le-leb, lt-leb}
 use Rattle.octets.specs.Octets.{number}
 use Rattle.history.specs.declared.Answer.{Answer}
-use Rattle.history.specs.Verdict.{Verdict, done, then, refusal, refusalAt, numbers, told}
+use Rattle.history.specs.Verdict.{Verdict, done, then, refusal, refusalAt, unnamed, told}
 use Rattle.history.specs.Image.{Image, widths, wordsBytes, imageBytes}
 use Rattle.history.specs.Changes.{Changes, listBytes}
 use Rattle.history.specs.Calls.{differenceUnder, applyUnder, joinUnder, turnUnder}
@@ -79,7 +79,7 @@ module _ (x y : ℕ) (ns : List ℕ) (few : length ns ≤ 1024) where
         pub join-misfits : n < length ns → joinUnder (planAs x y ns) L M ≡ refusalAt 20 n
         join-misfits k = join-found ∙ rw (lt-leb (length ns) n k)
 
-        pub join-meets : length ns ≤ n → {r : Answer} → r ≡ numbers 0 65535 255 0 → r ≡ told (joinUnder (planAs x y ns) L M)
+        pub join-meets : length ns ≤ n → {r : Answer} → r ≡ unnamed 0 0 → r ≡ told (joinUnder (planAs x y ns) L M)
         join-meets k e = told-done _ {a = listBytes (planAs x y ns) (jointOf (l .list) (m .list))} (join-found ∙ rw (le-leb (length ns) n k)) e
 
     -- what is written where nothing is refused
@@ -132,7 +132,7 @@ module _ (x y : ℕ) (ns : List ℕ) (few : length ns ≤ 1024) where
         pub apply-misfits : n < length ns → applyUnder (planAs x y ns) A L ≡ refusalAt 18 n
         apply-misfits q = apply-found ∙ rw (lt-leb (length ns) n q)
 
-        pub apply-fits : length ns ≤ n → {r : Answer} → r ≡ numbers 0 65535 255 0 → r ≡ told (applyUnder (planAs x y ns) A L)
+        pub apply-fits : length ns ≤ n → {r : Answer} → r ≡ unnamed 0 0 → r ≡ told (applyUnder (planAs x y ns) A L)
         apply-fits q e = told-done _ {a = imageBytes (planAs x y ns) (resultOf (l .list) (a .image))} (apply-found ∙ rw (le-leb (length ns) n q)) e
 
     -- what is written where nothing is refused

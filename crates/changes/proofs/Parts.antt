@@ -11,22 +11,10 @@ use Rattle.history.specs.Table.{Plan}
 use Rattle.history.specs.Image.{Image, widths, wordsBytes, imageBytes}
 use Rattle.history.specs.Changes.{Changes, entries, entriesBytes, listBytes}
 use Rattle.octets.proofs.NumberLaws.{length-bytes, read-bytes}
-use Rattle.history.proofs.ImageLaws.{length-words}
+use Rattle.history.proofs.ImageLaws.{length-words, image-words, image-position, image-long}
 use Rattle.history.proofs.CallLaws.{AcceptedImage, AcceptedList}
 
 -- ---- an image: its position from byte 7 on, its elements from byte 11 on
-
-image-tail : (p : Plan) (a : Image) → drop 7 (imageBytes p a) ≡ bytes 4 (a .position) ++ wordsBytes (p .kinds) (a .words)
-unfolding imageBytes formBytes bytes
-image-tail p a = refl
-
-image-words : (p : Plan) (a : Image) → drop 11 (imageBytes p a) ≡ wordsBytes (p .kinds) (a .words)
-unfolding imageBytes formBytes bytes
-image-words p a = refl
-
-image-long : (p : Plan) (a : Image) → length (imageBytes p a) ≡ 11 + length (wordsBytes (p .kinds) (a .words))
-unfolding imageBytes formBytes
-image-long p a = simp (length-append, length-bytes) (omega arith)
 
 front : (n v x y : ℕ) (r : List ℕ) → take 7 (bytes 4 n ++ (v ∷ x ∷ y ∷ r)) ≡ bytes 4 n ++ (v ∷ x ∷ y ∷ [])
 unfolding bytes
@@ -34,15 +22,13 @@ front n v x y r = refl
 
 module _ {p : Plan} {A : List ℕ} (a : AcceptedImage p A) where
   pub position-at : number (take 4 (drop 7 A)) ≡ a .image .position
-  position-at =
-      ap (λ (b : List ℕ). number (take 4 (drop 7 b))) (a .same) ∙ ap (λ (b : List ℕ). number (take 4 b)) (image-tail p (a .image))
-      ∙ read-bytes 4 (a .image .position) _ (a .legal .position)
+  position-at = ap (λ (b : List ℕ). number (take 4 (drop 7 b))) (a .same) ∙ image-position (a .legal)
 
   pub words-at : drop 11 A ≡ wordsBytes (p .kinds) (a .image .words)
   words-at = ap (drop 11) (a .same) ∙ image-words p (a .image)
 
   pub image-length : length A ≡ 11 + widths (p .kinds)
-  image-length = ap length (a .same) ∙ image-long p (a .image) ∙ ap (λ (n : ℕ). 11 + n) (length-words (a .legal .words))
+  image-length = ap length (a .same) ∙ image-long (a .legal)
 
   -- the position is inside
   pub image-head : 11 ≤ length A

@@ -2,7 +2,7 @@
 use Prim.Native.Nat.{ℕ}
 use mathlib.Core.List.{List}
 use Rattle.history.specs.declared.Answer.{Answer}
-use Rattle.history.specs.Verdict.{Verdict, then, numbers, told}
+use Rattle.history.specs.Verdict.{Verdict, then, unnamed, told}
 use Rattle.history.specs.Table.{Plan}
 use Rattle.history.specs.Image.{readImage}
 use Rattle.history.specs.Changes.{readList}
@@ -31,7 +31,7 @@ unfoldable pub secondTold : Walk → Plan → List ℕ → Answer
 secondTold Walk.Difference p b = told (readImage p b)
 secondTold Walk.Apply p b = told (readList p b)
 secondTold Walk.Join p b = told (readList p b)
-secondTold Walk.Turn p b = numbers 0 65535 255 0
+secondTold Walk.Turn p b = unnamed 0 0
 
 -- what an accepted one is
 unfoldable pub FirstAccepted : Walk → Plan → List ℕ → Type 0

@@ -1,5 +1,5 @@
--- "Where DAT is 0, all other bits must be 0": 12 is given exactly where this is broken. So a state is accepted unless it breaks it, and a
--- number where its fields have listed values, too.
+-- "Where DAT is 0, all other bits must be 0": a state is accepted unless it breaks this, and then refused with 12; a number is accepted
+-- where it keeps this and its fields have listed values.
 -- Assumes nothing.
 use mathlib.Core.Path.{_≡_, refl, _∙_}
 use mathlib.Core.Bool.{Bool, true, false}
@@ -8,10 +8,11 @@ use Prim.Native.Nat.{ℕ, _%_}
 use native.Mathlib.Omega.{arith}
 use borrow.Author.Tests.{eq-eqb, ne-eqb, eqb-true, eqb-false}
 use lib.Dec.{eqb}
-use Rattle.rows.specs.Fields.{codeAt, valuesOf}
+use Rattle.rows.specs.Fields.{codeAt, checkRows, valuesOf, onFinding}
+use Rattle.rows.specs.declared.Refusal.{Refusal}
 use Rattle.rows.specs.declared.Finding.{Finding}
 use Rattle.rows.proofs.Words.{Within}
-use Rattle.rows.proofs.Listed.{accepted-within, within-accepted}
+use Rattle.rows.proofs.Listed.{accepted-within, within-accepted, FirstUnlisted, names-first, refuses-first}
 use Rattle.kinds.specs.Kinds.{layoutOf, rowsOf, kindIn}
 use Rattle.kinds.specs.declared.Kind.{Kind}
 use Rattle.kinds.specs.declared.Element.{Element}
@@ -76,3 +77,22 @@ element-exactly k w = (
   (λ e. let f = accepted-fields k w e in (accepted-within w (rowsOf k) f, (λ s. let z : _≡_ {A = ℕ} 0 1 = cc (rw (f, dat-stale k w s) at e) in omega arith))),
   (λ h. rw (within-accepted w (rowsOf k) (h .0)) (not-stale k w (h .1))),
 )
+
+-- .. and is refused exactly where a field has not: the lowest such is named; or else where it is stale, with 12
+pub element-first : (k : Kind) (w : ℕ) {x : Refusal} → FirstUnlisted w (rowsOf k) x → elementCheck k w ≡ Finding.Refused x
+unfolding elementCheck
+element-first k w q = rw (refuses-first w (rowsOf k) q)
+
+pub element-names : (k : Kind) (w : ℕ) {x : Refusal} → elementCheck k w ≡ Finding.Refused x
+    → FirstUnlisted w (rowsOf k) x ⊎ ((checkRows w (rowsOf k) ≡ Finding.Accepted) × Stale k w × (x ≡ codeAt 12 0))
+unfolding elementCheck
+element-names k w {x} e = go (checkRows w (rowsOf k)) refl e
+  where
+    silent : ((Stale k w → ⊥) × (datRule k w ≡ Finding.Accepted)) ⊎ Stale k w → datRule k w ≡ Finding.Refused x → Stale k w × (x ≡ codeAt 12 0)
+    silent (inl q) d = absurd (let z : _≡_ {A = ℕ} 0 1 = cc (q .1) in omega arith)
+    silent (inr s) d = (s, cc (dat-stale k w s))
+
+    go : (f : Finding) → checkRows w (rowsOf k) ≡ f → onFinding f (datRule k w) Finding.Refused ≡ Finding.Refused x
+        → FirstUnlisted w (rowsOf k) x ⊎ ((checkRows w (rowsOf k) ≡ Finding.Accepted) × Stale k w × (x ≡ codeAt 12 0))
+    go Finding.Accepted t d = let s = silent (dat-either k w) d in inr (t, s .0, s .1)
+    go (Finding.Refused r) t d = inl (names-first w (rowsOf k) (t ∙ d))

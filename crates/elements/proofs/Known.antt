@@ -1,8 +1,14 @@
--- The paper's known elements, all at once by computation: what is found of each, and the two states that it names.
+-- The paper's known elements, all at once by computation: what is found of each, and the two states that it names; elements with two
+-- faults, of which the lower is named, 12 last; and which kinds have DAT.
 -- Assumes nothing.
 use mathlib.Core.Path.{_≡_, refl}
-use mathlib.Core.Bool.{true, false}
+use mathlib.Core.Bool.{true, false, not}
+use mathlib.Core.List.{map}
+use lib.Dec.{eqb}
 use Rattle.rows.specs.Table.{table, layouts}
+use Rattle.rows.specs.Fields.{codeAt}
+use Rattle.rows.specs.declared.Finding.{Finding}
+use Rattle.kinds.specs.Kinds.{layoutOf, layoutNo, kinds}
 use Rattle.cases.specs.declared.ChangerAspect.{ChangerAspect}
 use Rattle.cases.specs.declared.SignalKind.{SignalKind}
 use Rattle.cases.specs.declared.SignalAspect.{SignalAspect}
@@ -24,3 +30,16 @@ pub all-known : (found known ≡ said known)
     × (stateOf Kind.Signal 0x000001B5 ≡ Element.Signal green)
 unfolding table layouts datRule elementCheck stateOf
 all-known = (refl, refl, refl)
+
+pub two-faults : (elementCheck Kind.ChangerSignal 0x81 ≡ Finding.Refused (codeAt 10 3))
+    × (elementCheck Kind.VirtualBoard 0x06 ≡ Finding.Refused (codeAt 11 1))
+    × (elementCheck Kind.VirtualBoard 0x17 ≡ Finding.Refused (codeAt 11 1))
+    × (elementCheck Kind.LineTrackCircuit 0x14C1 ≡ Finding.Refused (codeAt 11 6))
+    × (elementCheck Kind.PointsTrackCircuit 0x0024 ≡ Finding.Refused (codeAt 10 2))
+unfolding table layouts datRule elementCheck
+two-faults = (refl, refl, refl, refl, refl)
+
+-- all but the general notices, type 22
+pub which-have-dat : map (λ (k : Kind). layoutOf k .dat) kinds ≡ map (λ (k : Kind). not (eqb (layoutNo k) 22)) kinds
+unfolding table layouts
+which-have-dat = refl

@@ -22,7 +22,7 @@ use Rattle.history.specs.Verdict.{Verdict, refused, done, then, refusalAt, _unl
 use Rattle.history.specs.Table.{Plan, kindAt}
 use Rattle.history.specs.Image.{Image, element, _of_⨾_, imageBytes, readImage}
 use Rattle.history.specs.Calls.{readPlan, placed, stateAt, readStateUnder, readStateCall, checkState, writeStateUnder, writeStateCall}
-use Rattle.history.proofs.ElementLaws.{state-kind}
+use Rattle.elements.proofs.Laws.{state-kind}
 use Rattle.history.proofs.OutputLaws.{Leaves, leaves-as, refused-leaves}
 use Rattle.panel.specs.Readings.{readingOf}
 use Rattle.fields.specs.declared.Plain.{Plain}
@@ -56,7 +56,7 @@ sort-no n {k} (j ∷ js) e = at (eqb n (layoutNo j)) refl (sort-no n js) e
     at false q rest e = rest e
 
 -- a carried number is its kind's, and no other kind has it
-pub its-number : {n : ℕ} {k : Kind} → sortNumbered n ≡ Sort.Carried k → n ≡ layoutNo k
+its-number : {n : ℕ} {k : Kind} → sortNumbered n ≡ Sort.Carried k → n ≡ layoutNo k
 its-number {n} e = sort-no n kinds e
 
 its-kind : {n : ℕ} {k : Kind} (j : Kind) → sortNumbered n ≡ Sort.Carried k → n ≡ layoutNo j → j ≡ k

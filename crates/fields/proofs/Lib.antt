@@ -2,3 +2,4 @@ pub mod Loops
 pub mod CallLaws
 pub mod OneOutcome
 pub mod RoundTrip
+pub mod Examples

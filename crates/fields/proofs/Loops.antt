@@ -21,7 +21,7 @@ use Rattle.kinds.specs.Kinds.{layoutOf, kindIn, elementValues}
 use Rattle.kinds.specs.declared.Kind.{Kind}
 use Rattle.kinds.specs.declared.Element.{Element}
 use Rattle.history.specs.declared.Answer.{Answer}
-use Rattle.history.specs.Verdict.{numbers}
+use Rattle.history.specs.Verdict.{unnamed}
 use Rattle.rows.proofs.Loops.{fill-store, rows-next}
 use Rattle.fields.specs.Fields.{shown, shownIn, shownOf, spread, named}
 use Rattle.fields.specs.declared.Plain.{Plain}
@@ -113,7 +113,7 @@ shown-all {first} {count} {vs} {fields} {n} {k} s h =
 
 -- of a state
 pub state-shown : (e : Element) {k : Kind} {l : Layout} {vs : List ℕ} {s : Shown} {a : Answer} → k ≡ kindIn e → l ≡ layoutOf k → vs ≡ padded (elementValues e)
-    → s ≡ shownIn (layoutRows l) vs → a ≡ numbers 0 65535 255 0 → _≡_ {A = Plain} (record { answer = a; kind = l .number; count = s .count; fields = s .fields }) (shownOf e)
+    → s ≡ shownIn (layoutRows l) vs → a ≡ unnamed 0 0 → _≡_ {A = Plain} (record { answer = a; kind = l .number; count = s .count; fields = s .fields }) (shownOf e)
 unfolding shownOf
 state-shown e p q r t u =
     let l-is = q ∙ ap layoutOf p in

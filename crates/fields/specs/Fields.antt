@@ -10,7 +10,7 @@ use Rattle.rows.specs.declared.Finding.{Finding}
 use Rattle.kinds.specs.Kinds.{layoutNo, rowsOf, kindIn, elementValues}
 use Rattle.kinds.specs.declared.Kind.{Kind}
 use Rattle.kinds.specs.declared.Element.{Element}
-use Rattle.history.specs.Verdict.{numbers}
+use Rattle.history.specs.Verdict.{unnamed}
 use Rattle.panel.specs.declared.read.Reading.{Reading}
 use Rattle.fields.specs.declared.Plain.{Plain}
 use Rattle.fields.specs.declared.walk.Shown.{Shown}
@@ -31,7 +31,7 @@ fieldsOf e = shownIn (rowsOf (kindIn e)) (padded (elementValues e))
 
 -- success writes no bytes
 unfoldable pub shownOf : Element → Plain
-shownOf e = record { answer = numbers 0 65535 255 0; kind = layoutNo (kindIn e); count = fieldsOf e .count; fields = fieldsOf e .fields }
+shownOf e = record { answer = unnamed 0 0; kind = layoutNo (kindIn e); count = fieldsOf e .count; fields = fieldsOf e .fields }
 
 -- a refused reading gives a code and no state
 unfoldable pub plainOf : Reading → Plain

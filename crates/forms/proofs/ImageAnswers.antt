@@ -10,7 +10,7 @@ use lib.ListN.{length, take, drop, getD, length-drop}
 use lib.Seq.{drop-drop}
 use borrow.Author.Tests.{eq-eqb, ne-eqb}
 use Rattle.octets.specs.Octets.{number}
-use Rattle.history.specs.Verdict.{done, then, refusal, _unless_⨾_, told, numbers}
+use Rattle.history.specs.Verdict.{done, then, refusal, _unless_⨾_, told, unnamed}
 use Rattle.history.specs.Image.{Image, imageVersionGood, widths, readWords, readImage}
 use Rattle.history.specs.Form.{isWhole}
 use Rattle.tables.specs.Under.{isUnder}
@@ -31,20 +31,20 @@ module _ (x y : ℕ) (ns b : List ℕ) where
   unfolding readImage isUnder imageIn
   chain = form-then 7 imageVersionGood b _
 
-  pub not-whole : isWhole 7 b ≡ false → numbers 1 65535 255 0 ≡ told (readImage (planAs x y ns) b)
+  pub not-whole : isWhole 7 b ≡ false → unnamed 1 0 ≡ told (readImage (planAs x y ns) b)
   not-whole e = told-refused _ (chain ∙ rw e) refl
 
   module _ (whole : isWhole 7 b ≡ true) where
-    pub other-version : imageVersionGood (getD b 4 0) ≡ false → numbers 2 65535 255 0 ≡ told (readImage (planAs x y ns) b)
+    pub other-version : imageVersionGood (getD b 4 0) ≡ false → unnamed 2 0 ≡ told (readImage (planAs x y ns) b)
     other-version e = told-refused _ (chain ∙ rw (whole, e)) refl
 
     module _ (version : imageVersionGood (getD b 4 0) ≡ true) where
-      pub not-under : isUnder x y b ≡ false → numbers 9 65535 255 0 ≡ told (readImage (planAs x y ns) b)
+      pub not-under : isUnder x y b ≡ false → unnamed 9 0 ≡ told (readImage (planAs x y ns) b)
       not-under e = told-refused _ (chain ∙ rw (whole, version, e)) refl
 
       module _ (under : isUnder x y b ≡ true) where
         module _ (w : ℕ) (w-is : w ≡ widths (kindsOf ns)) where
-          pub other-size : (length b ≡ 11 + w → ⊥) → numbers 8 65535 255 0 ≡ told (readImage (planAs x y ns) b)
+          pub other-size : (length b ≡ 11 + w → ⊥) → unnamed 8 0 ≡ told (readImage (planAs x y ns) b)
           other-size h =
               let long : 11 ≤ length b = whole-is 7 b whole .long in
               let n : (length (drop 7 b) ≡ 4 + widths (kindsOf ns) → ⊥) = λ e. h (omega (arith, length-drop 7 b)) in

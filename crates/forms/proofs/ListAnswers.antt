@@ -9,7 +9,7 @@ use lib.ListN.{length, take, drop, getD}
 use lib.Seq.{drop-drop}
 use borrow.Author.Tests.{eq-eqb, ne-eqb}
 use Rattle.octets.specs.Octets.{number}
-use Rattle.history.specs.Verdict.{done, then, refusal, _unless_⨾_, told, numbers}
+use Rattle.history.specs.Verdict.{done, then, refusal, _unless_⨾_, told, unnamed}
 use Rattle.history.specs.declared.Change.{Change}
 use Rattle.history.specs.Changes.{Changes, listVersion, readEntries, readList}
 use Rattle.history.specs.Form.{isWhole}
@@ -30,11 +30,11 @@ module _ (x y : ℕ) (ns b : List ℕ) where
   unfolding readList isUnder listIn
   chain = form-then 13 (eqb listVersion) b _
 
-  pub not-whole : isWhole 13 b ≡ false → numbers 1 65535 255 0 ≡ told (readList (planAs x y ns) b)
+  pub not-whole : isWhole 13 b ≡ false → unnamed 1 0 ≡ told (readList (planAs x y ns) b)
   not-whole e = told-refused _ (chain ∙ rw e) refl
 
   module _ (whole : isWhole 13 b ≡ true) where
-    pub other-version : (getD b 4 0 ≡ 1 → ⊥) → numbers 2 65535 255 0 ≡ told (readList (planAs x y ns) b)
+    pub other-version : (getD b 4 0 ≡ 1 → ⊥) → unnamed 2 0 ≡ told (readList (planAs x y ns) b)
     unfolding listVersion
     other-version h = told-refused _ (chain ∙ rw (whole, ne-eqb 1 (getD b 4 0) (λ e. h (sym e)))) refl
 
@@ -43,7 +43,7 @@ module _ (x y : ℕ) (ns b : List ℕ) where
       unfolding listVersion
       good = eq-eqb 1 (getD b 4 0) (sym version)
 
-      pub not-under : isUnder x y b ≡ false → numbers 9 65535 255 0 ≡ told (readList (planAs x y ns) b)
+      pub not-under : isUnder x y b ≡ false → unnamed 9 0 ≡ told (readList (planAs x y ns) b)
       not-under e = told-refused _ (chain ∙ rw (whole, good, e)) refl
 
       module _ (under : isUnder x y b ≡ true) where

@@ -17,7 +17,7 @@ use Rattle.elements.specs.Elements.{elementCheck}
 use Rattle.kinds.specs.declared.Kind.{Kind}
 use Rattle.octets.specs.Octets.{number}
 use Rattle.history.specs.declared.Answer.{Answer}
-use Rattle.history.specs.Verdict.{Verdict, refused, done, then, refusal, refusalAt, _unless_⨾_, told, numbers}
+use Rattle.history.specs.Verdict.{Verdict, refused, done, then, refusal, refusalAt, _unless_⨾_, told, numbers, unnamed}
 use Rattle.history.specs.Table.{kindAt}
 use Rattle.history.specs.Image.{element, _of_⨾_}
 use Rattle.history.specs.declared.Change.{Change}
@@ -195,13 +195,13 @@ module _ {ns : List ℕ} {count : ℕ} {b : List ℕ} {n low at : ℕ} (l : Left
   last h = let e : n ≡ 0 = omega arith in l .same ∙ rw (e, length-drop at b)
 
   module _ (none : n ≤ 0) where
-    pub bytes-over : (at ≡ length b → ⊥) → numbers 8 65535 255 0 ≡ told (readEntries (kindsOf ns) 0 count b)
+    pub bytes-over : (at ≡ length b → ⊥) → unnamed 8 0 ≡ told (readEntries (kindsOf ns) 0 count b)
     unfolding over
     bytes-over h =
         told-refused (over (kindsOf ns) low (length b - at)) {code = 8} {object = 65535} {bit = 255} (rw (ne-eqb (length b - at) 0 (λ e. h (omega (arith, l .inside))))) refl
         ∙ sym (last none)
 
-    pub ended : at ≡ length b → numbers 0 65535 255 0 ≡ told (readEntries (kindsOf ns) 0 count b)
+    pub ended : at ≡ length b → unnamed 0 0 ≡ told (readEntries (kindsOf ns) 0 count b)
     unfolding over
     ended h =
         told-done (over (kindsOf ns) low (length b - at)) {a = replicate (length (kindsOf ns) - low) keep} (rw (eq-eqb (length b - at) 0 (omega arith))) refl

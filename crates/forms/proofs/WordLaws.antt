@@ -12,7 +12,7 @@ use Rattle.kinds.specs.Kinds.{widthOf}
 use Rattle.elements.specs.Elements.{elementCheck}
 use Rattle.kinds.specs.declared.Kind.{Kind}
 use Rattle.octets.specs.Octets.{number}
-use Rattle.history.specs.Verdict.{Verdict, done, then, told, numbers}
+use Rattle.history.specs.Verdict.{Verdict, done, then, told, numbers, unnamed}
 use Rattle.history.specs.Table.{kindAt}
 use Rattle.history.specs.Image.{element, _of_⨾_, widths, readWords}
 use Rattle.tables.specs.Outlines.{kindsOf}
@@ -29,7 +29,7 @@ pub record Left (ns b : List ℕ) (i at : ℕ) : Type 0 where
 pub begin : (ns b : List ℕ) → length b ≡ widths (kindsOf ns) → Left ns b 0 0
 begin ns b h = record { inside = omega arith; room = omega arith; same = refl }
 
-pub ended : {ns b : List ℕ} {i at : ℕ} → Left ns b i at → length ns ≤ i → numbers 0 65535 255 0 ≡ told (readWords 0 (kindsOf ns) b)
+pub ended : {ns b : List ℕ} {i at : ℕ} → Left ns b i at → length ns ≤ i → unnamed 0 0 ≡ told (readWords 0 (kindsOf ns) b)
 ended {ns} {b} {i} {at} l h =
     told-done (readWords i [] (drop at b)) refl refl ∙ sym (l .same ∙ ap (λ (ks : List Kind). told (readWords i ks (drop at b))) (kinds-end ns i h))
 

@@ -18,7 +18,7 @@ use Rattle.octets.specs.Octets.{number}
 use Rattle.elements.specs.Elements.{carried, kindOf, elementCheck}
 use Rattle.history.specs.declared.Answer.{Answer}
 use Rattle.history.specs.declared.Standing.{Standing}
-use Rattle.history.specs.Verdict.{Verdict, refused, done, numbers, told, settled}
+use Rattle.history.specs.Verdict.{Verdict, refused, done, numbers, unnamed, told, settled}
 use Rattle.history.specs.Table.{Object, Table, objectBytes, objectsBytes, labelLimit, readTable}
 use Rattle.history.specs.Image.{element, _of_⨾_}
 use Rattle.history.specs.Calls.{Place, labelPlace, labelCall}
@@ -34,8 +34,9 @@ use Rattle.receiver.specs.Receive.{answerOf, standingOf, takenOf}
 use Rattle.listing.specs.Listing.{listingOf}
 use Rattle.listing.specs.Output.{Listed, inFront, listed, ListedInto}
 use Rattle.listing.proofs.Fits.{listing-fits}
+use Rattle.history.specs.Standing.{talliesOf}
 use Rattle.gateway.specs.Calls.{elementCall}
-use Rattle.gateway.specs.Slots.{answerSlots, talliesOf, standingIn}
+use Rattle.gateway.specs.Slots.{answerSlots, standingIn}
 
 -- ---- a label stands within 65,536 bytes
 
@@ -78,12 +79,12 @@ module _ (b : List ℕ) (i : ℕ) {l : LabelAt} (is : l ≡ labelTold (labelCall
 -- ---- an element by itself
 
 module _ (ty : ℕ) (b : List ℕ) {t : Bool} (t-is : t ≡ carried 1 ty) where
-  pub element-5 : not t ≡ true → {a : Answer} → a ≡ numbers 5 65535 255 0 → a ≡ told (elementCall ty b)
+  pub element-5 : not t ≡ true → {a : Answer} → a ≡ unnamed 5 0 → a ≡ told (elementCall ty b)
   unfolding elementCall told
   element-5 h q = q ∙ rw (no t-is h)
 
   module _ (h : not t ≡ false) {k : Kind} (is : k ≡ kindOf 1 ty) {w : ℕ} (wide : w ≡ widthOf k) where
-    pub element-8 : (length b ≡ w → ⊥) → {a : Answer} → a ≡ numbers 8 65535 255 0 → a ≡ told (elementCall ty b)
+    pub element-8 : (length b ≡ w → ⊥) → {a : Answer} → a ≡ unnamed 8 0 → a ≡ told (elementCall ty b)
     unfolding elementCall told
     element-8 n q =
         let f : eqb (length b) (widthOf (kindOf 1 ty)) ≡ false = ne-eqb _ _ (λ q. n (q ∙ sym (wide ∙ ap widthOf is))) in
@@ -101,7 +102,7 @@ module _ (ty : ℕ) (b : List ℕ) {t : Bool} (t-is : t ≡ carried 1 ty) where
       unfolding told
       element-refused {r} q e = e ∙ by-finding (Finding.Refused r) q
 
-      pub element-good : found ≡ Finding.Accepted → {a : Answer} → a ≡ numbers 0 65535 255 0 → a ≡ told (elementCall ty b)
+      pub element-good : found ≡ Finding.Accepted → {a : Answer} → a ≡ unnamed 0 0 → a ≡ told (elementCall ty b)
       unfolding told
       element-good q e = e ∙ by-finding Finding.Accepted q
 
@@ -129,8 +130,8 @@ module _ {input out₀ out : List ℕ} {r : ℕ} (l : ListedInto input out₀ ou
         let both : told-text (listed input out₀) = (l .size, l .output) in
         rw (le-leb 65536 (length out₀) room) at both
 
-    pub listed-room : {a : Answer} → a ≡ numbers 0 65535 255 r → Leaves (done (listingOf input)) out₀ a out
-    listed-room e = written-leaves (listingOf input) out₀ refl (omega (arith, listing-fits input)) (e ∙ ap (numbers 0 65535 255) (in-front .0)) (in-front .1)
+    pub listed-room : {a : Answer} → a ≡ unnamed 0 r → Leaves (done (listingOf input)) out₀ a out
+    listed-room e = written-leaves (listingOf input) out₀ refl (omega (arith, listing-fits input)) (e ∙ ap (unnamed 0) (in-front .0)) (in-front .1)
 
     front : take (r - 0) out ≡ listingOf input
     front =

@@ -12,7 +12,8 @@ use Rattle.receiver.specs.Receive.{answerOf, outputOf, standingOf}
 use Rattle.listing.specs.Listing.{listingOf}
 use Rattle.fields.specs.Fields.{plainOf}
 use Rattle.fields.specs.Calls.{writeFieldsCall}
-use Rattle.gateway.specs.Slots.{answerSlots, readSlots, labelSlots, talliesOf, standingIn}
+use Rattle.history.specs.Standing.{talliesOf}
+use Rattle.gateway.specs.Slots.{answerSlots, readSlots, labelSlots, standingIn}
 use Rattle.gateway.specs.Calls.{elementCall}
 
 -- a call that fills the eight numbers alone

@@ -1,4 +1,4 @@
--- Eight numbers of a call: code, object, bit, length, then what the call adds, then zeros; and the four tallies of a standing.
+-- Eight numbers of a call: code, object, bit, length, then what the call adds, then zeros; and a standing by its tallies.
 use Prim.Native.Nat.{ℕ}
 use mathlib.Core.List.{List, [], _∷_}
 use lib.ListN.{getD}
@@ -21,9 +21,6 @@ readSlots r = slots (r .answer) (r .kind) 0
 unfoldable pub labelSlots : LabelAt → List ℕ
 labelSlots l = slots (l .answer) (l .offset) (l .size)
 
--- applied, late, gap, other
-abbrev pub talliesOf : Standing → List ℕ
-talliesOf s = s .applied ∷ s .late ∷ s .gap ∷ s .other ∷ []
-
+-- a standing by its four tallies
 abbrev pub standingIn : List ℕ → Standing
 standingIn tallies = record { applied = getD tallies 0 0; late = getD tallies 1 0; gap = getD tallies 2 0; other = getD tallies 3 0 }

@@ -25,7 +25,8 @@ ghost use Rattle.fields.specs.Fields.{plainOf};
 ghost use Rattle.fields.specs.Calls.{writeFieldsCall};
 ghost use Rattle.receiver.specs.Receive.{answerOf, outputOf, standingOf};
 ghost use Rattle.listing.specs.Listing.{listingOf};
-ghost use Rattle.gateway.specs.Slots.{answerSlots, readSlots, labelSlots, talliesOf, standingIn};
+ghost use Rattle.history.specs.Standing.{talliesOf};
+ghost use Rattle.gateway.specs.Slots.{answerSlots, readSlots, labelSlots, standingIn};
 ghost use Rattle.gateway.specs.Calls.{elementCall};
 
 // ---- checks

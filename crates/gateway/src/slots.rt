@@ -5,7 +5,8 @@ use tables::label_place;
 ghost use mathlib.Core.Path.{_≡_};
 ghost use Rattle.history.specs.Calls.{labelCall};
 ghost use Rattle.tables.specs.LabelPlaces.{labelTold};
-ghost use Rattle.gateway.specs.Slots.{slots, answerSlots, labelSlots, talliesOf, standingIn};
+ghost use Rattle.history.specs.Standing.{talliesOf};
+ghost use Rattle.gateway.specs.Slots.{slots, answerSlots, labelSlots, standingIn};
 
 // An answer's four numbers, then zeros.
 pub fn answer_slots(answer: Answer) -> [u32; 8]

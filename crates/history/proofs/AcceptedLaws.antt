@@ -24,13 +24,13 @@ pub record Under (T : List ℕ) : Type 0 where
 pub table-of : {B : Type 0} (T : List ℕ) (f : Plan → Verdict B) {b : B} → then (readPlan T) f ≡ done b → (u : Under T) × (f (u .plan) ≡ done b)
 table-of T f e = let q = used (readPlan T) f e in (record { plan = q .0; reads = q .1 }, q .2)
 
-pub image-of : {B : Type 0} (p : Plan) (A : List ℕ) → Bytes A → (f : Image → Verdict B) {b : B} → then (readImage p A) f ≡ done b → (a : AcceptedImage p A) × (f (a .image) ≡ done b)
+image-of : {B : Type 0} (p : Plan) (A : List ℕ) → Bytes A → (f : Image → Verdict B) {b : B} → then (readImage p A) f ≡ done b → (a : AcceptedImage p A) × (f (a .image) ≡ done b)
 image-of p A h f e =
     let q = used (readImage p A) f e in
     let i = image-is p A h (q .1) in
     (record { image = q .0; legal = i .0; reads = q .1; same = i .1 }, q .2)
 
-pub list-of : {B : Type 0} (p : Plan) (L : List ℕ) → Bytes L → (f : Changes → Verdict B) {b : B} → then (readList p L) f ≡ done b → (l : AcceptedList p L) × (f (l .list) ≡ done b)
+list-of : {B : Type 0} (p : Plan) (L : List ℕ) → Bytes L → (f : Changes → Verdict B) {b : B} → then (readList p L) f ≡ done b → (l : AcceptedList p L) × (f (l .list) ≡ done b)
 list-of p L h f e =
     let q = used (readList p L) f e in
     let i = list-is p L h (q .1) in

@@ -29,24 +29,24 @@ use Rattle.history.proofs.ElementLaws.{code-found}
 use Rattle.history.proofs.OutputLaws.{Ran, succeeds, too-short}
 
 abbrev pub Coded : {A : Type 0} → Verdict A → Type 0
-Coded (refused code object bit) = (1 ≤ code) × (code ≤ 22)
+Coded (refused code object bit) = (1 ≤ code) × (code ≤ 22) × (code ≡ 21 → ⊥)
 Coded (done a) = Unit {0}
 
 -- ---- the ways to refuse
 
-pub coded-then : {A B : Type 0} (x : Verdict A) (f : A → Verdict B) → Coded x → ((a : A) → Coded (f a)) → Coded (then x f)
+coded-then : {A B : Type 0} (x : Verdict A) (f : A → Verdict B) → Coded x → ((a : A) → Coded (f a)) → Coded (then x f)
 coded-then (refused code object bit) f h g = h
 coded-then (done a) f h g = g a
 
-pub coded-unless : {A : Type 0} (code object bit : ℕ) (t : Bool) (r : Verdict A) → 1 ≤ code → code ≤ 22 → Coded r → Coded (refused code object bit unless t ⨾ r)
-coded-unless code object bit true r l u h = h
-coded-unless code object bit false r l u h = (l, u)
+pub coded-unless : {A : Type 0} (code object bit : ℕ) (t : Bool) (r : Verdict A) → 1 ≤ code → code ≤ 22 → (code ≡ 21 → ⊥) → Coded r → Coded (refused code object bit unless t ⨾ r)
+coded-unless code object bit true r l u n h = h
+coded-unless code object bit false r l u n h = (l, u, n)
 
 -- ---- elements: 10, 11, 12
 
 coded-of : {A : Type 0} (v : Finding) (i : ℕ) (r : Verdict A) → Found v → Coded r → Coded (v of i ⨾ r)
 coded-of Finding.Accepted i r f h = h
-coded-of (Finding.Refused x) i r f h = (omega (arith, f .0), omega (arith, f .1))
+coded-of (Finding.Refused x) i r f h = (omega (arith, f .0), omega (arith, f .1), (λ e. omega (arith, f .1)))
 
 coded-element : {A : Type 0} (k : Kind) (w i : ℕ) (r : Verdict A) → Coded r → Coded (element k w of i ⨾ r)
 coded-element k w i r h = coded-of (element k w) i r (code-found k w) h
@@ -56,20 +56,20 @@ coded-element k w i r h = coded-of (element k w) i r (code-found k w) h
 form-coded : (least : ℕ) (good : ℕ → Bool) (b : List ℕ) → Coded (readForm least good b)
 unfolding readForm
 form-coded least good b =
-    coded-unless _ _ _ (isWhole least b) _ (omega arith) (omega arith) (coded-unless _ _ _ (good (getD b 4 0)) _ (omega arith) (omega arith) tt)
+    coded-unless _ _ _ (isWhole least b) _ (omega arith) (omega arith) (λ e. omega arith) (coded-unless _ _ _ (good (getD b 4 0)) _ (omega arith) (omega arith) (λ e. omega arith) tt)
 
 object-coded : (version x : ℕ) (earlier : List Object) (b : List ℕ) (e : ObjectEntry) → Coded (checkObject version x earlier b e)
 unfolding checkObject
 object-coded version x earlier b e =
-    coded-unless _ _ _ (leb 2 (length b)) _ (omega arith) (omega arith)
-    (coded-unless _ _ _ (carried x (e .object .type)) _ (omega arith) (omega arith)
-    (coded-unless _ _ _ (leb 1 (e .size) && leb (e .size) (labelLimit version)) _ (omega arith) (omega arith)
-    (coded-unless _ _ _ (leb (2 + e .size) (length b)) _ (omega arith) (omega arith)
-    (coded-unless _ _ _ (labelGood (e .object .label)) _ (omega arith) (omega arith)
-    (coded-unless _ _ _ (not (repeats (e .object) earlier)) _ (omega arith) (omega arith) tt)))))
+    coded-unless _ _ _ (leb 2 (length b)) _ (omega arith) (omega arith) (λ e. omega arith)
+    (coded-unless _ _ _ (carried x (e .object .type)) _ (omega arith) (omega arith) (λ e. omega arith)
+    (coded-unless _ _ _ (leb 1 (e .size) && leb (e .size) (labelLimit version)) _ (omega arith) (omega arith) (λ e. omega arith)
+    (coded-unless _ _ _ (leb (2 + e .size) (length b)) _ (omega arith) (omega arith) (λ e. omega arith)
+    (coded-unless _ _ _ (labelGood (e .object .label)) _ (omega arith) (omega arith) (λ e. omega arith)
+    (coded-unless _ _ _ (not (repeats (e .object) earlier)) _ (omega arith) (omega arith) (λ e. omega arith) tt)))))
 
 objects-coded : (version x : ℕ) (earlier : List Object) (n : ℕ) (b : List ℕ) → Coded (readObjects version x earlier n b)
-objects-coded version x earlier zero b = coded-unless _ _ _ (eqb (length b) 0) _ (omega arith) (omega arith) tt
+objects-coded version x earlier zero b = coded-unless _ _ _ (eqb (length b) 0) _ (omega arith) (omega arith) (λ e. omega arith) tt
 objects-coded version x earlier (suc n) b =
     coded-then (checkObject version x earlier b (objectAt b)) _ (object-coded version x earlier b (objectAt b))
     (λ e. objects-coded version x (earlier ++ (e .object ∷ [])) n (e .rest))
@@ -78,8 +78,8 @@ table-coded : (b : List ℕ) → Coded (readTable b)
 unfolding readTable
 table-coded b =
     coded-then (readForm 5 versionGood b) _ (form-coded 5 versionGood b) λ f.
-    coded-unless _ _ _ (catalogueGood (f .x) (f .y)) _ (omega arith) (omega arith)
-    (coded-unless _ _ _ (leb (number (take 2 (f .contents))) 1024) _ (omega arith) (omega arith)
+    coded-unless _ _ _ (catalogueGood (f .x) (f .y)) _ (omega arith) (omega arith) (λ e. omega arith)
+    (coded-unless _ _ _ (leb (number (take 2 (f .contents))) 1024) _ (omega arith) (omega arith) (λ e. omega arith)
     (coded-then (readObjects (f .version) (f .x) [] (number (take 2 (f .contents))) (drop 2 (f .contents))) _ (objects-coded (f .version) (f .x) [] (number (take 2 (f .contents))) (drop 2 (f .contents))) (λ os. tt)))
 
 words-coded : (i : ℕ) (ks : List Kind) (b : List ℕ) → Coded (readWords i ks b)
@@ -92,23 +92,23 @@ pub image-coded : (p : Plan) (b : List ℕ) → Coded (readImage p b)
 unfolding readImage
 image-coded p b =
     coded-then (readForm 7 imageVersionGood b) _ (form-coded 7 imageVersionGood b) λ f.
-    coded-unless _ _ _ (sameCatalogue f p) _ (omega arith) (omega arith)
-    (coded-unless _ _ _ (eqb (length (f .contents)) (4 + widths (p .kinds))) _ (omega arith) (omega arith)
+    coded-unless _ _ _ (sameCatalogue f p) _ (omega arith) (omega arith) (λ e. omega arith)
+    (coded-unless _ _ _ (eqb (length (f .contents)) (4 + widths (p .kinds))) _ (omega arith) (omega arith) (λ e. omega arith)
     (coded-then (readWords 0 (p .kinds) (drop 4 (f .contents))) _ (words-coded 0 (p .kinds) _) (λ ws. tt)))
 
 entry-coded : (ks : List Kind) (low : ℕ) (b : List ℕ) (e : Entry) → Coded (checkEntry ks low b e)
 unfolding checkEntry checkChange
 entry-coded ks low b e =
-    coded-unless _ _ _ (leb 2 (length b)) _ (omega arith) (omega arith)
-    (coded-unless _ _ _ (ltb (e .object) (length ks)) _ (omega arith) (omega arith)
-    (coded-unless _ _ _ (leb low (e .object)) _ (omega arith) (omega arith)
-    (coded-unless _ _ _ (leb (2 + (widthOf (e .kind) + widthOf (e .kind))) (length b)) _ (omega arith) (omega arith)
+    coded-unless _ _ _ (leb 2 (length b)) _ (omega arith) (omega arith) (λ e. omega arith)
+    (coded-unless _ _ _ (ltb (e .object) (length ks)) _ (omega arith) (omega arith) (λ e. omega arith)
+    (coded-unless _ _ _ (leb low (e .object)) _ (omega arith) (omega arith) (λ e. omega arith)
+    (coded-unless _ _ _ (leb (2 + (widthOf (e .kind) + widthOf (e .kind))) (length b)) _ (omega arith) (omega arith) (λ e. omega arith)
     (coded-element (e .kind) (e .old) (e .object) _
     (coded-element (e .kind) (e .new) (e .object) _
-    (coded-unless _ _ _ (not (eqb (e .old) (e .new))) _ (omega arith) (omega arith) tt))))))
+    (coded-unless _ _ _ (not (eqb (e .old) (e .new))) _ (omega arith) (omega arith) (λ e. omega arith) tt))))))
 
 entries-coded : (ks : List Kind) (low n : ℕ) (b : List ℕ) → Coded (readEntries ks low n b)
-entries-coded ks low zero b = coded-unless _ _ _ (eqb (length b) 0) _ (omega arith) (omega arith) tt
+entries-coded ks low zero b = coded-unless _ _ _ (eqb (length b) 0) _ (omega arith) (omega arith) (λ e. omega arith) tt
 entries-coded ks low (suc n) b =
     coded-then (checkEntry ks low b (entryAt ks b)) _ (entry-coded ks low b (entryAt ks b)) λ e.
     coded-then (readEntries ks (suc (e .object)) n (e .rest)) _ (entries-coded ks (suc (e .object)) n (e .rest)) (λ cs. tt)
@@ -117,32 +117,32 @@ pub list-coded : (p : Plan) (b : List ℕ) → Coded (readList p b)
 unfolding readList
 list-coded p b =
     coded-then (readForm 13 (eqb listVersion) b) _ (form-coded 13 (eqb listVersion) b) λ f.
-    coded-unless _ _ _ (sameCatalogue f p) _ (omega arith) (omega arith)
+    coded-unless _ _ _ (sameCatalogue f p) _ (omega arith) (omega arith) (λ e. omega arith)
     (coded-then (readEntries (p .kinds) 0 (number (take 2 (drop 8 (f .contents)))) (drop 10 (f .contents))) _ (entries-coded (p .kinds) 0 (number (take 2 (drop 8 (f .contents)))) (drop 10 (f .contents))) (λ cs. tt))
 
-pub plan-coded : (t : List ℕ) → Coded (readPlan t)
+plan-coded : (t : List ℕ) → Coded (readPlan t)
 unfolding readPlan
 plan-coded t = coded-then (readTable t) _ (table-coded t) (λ t. tt)
 
 -- ---- operations
 
-lowest-coded : {A B C : Type 0} (code : ℕ) (test : A → B → Bool) (i : ℕ) (xs : List A) (ys : List B) (c : C) → 1 ≤ code → code ≤ 22 → Coded (lowest code test i xs ys c)
-lowest-coded code test i [] ys c l u = tt
-lowest-coded code test i (x ∷ xs) [] c l u = tt
-lowest-coded code test i (x ∷ xs) (y ∷ ys) c l u = coded-unless _ _ _ (test x y) _ l u (lowest-coded code test (suc i) xs ys c l u)
+lowest-coded : {A B C : Type 0} (code : ℕ) (test : A → B → Bool) (i : ℕ) (xs : List A) (ys : List B) (c : C) → 1 ≤ code → code ≤ 22 → (code ≡ 21 → ⊥) → Coded (lowest code test i xs ys c)
+lowest-coded code test i [] ys c l u n = tt
+lowest-coded code test i (x ∷ xs) [] c l u n = tt
+lowest-coded code test i (x ∷ xs) (y ∷ ys) c l u n = coded-unless _ _ _ (test x y) _ l u n (lowest-coded code test (suc i) xs ys c l u n)
 
 pub applied-coded : (l : Changes) (a : Image) → Coded (applied l a)
 unfolding applied
 applied-coded l a =
-    coded-unless _ _ _ (leb (a .position) (l .from)) _ (omega arith) (omega arith)
-    (coded-unless _ _ _ (leb (l .from) (a .position)) _ (omega arith) (omega arith)
-    (lowest-coded 18 fits 0 (l .each) (a .words) (resultOf l a) (omega arith) (omega arith)))
+    coded-unless _ _ _ (leb (a .position) (l .from)) _ (omega arith) (omega arith) (λ e. omega arith)
+    (coded-unless _ _ _ (leb (l .from) (a .position)) _ (omega arith) (omega arith) (λ e. omega arith)
+    (lowest-coded 18 fits 0 (l .each) (a .words) (resultOf l a) (omega arith) (omega arith) (λ e. omega arith)))
 
 pub join-coded : (l m : Changes) → Coded (join l m)
 unfolding join
 join-coded l m =
-    coded-unless _ _ _ (eqb (l .to) (m .from)) _ (omega arith) (omega arith)
-    (lowest-coded 20 meets 0 (l .each) (m .each) (jointOf l m) (omega arith) (omega arith))
+    coded-unless _ _ _ (eqb (l .to) (m .from)) _ (omega arith) (omega arith) (λ e. omega arith)
+    (lowest-coded 20 meets 0 (l .each) (m .each) (jointOf l m) (omega arith) (omega arith) (λ e. omega arith))
 
 -- ---- the calls
 
@@ -192,13 +192,13 @@ unfolding readStateCall readStateUnder
 read-call-coded t a i =
     coded-then (readPlan t) _ (plan-coded t) λ p.
     coded-then (readImage p a) _ (image-coded p a) λ a.
-    coded-unless _ _ _ (ltb i (length (p .kinds))) _ (omega arith) (omega arith) tt
+    coded-unless _ _ _ (ltb i (length (p .kinds))) _ (omega arith) (omega arith) (λ e. omega arith) tt
 
 pub state-coded : (ks : List Kind) (i : ℕ) (state : Element) → Coded (checkState ks i state)
 unfolding checkState
 state-coded ks i state =
-    coded-unless _ _ _ (ltb i (length ks)) _ (omega arith) (omega arith)
-    (coded-unless _ _ _ (sameKind (kindIn state) (kindAt ks i)) _ (omega arith) (omega arith) (coded-element (kindAt ks i) (wordOf state) i _ tt))
+    coded-unless _ _ _ (ltb i (length ks)) _ (omega arith) (omega arith) (λ e. omega arith)
+    (coded-unless _ _ _ (sameKind (kindIn state) (kindAt ks i)) _ (omega arith) (omega arith) (λ e. omega arith) (coded-element (kindAt ks i) (wordOf state) i _ tt))
 
 pub write-call-coded : (t a : List ℕ) (i : ℕ) (state : Element) (position : ℕ) → Coded (writeStateCall t a i state position)
 unfolding writeStateCall writeStateUnder
@@ -211,7 +211,7 @@ pub label-call-coded : (t : List ℕ) (i : ℕ) → Coded (labelCall t i)
 unfolding labelCall
 label-call-coded t i =
     coded-then (readTable t) _ (table-coded t) λ t.
-    coded-unless _ _ _ (ltb i (length (t .objects))) _ (omega arith) (omega arith) tt
+    coded-unless _ _ _ (ltb i (length (t .objects))) _ (omega arith) (omega arith) (λ e. omega arith) tt
 
 -- ---- code 0 tells success
 

@@ -1,4 +1,4 @@
--- What is found of an element and of a state: the one place that looks into the layouts' crates.
+-- What is found of an element and of a state, in history's words.
 -- Assumes nothing.
 use Prim.Native.Nat.{ℕ, zero, suc, _+_, _*_, _^_, _≤_, _<_}
 use native.Mathlib.Omega.{arith}
@@ -15,7 +15,7 @@ use Rattle.elements.specs.Elements.{sameKind, elementCheck, stateOf, wordOf}
 use Rattle.kinds.specs.declared.Kind.{Kind}
 use Rattle.kinds.specs.declared.Element.{Element}
 use Rattle.elements.proofs.Covering.{cover, kind-same}
-use Rattle.elements.proofs.Laws.{word-fits, state-kind as own-kind, state-word-state, word-state-word}
+use Rattle.elements.proofs.Laws.{word-fits, state-word-state, word-state-word}
 use Rattle.elements.proofs.DatLaws.{Stale, state-accepted, state-stale}
 use Rattle.elements.proofs.Findings.{Found, element-found, zero-found}
 use Rattle.history.specs.Verdict.{Verdict, done}
@@ -61,12 +61,9 @@ word-again k w h =
     let fits : w < 2 ^ (8 * widthOf k) = rw (pow-256 (widthOf k)) at (admits-fits k w h) in
     word-state-word k w fits (accepted (elementCheck k w) (admits-accepted k w h))
 
--- the state of an accepted number, and its kind
+-- the state of a state's number
 pub state-again : (k : Kind) (e : Element) → kindIn e ≡ k → stateOf k (wordOf e) ≡ e
 state-again k e s = ap (λ (j : Kind). stateOf j (wordOf e)) (sym s) ∙ state-word-state e
-
-pub state-kind : (k : Kind) (w : ℕ) → kindIn (stateOf k w) ≡ k
-state-kind k w = own-kind k w
 
 pub state-admitted : (k : Kind) (e : Element) → kindIn e ≡ k → isAccepted (element k (wordOf e)) ≡ true → admits k (wordOf e) ≡ true
 state-admitted k e s h =

@@ -1,17 +1,19 @@
--- The paper's table, images and lists, as bytes: the calls give what it prints, each code is given where it should be, and its trap about joins.
+-- The paper's table, images and lists, as bytes: the calls give what it prints, each code is given where it should be and names what it should,
+-- of two faults the first is named, what the forms' limits are, and its trap about joins.
 -- Assumes nothing.
 use Prim.Native.Nat.{ℕ}
 use mathlib.Core.Path.{_≡_, refl}
-use mathlib.Core.List.{List, [], _∷_, _++_, zipWith}
+use mathlib.Core.List.{List, [], _∷_, _++_, map, zipWith}
 use mathlib.Core.Bool.{true, false}
 use lib.ListN.{take, set, replicate}
 use Rattle.rows.specs.Table.{table, layouts}
 use Rattle.elements.specs.Elements.{carried, kindOf, datRule, elementCheck, stateOf, wordOf}
 use Rattle.kinds.specs.declared.Element.{Element}
 use Rattle.cases.specs.declared.ChangerAspect.{ChangerAspect}
+use Rattle.cases.specs.declared.BoardAspect.{BoardAspect}
 use Rattle.history.specs.declared.Standing.{Standing}
 use Rattle.octets.specs.Octets.{bytes}
-use Rattle.history.specs.Verdict.{refused, done, settled, numbers}
+use Rattle.history.specs.Verdict.{refused, done, settled, numbers, unnamed}
 use Rattle.history.specs.Form.{formBytes, isWhole, readForm}
 use Rattle.history.specs.Table.{versionGood, catalogueGood, labelLimit, labelGood, checkObject, readTable, planOf}
 use Rattle.history.specs.Image.{imageVersionGood, element, imageBytes, readImage}
@@ -21,16 +23,16 @@ use Rattle.history.specs.Operations.{difference, applied, join, turned}
 use Rattle.history.specs.Calls.{readPlan, tableCall, imageCall, listCall, differenceUnder, differenceCall, applyUnder, applyCall, joinUnder, joinCall, turnUnder, turnCall, readStateUnder, readStateCall, checkState, writeStateUnder, writeStateCall, labelCall}
 use Rattle.history.specs.Standing.{fresh, counted, receiveCall}
 
-abbrev T : List ℕ
+abbrev pub T : List ℕ
 T = 0 ∷ 0 ∷ 0 ∷ 0x14 ∷ 1 ∷ 1 ∷ 0 ∷ 0 ∷ 2 ∷ 4 ∷ 6 ∷ 0x41 ∷ 0x41 ∷ 0x3A ∷ 0x43 ∷ 0x56 ∷ 0x31 ∷ 2 ∷ 5 ∷ 0x41 ∷ 0x41 ∷ 0x3A ∷ 0x53 ∷ 0x31 ∷ []
 
-abbrev A : List ℕ
+abbrev pub A : List ℕ
 A = 0 ∷ 0 ∷ 0 ∷ 0x0A ∷ 1 ∷ 1 ∷ 0 ∷ 0 ∷ 0 ∷ 0 ∷ 7 ∷ 0 ∷ 0x01 ∷ 0x03 ∷ []
 
 abbrev B : List ℕ
 B = 0 ∷ 0 ∷ 0 ∷ 0x0A ∷ 1 ∷ 1 ∷ 0 ∷ 0 ∷ 0 ∷ 0 ∷ 8 ∷ 0 ∷ 0x31 ∷ 0x03 ∷ []
 
-abbrev C : List ℕ
+abbrev pub C : List ℕ
 C = 0 ∷ 0 ∷ 0 ∷ 0x0A ∷ 1 ∷ 1 ∷ 0 ∷ 0 ∷ 0 ∷ 0 ∷ 9 ∷ 0 ∷ 0x01 ∷ 0x05 ∷ []
 
 abbrev AB : List ℕ
@@ -53,6 +55,17 @@ Y = 0 ∷ 0 ∷ 0 ∷ 0x0A ∷ 1 ∷ 1 ∷ 0 ∷ 0 ∷ 0 ∷ 0 ∷ 9 ∷ 0 ∷ 0
 abbrev twice : List ℕ
 twice = 0 ∷ 0 ∷ 0 ∷ 0x0F ∷ 1 ∷ 1 ∷ 0 ∷ 0 ∷ 2 ∷ 2 ∷ 3 ∷ 0x41 ∷ 0x3A ∷ 0x42 ∷ 2 ∷ 3 ∷ 0x41 ∷ 0x3A ∷ 0x42 ∷ []
 
+-- three of which the last is as the first
+abbrev thrice : List ℕ
+thrice = 0 ∷ 0 ∷ 0 ∷ 0x14 ∷ 1 ∷ 1 ∷ 0 ∷ 0 ∷ 3 ∷ 2 ∷ 3 ∷ 0x41 ∷ 0x3A ∷ 0x42 ∷ 2 ∷ 3 ∷ 0x41 ∷ 0x3A ∷ 0x43 ∷ 2 ∷ 3 ∷ 0x41 ∷ 0x3A ∷ 0x42 ∷ []
+
+-- object 1 before object 0
+abbrev falling : List ℕ
+falling = 0 ∷ 0 ∷ 0 ∷ 0x17 ∷ 1 ∷ 1 ∷ 0 ∷ 0 ∷ 0 ∷ 0 ∷ 8 ∷ 0 ∷ 0 ∷ 0 ∷ 9 ∷ 0 ∷ 2 ∷ 0 ∷ 1 ∷ 0x03 ∷ 0x05 ∷ 0 ∷ 0 ∷ 0 ∷ 0x31 ∷ 0 ∷ 0x01 ∷ []
+
+abbrev fixedT : Element
+fixedT = Element.ChangerSignal (record { current = true; aspect = ChangerAspect.FixedT })
+
 pub printed : (tableCall T ≡ done (record { version = 1; x = 1; y = 0; objects = record { type = 4; label = 0x41 ∷ 0x41 ∷ 0x3A ∷ 0x43 ∷ 0x56 ∷ 0x31 ∷ [] } ∷ record { type = 2; label = 0x41 ∷ 0x41 ∷ 0x3A ∷ 0x53 ∷ 0x31 ∷ [] } ∷ [] }))
     × (imageCall T A ≡ done (record { version = 1; position = 7; words = 0x0001 ∷ 0x03 ∷ [] }))
     × (listCall T AB ≡ done (record { from = 7; to = 8; each = swap 0x0001 0x0031 ∷ keep ∷ [] }))
@@ -66,7 +79,7 @@ pub printed : (tableCall T ≡ done (record { version = 1; x = 1; y = 0; objects
     × (readStateCall T A 1 ≡ done (Element.ChangerSignal (record { current = true; aspect = ChangerAspect.FixedT })))
     × (writeStateCall T A 1 (Element.ChangerSignal (record { current = true; aspect = ChangerAspect.FixedC })) 9 ≡ done C)
     × (labelCall T 1 ≡ done (record { offset = 19; size = 5 }))
-    × (settled (differenceCall T A B) (replicate 23 0 ++ (5 ∷ [])) ≡ record { answer = numbers 0 65535 255 23; output = AB ++ (5 ∷ []) })
+    × (settled (differenceCall T A B) (replicate 23 0 ++ (5 ∷ [])) ≡ record { answer = unnamed 0 23; output = AB ++ (5 ∷ []) })
 unfolding table layouts datRule elementCheck stateOf wordOf bytes settled formBytes isWhole readForm versionGood catalogueGood labelLimit carried kindOf labelGood checkObject readTable planOf imageVersionGood element imageBytes readImage listVersion listBytes checkChange checkEntry readList difference applied join turned readPlan tableCall imageCall listCall differenceUnder differenceCall applyUnder applyCall joinUnder joinCall turnUnder turnCall readStateUnder readStateCall checkState writeStateUnder writeStateCall labelCall zipWith
 printed = (refl, refl, refl, refl, refl, refl, refl, refl, refl, refl, refl, refl, refl, refl)
 
@@ -93,11 +106,74 @@ pub each-code : (tableCall (take 3 T) ≡ refused 1 65535 255)
     × (applyCall T (set C 10 8) BC ≡ refused 18 0 255)
     × (joinCall T AB AB ≡ refused 19 65535 255)
     × (joinCall T BC (set BC 10 9) ≡ refused 20 0 255)
-    × (settled (differenceCall T A B) (0 ∷ []) ≡ record { answer = numbers 21 65535 255 23; output = 0 ∷ [] })
+    × (settled (differenceCall T A B) (0 ∷ []) ≡ record { answer = unnamed 21 23; output = 0 ∷ [] })
     × (writeStateCall T A 0 (Element.ChangerSignal (record { current = true; aspect = ChangerAspect.FixedT })) 9 ≡ refused 22 0 255)
     × (writeStateCall T A 1 (Element.ChangerSignal (record { current = false; aspect = ChangerAspect.FixedT })) 9 ≡ refused 12 1 0)
 unfolding table layouts datRule elementCheck stateOf wordOf bytes settled formBytes isWhole readForm versionGood catalogueGood labelLimit carried kindOf labelGood checkObject readTable planOf imageVersionGood element imageBytes readImage listVersion listBytes checkChange checkEntry readList difference applied join turned readPlan tableCall imageCall listCall differenceUnder differenceCall applyUnder applyCall joinUnder joinCall turnUnder turnCall readStateUnder readStateCall checkState writeStateUnder writeStateCall zipWith
 each-code = (refl, refl, refl, refl, refl, refl, refl, refl, refl, refl, refl, refl, refl, refl, refl, refl, refl, refl, refl, refl, refl, refl, refl, refl, refl, refl)
+
+-- what is named: the object's own number, wherever it stands
+pub names-each : (tableCall (set T 17 10) ≡ refused 5 1 255)
+    × (tableCall (set T 18 33) ≡ refused 6 1 255)
+    × (tableCall thrice ≡ refused 7 2 255)
+    × (listCall T (set AB 18 7) ≡ refused 13 7 255)
+    × (listCall T (set AB 17 1) ≡ refused 13 256 255)
+    × (readStateCall T A 7 ≡ refused 13 7 255)
+    × (writeStateCall T A 7 fixedT 9 ≡ refused 13 7 255)
+    × (labelCall T 7 ≡ refused 13 7 255)
+    × (listCall T falling ≡ refused 14 0 255)
+    × (listCall T (set AC 20 0x03) ≡ refused 15 1 255)
+    × (listCall T (set AC 19 0x09) ≡ refused 10 1 3)
+    × (listCall T (set AC 20 0x0D) ≡ refused 10 1 3)
+    × (listCall T (set AB 21 0x14) ≡ refused 11 0 10)
+    × (listCall T (set AC 20 0x04) ≡ refused 12 1 0)
+    × (applyCall T (set A 13 0x05) AC ≡ refused 18 1 255)
+    × (joinCall T AC (set (set AC 10 9) 19 0x07) ≡ refused 20 1 255)
+    × (writeStateCall T A 1 (Element.VirtualBoard (record { current = true; aspect = BoardAspect.Red; «closing_commanded» = false })) 9 ≡ refused 22 1 255)
+unfolding table layouts datRule elementCheck stateOf wordOf bytes settled formBytes isWhole readForm versionGood catalogueGood labelLimit carried kindOf labelGood checkObject readTable planOf imageVersionGood element imageBytes readImage listVersion listBytes checkChange checkEntry readList difference applied join turned readPlan tableCall imageCall listCall differenceUnder differenceCall applyUnder applyCall joinUnder joinCall turnUnder turnCall readStateUnder readStateCall checkState writeStateUnder writeStateCall zipWith labelCall
+names-each = (refl, refl, refl, refl, refl, refl, refl, refl, refl, refl, refl, refl, refl, refl, refl, refl, refl)
+
+-- 8, by where bytes are lacking or left over
+pub eights : (tableCall (0 ∷ 0 ∷ 0 ∷ 6 ∷ 1 ∷ 1 ∷ 0 ∷ 0 ∷ 1 ∷ 2 ∷ []) ≡ refused 8 65535 255)
+    × (tableCall (0 ∷ 0 ∷ 0 ∷ 8 ∷ 1 ∷ 1 ∷ 0 ∷ 0 ∷ 1 ∷ 2 ∷ 3 ∷ 0x41 ∷ []) ≡ refused 8 65535 255)
+    × (tableCall (set T 8 1) ≡ refused 8 65535 255)
+    × (imageCall T (0 ∷ 0 ∷ 0 ∷ 0x09 ∷ 1 ∷ 1 ∷ 0 ∷ 0 ∷ 0 ∷ 0 ∷ 7 ∷ 0 ∷ 0x01 ∷ []) ≡ refused 8 65535 255)
+    × (listCall T (set AB 16 2) ≡ refused 8 65535 255)
+    × (listCall T (set BC 24 0xFF) ≡ refused 13 255 255)
+    × (listCall T (set AC 18 0) ≡ refused 8 65535 255)
+unfolding table layouts datRule elementCheck stateOf wordOf bytes settled formBytes isWhole readForm versionGood catalogueGood labelLimit carried kindOf labelGood checkObject readTable planOf imageVersionGood element imageBytes readImage listVersion listBytes checkChange checkEntry readList difference applied join turned readPlan tableCall imageCall listCall differenceUnder differenceCall applyUnder applyCall joinUnder joinCall turnUnder turnCall readStateUnder readStateCall checkState writeStateUnder writeStateCall zipWith
+eights = (refl, refl, refl, refl, refl, refl, refl)
+
+-- two faults at once: the order of the paper
+pub first-named : (tableCall (set (set T 4 2) 6 1) ≡ refused 2 65535 255)
+    × (tableCall (set (set T 6 1) 7 4) ≡ refused 3 65535 255)
+    × (tableCall (set (set T 9 10) 10 33) ≡ refused 5 0 255)
+    × (tableCall (set (set T 10 33) 8 9) ≡ refused 6 0 255)
+    × (imageCall (set T 6 1) (take 3 A) ≡ refused 3 65535 255)
+    × (imageCall T (set (set A 5 2) 4 2) ≡ refused 2 65535 255)
+    × (imageCall T (set (set A 13 0x09) 12 0x00) ≡ refused 10 1 3)
+    × (imageCall T (set (set A 13 0x09) 11 0x14) ≡ refused 11 0 10)
+    × (listCall T (set (set AB 20 0xC1) 21 0x14) ≡ refused 11 0 6)
+    × (differenceCall T (set A 13 0x09) (take 3 B) ≡ refused 10 1 3)
+    × (applyCall T (set A 13 0x09) (take 3 AB) ≡ refused 10 1 3)
+    × (applyCall T (set X 10 9) AB ≡ refused 16 65535 255)
+    × (joinCall T (set AB 22 1) (take 3 BC) ≡ refused 15 0 255)
+    × (joinCall T BC BC ≡ refused 19 65535 255)
+    × (readStateCall T (set A 13 0x09) 7 ≡ refused 10 1 3)
+    × (writeStateCall T A 0 (Element.ChangerSignal (record { current = false; aspect = ChangerAspect.FixedT })) 9 ≡ refused 22 0 255)
+    × (settled (writeStateCall T A 7 fixedT 9) [] .answer ≡ numbers 13 7 255 0)
+unfolding table layouts datRule elementCheck stateOf wordOf bytes settled formBytes isWhole readForm versionGood catalogueGood labelLimit carried kindOf labelGood checkObject readTable planOf imageVersionGood element imageBytes readImage listVersion listBytes checkChange checkEntry readList difference applied join turned readPlan tableCall imageCall listCall differenceUnder differenceCall applyUnder applyCall joinUnder joinCall turnUnder turnCall readStateUnder readStateCall checkState writeStateUnder writeStateCall zipWith
+first-named = (refl, refl, refl, refl, refl, refl, refl, refl, refl, refl, refl, refl, refl, refl, refl, refl, refl)
+
+-- what the forms may hold: labels of 33 to 126 with a colon inside, 32 bytes, version 1, catalogue 1.0
+pub limits : (map labelGood ((33 ∷ 58 ∷ 126 ∷ []) ∷ (32 ∷ 58 ∷ 65 ∷ []) ∷ (65 ∷ 58 ∷ 127 ∷ []) ∷ (58 ∷ 65 ∷ []) ∷ (65 ∷ 58 ∷ []) ∷ (65 ∷ 66 ∷ 67 ∷ []) ∷ (65 ∷ 58 ∷ 58 ∷ []) ∷ []) ≡ true ∷ false ∷ false ∷ false ∷ false ∷ false ∷ true ∷ [])
+    × (labelLimit 1 ≡ 32)
+    × (map versionGood (0 ∷ 1 ∷ 2 ∷ 255 ∷ []) ≡ false ∷ true ∷ false ∷ false ∷ [])
+    × (map imageVersionGood (0 ∷ 1 ∷ 2 ∷ 255 ∷ []) ≡ false ∷ true ∷ false ∷ false ∷ [])
+    × (map (catalogueGood 1) (0 ∷ 1 ∷ 2 ∷ []) ≡ true ∷ false ∷ false ∷ [])
+    × (map (λ (x : ℕ). catalogueGood x 0) (0 ∷ 2 ∷ 3 ∷ []) ≡ false ∷ false ∷ false ∷ [])
+unfolding labelGood labelLimit versionGood imageVersionGood catalogueGood
+limits = (refl, refl, refl, refl, refl, refl)
 
 -- "A join that drops an object also applies to images that refuse the steps": the join of AB and BC drops object 0
 pub trap : (joinCall T AB BC ≡ done AC) × (applyCall T X AB ≡ refused 18 0 255) × (applyCall T X AC ≡ done Y)
@@ -108,11 +184,12 @@ trap = (refl, refl, refl)
 abbrev brim : Standing
 brim = record { applied = 4294967295; late = 1; gap = 2; other = 3 }
 
-pub received-each : (receiveCall T A AB (A ++ (5 ∷ [])) fresh ≡ record { answer = numbers 0 65535 255 14; output = B ++ (5 ∷ []); standing = record { applied = 1; late = 0; gap = 0; other = 0 } })
-    × (receiveCall T C AB [] fresh ≡ record { answer = numbers 16 65535 255 0; output = []; standing = record { applied = 0; late = 1; gap = 0; other = 0 } })
-    × (receiveCall T A BC B fresh ≡ record { answer = numbers 17 65535 255 0; output = B; standing = record { applied = 0; late = 0; gap = 1; other = 0 } })
+pub received-each : (receiveCall T A AB (A ++ (5 ∷ [])) fresh ≡ record { answer = unnamed 0 14; output = B ++ (5 ∷ []); standing = record { applied = 1; late = 0; gap = 0; other = 0 } })
+    × (receiveCall T C AB [] fresh ≡ record { answer = unnamed 16 0; output = []; standing = record { applied = 0; late = 1; gap = 0; other = 0 } })
+    × (receiveCall T A BC B fresh ≡ record { answer = unnamed 17 0; output = B; standing = record { applied = 0; late = 0; gap = 1; other = 0 } })
     × (receiveCall T X AB B fresh ≡ record { answer = numbers 18 0 255 0; output = B; standing = record { applied = 0; late = 0; gap = 0; other = 1 } })
-    × (receiveCall T A AB (take 13 B) fresh ≡ record { answer = numbers 21 65535 255 14; output = take 13 B; standing = record { applied = 0; late = 0; gap = 0; other = 1 } })
+    × (receiveCall T A AB (take 13 B) fresh ≡ record { answer = unnamed 21 14; output = take 13 B; standing = record { applied = 0; late = 0; gap = 0; other = 1 } })
     × (receiveCall T A AB B brim .standing ≡ brim)
+    × (receiveCall T A AB B (record { applied = 4294967294; late = 1; gap = 2; other = 3 }) .standing ≡ brim)
 unfolding table layouts datRule elementCheck stateOf wordOf bytes settled formBytes isWhole readForm versionGood catalogueGood labelLimit carried kindOf labelGood checkObject readTable planOf imageVersionGood element imageBytes readImage listVersion listBytes checkChange checkEntry readList applied readPlan applyUnder applyCall fresh counted receiveCall zipWith
-received-each = (refl, refl, refl, refl, refl, refl)
+received-each = (refl, refl, refl, refl, refl, refl, refl)

@@ -35,7 +35,7 @@ zeros-admitted (k ∷ ks) = and (zero-admitted k) (zeros-admitted ks)
 abbrev pub silent : Plan → Image
 silent p = record { version = 1; position = 0; words = zeros (p .kinds) }
 
-pub silent-legal : (p : Plan) → LegalImage p (silent p)
+silent-legal : (p : Plan) → LegalImage p (silent p)
 unfolding imageVersionGood
 silent-legal p = record { version = refl; position = omega arith; words = zeros-admitted (p .kinds) }
 
@@ -87,12 +87,12 @@ pub record Taken (p : Plan) (l m : Changes) : Type 0 where
   pub second : applied m between ≡ done last
 
 module _ {p : Plan} where
-  pub start-legal : {l m : Changes} {z : Image} → LegalList p l → LegalList p m → LegalImage p z → LegalImage p (start l m z)
+  start-legal : {l m : Changes} {z : Image} → LegalList p l → LegalList p m → LegalImage p z → LegalImage p (start l m z)
   unfolding start
   start-legal hl hm hz = record { version = hz .version; position = hl .from; words = before-admits-all (hl .each) (before-admits-all (hm .each) (hz .words)) }
 
   -- where two lists join, an image takes the first and then the second
-  pub join-history : {l m k : Changes} {z : Image} → LegalList p l → LegalList p m → LegalImage p z → join l m ≡ done k
+  join-history : {l m k : Changes} {z : Image} → LegalList p l → LegalList p m → LegalImage p z → join l m ≡ done k
       → (b : Image) × (c : Image) × (applied l (start l m z) ≡ done b) × (applied m b ≡ done c)
   unfolding start
   join-history {l} {m} {k} {z} hl hm hz e =

@@ -122,3 +122,21 @@ image-reads {p} {a} f h =
 -- accepted exactly where it is the form of a legal image, which it is then read as
 pub image-form : (p : Plan) → Fair p → (b : List ℕ) → Bytes b → (a : Image) → (readImage p b ≡ done a) ↔ (LegalImage p a × (b ≡ imageBytes p a))
 image-form p f b h a = (image-is p b h, (λ w. ap (readImage p) (w .1) ∙ image-reads f (w .0)))
+
+-- ---- where its parts stand: the position from byte 7 on, the elements from byte 11 on
+
+image-tail : (p : Plan) (a : Image) → drop 7 (imageBytes p a) ≡ bytes 4 (a .position) ++ wordsBytes (p .kinds) (a .words)
+unfolding imageBytes formBytes bytes
+image-tail p a = refl
+
+pub image-words : (p : Plan) (a : Image) → drop 11 (imageBytes p a) ≡ wordsBytes (p .kinds) (a .words)
+unfolding imageBytes formBytes bytes
+image-words p a = refl
+
+module _ {p : Plan} {a : Image} (h : LegalImage p a) where
+  pub image-position : number (take 4 (drop 7 (imageBytes p a))) ≡ a .position
+  image-position = ap (λ (b : List ℕ). number (take 4 b)) (image-tail p a) ∙ read-bytes 4 (a .position) _ (h .position)
+
+  pub image-long : length (imageBytes p a) ≡ 11 + widths (p .kinds)
+  unfolding imageBytes formBytes
+  image-long = simp (length-append, length-bytes, length-words (h .words)) (omega arith)

@@ -32,7 +32,7 @@ after-nine : (t : Table) → drop 9 (tableBytes t) ≡ objectsBytes (t .objects)
 unfolding tableBytes formBytes bytes
 after-nine t = refl
 
-pub label-at : (t : Table) (i : ℕ) → i < length (t .objects) → take (labelPlace t i .size) (drop (labelPlace t i .offset) (tableBytes t)) ≡ object t i .label
+label-at : (t : Table) (i : ℕ) → i < length (t .objects) → take (labelPlace t i .size) (drop (labelPlace t i .offset) (tableBytes t)) ≡ object t i .label
 label-at t i h =
     let n : ℕ = length (objectsBytes (take i (t .objects))) in
     let l : List ℕ = object t i .label in

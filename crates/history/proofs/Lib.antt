@@ -14,7 +14,6 @@ pub mod OneOutcome
 pub mod LabelLaws
 pub mod AcceptedLaws
 pub mod Demands
-pub mod WalkLaws
 pub mod HistoryLaws
 pub mod StandingLaws
 pub mod CodeLaws

@@ -9,7 +9,7 @@ use lib.Dec.{eqb, leb}
 use borrow.Author.Tests.{eq-eqb, ne-eqb, eqb-true, eqb-false, le-leb, lt-leb, leb-true, leb-false}
 use native.Mathlib.Nat.{le-antisymm, zero-add}
 use Rattle.kinds.specs.declared.Kind.{Kind}
-use Rattle.history.specs.Verdict.{refused, done, then, refusal, refusalAt}
+use Rattle.history.specs.Verdict.{refused, done, refusal, refusalAt}
 use Rattle.history.specs.Table.{Plan}
 use Rattle.history.specs.Image.{Image, imageVersionGood}
 use Rattle.history.specs.declared.Change.{Change}
@@ -239,38 +239,9 @@ refuses-meeting l m j e h =
 -- ---- lists that some image takes in turn
 
 module _ {p : Plan} where
-  -- two: they join, to the list from the first image to the last, which the first image takes with the same result
+  -- two join, to the list from the first image to the last
   pub join-taken : {l m : Changes} {a b c : Image} → LegalList p l → LegalList p m → LegalImage p a → applied l a ≡ done b → applied m b ≡ done c
       → join l m ≡ done (difference a c)
   join-taken {l} {m} {a} {b} {c} hl hm ha e f =
       let hb = result-legal hl ha e in
       rw (only-difference hl ha e, only-difference hm hb f) (join-differences ha hb (result-legal hm hb f))
-
-  pub join-applies : {l m k : Changes} {a b c : Image} → LegalList p l → LegalList p m → LegalImage p a → applied l a ≡ done b → applied m b ≡ done c
-      → join l m ≡ done k → applied k a ≡ done c
-  join-applies {l} {m} {k} {a} {b} {c} hl hm ha e f j =
-      let hb = result-legal hl ha e in
-      let same : k ≡ difference a c = cc (join-taken hl hm ha e f) in
-      rw same (apply-difference ha (result-legal hm hb f) (keeps-version hl ha e ∙ keeps-version hm hb f))
-
-  -- three: whichever pair is joined first
-  pub join-thrice : {l m n : Changes} {a b c d : Image} → LegalList p l → LegalList p m → LegalList p n → LegalImage p a
-      → applied l a ≡ done b → applied m b ≡ done c → applied n c ≡ done d
-      → (join l m ≡ done (difference a c)) × (join m n ≡ done (difference b d))
-      × (join (difference a c) n ≡ done (difference a d)) × (join l (difference b d) ≡ done (difference a d))
-  join-thrice {l} {m} {n} {a} {b} {c} {d} hl hm hn ha e f g =
-      let hb = result-legal hl ha e in
-      let hc = result-legal hm hb f in
-      let hd = result-legal hn hc g in (
-        join-taken hl hm ha e f,
-        join-taken hm hn hb f g,
-        join-taken (difference-legal ha hc) hn ha (apply-difference ha hc (keeps-version hl ha e ∙ keeps-version hm hb f)) g,
-        join-taken hl (difference-legal hb hd) ha e (apply-difference hb hd (keeps-version hm hb f ∙ keeps-version hn hc g)),
-      )
-
-  pub join-assoc : {l m n : Changes} {a b c d : Image} → LegalList p l → LegalList p m → LegalList p n → LegalImage p a
-      → applied l a ≡ done b → applied m b ≡ done c → applied n c ≡ done d
-      → then (join l m) (λ k. join k n) ≡ then (join m n) (λ k. join l k)
-  join-assoc {l} {m} {n} hl hm hn ha e f g =
-      let h = join-thrice hl hm hn ha e f g in
-      rw (h .0, h .1) (h .2 ∙ sym (h .3))

@@ -11,11 +11,11 @@ use lib.Seq.{take-append-seam, drop-append-seam}
 use borrow.Rule.Slice.PartMut.{putMid}
 use borrow.Author.Tests.{le-leb, lt-leb, leb-true, leb-false}
 use Rattle.history.specs.declared.Answer.{Answer}
-use Rattle.history.specs.Verdict.{Verdict, refused, done, then, Outcome, numbers, told, settled}
+use Rattle.history.specs.Verdict.{Verdict, refused, done, then, Outcome, numbers, unnamed, told, settled}
 
 -- the numbers of success, the answer's bytes in front, the rest as it was
 pub record Success (b out : List ℕ) (o : Outcome) : Type 0 where
-  pub answer : o .answer ≡ numbers 0 65535 255 (length b)
+  pub answer : o .answer ≡ unnamed 0 (length b)
   pub front : take (length b) (o .output) ≡ b
   pub rest : drop (length b) (o .output) ≡ drop (length b) out
 
@@ -27,7 +27,7 @@ succeeds {v} {b} out e h =
 
 -- 21 gives the length needed
 pub too-short : {v : Verdict (List ℕ)} {b : List ℕ} (out : List ℕ) → v ≡ done b → length out < length b
-    → (settled v out .answer ≡ numbers 21 65535 255 (length b)) × (settled v out .output ≡ out)
+    → (settled v out .answer ≡ unnamed 21 (length b)) × (settled v out .output ≡ out)
 unfolding settled
 too-short {v} {b} out e h = rw (e, lt-leb (length b) (length out) h) (refl, refl)
 
@@ -93,15 +93,15 @@ first-leaves (done a) f out e n = absurd (n (ap (λ (r : Answer). r .code) e))
 
 module _ (b out : List ℕ) {n : ℕ} (long : length b ≡ n) {r : Answer} where
   -- 21
-  pub short-leaves : length out < n → r ≡ numbers 21 65535 255 n → Leaves (done b) out r out
-  short-leaves h e = let s = too-short {b = b} out refl (rw long h) in (e ∙ ap (numbers 21 65535 255) (sym long) ∙ sym (s .0), sym (s .1))
+  pub short-leaves : length out < n → r ≡ unnamed 21 n → Leaves (done b) out r out
+  short-leaves h e = let s = too-short {b = b} out refl (rw long h) in (e ∙ ap (unnamed 21) (sym long) ∙ sym (s .0), sym (s .1))
 
-  pub written-leaves : n ≤ length out → r ≡ numbers 0 65535 255 n → {m : List ℕ} → m ≡ b ++ drop n out → Leaves (done b) out r m
+  pub written-leaves : n ≤ length out → r ≡ unnamed 0 n → {m : List ℕ} → m ≡ b ++ drop n out → Leaves (done b) out r m
   unfolding settled
   written-leaves h e q = rw (le-leb (length b) (length out) (rw long h), long) (e, q)
 
   -- the front was lent as a part and came back as the answer's bytes
-  pub front-leaves : n ≤ length out → r ≡ numbers 0 65535 255 n → {part : List ℕ} → part ≡ b → Leaves (done b) out r (putMid 0 (n - 0) out part)
+  pub front-leaves : n ≤ length out → r ≡ unnamed 0 n → {part : List ℕ} → part ≡ b → Leaves (done b) out r (putMid 0 (n - 0) out part)
   front-leaves h e q =
       let all : n - 0 ≡ n = omega arith in
       written-leaves h e (ap₂ (λ (p : List ℕ) (k : ℕ). p ++ drop k out) q all)

@@ -127,7 +127,7 @@ module _ (T : List ℕ) where
 
   module _ {p : Plan} (t : readPlan T ≡ done p) where
     -- lists that an image takes in turn join to the list from it to the last image, which turns it into that
-    pub join-in-turn : (A L : List ℕ) (Ms : List (List ℕ)) {C : List ℕ} → AcceptedImage p A → AcceptedList p L → AllBytes Ms → applyAll A (L ∷ Ms) ≡ done C → JoinsTo A L Ms C
+    join-in-turn : (A L : List ℕ) (Ms : List (List ℕ)) {C : List ℕ} → AcceptedImage p A → AcceptedList p L → AllBytes Ms → applyAll A (L ∷ Ms) ≡ done C → JoinsTo A L Ms C
     join-in-turn A L [] {C} a l h e =
         let x = used (applyCall T A L) _ e in
         let taken : applyCall T A L ≡ done C = cc (x .1, x .2) in

@@ -13,7 +13,7 @@ use Rattle.history.specs.declared.Answer.{Answer}
 use Rattle.history.specs.declared.Standing.{Standing}
 use Rattle.history.specs.Verdict.{settled}
 use Rattle.history.specs.Calls.{applyCall}
-use Rattle.history.specs.Standing.{fresh, full, oneMore, Tally, Applied, Late, Gap, Other, tallyOf, oneMoreOn, counted, receiveCall, NoneFull, total}
+use Rattle.history.specs.Standing.{talliesOf, fresh, full, oneMore, Tally, Applied, Late, Gap, Other, tallyOf, oneMoreOn, counted, receiveCall, NoneFull, total}
 
 -- ---- one tally
 
@@ -25,13 +25,9 @@ full-stays n h = simp (le-ltb _ _ h)
 
 -- ---- one call
 
--- the four, in their order
-abbrev pub tallies : Standing → List ℕ
-tallies s = s .applied ∷ s .late ∷ s .gap ∷ s .other ∷ []
-
 -- one place of the four is moved on, and the others are as they were
 abbrev pub OneMoved : Standing → Standing → Type 0
-OneMoved s s′ = (i : ℕ) × (i < 4) × (tallies s′ ≡ set (tallies s) i (oneMore (getD (tallies s) i 0)))
+OneMoved s s′ = (i : ℕ) × (i < 4) × (talliesOf s′ ≡ set (talliesOf s) i (oneMore (getD (talliesOf s) i 0)))
 
 on-moves : (t : Tally) (s : Standing) → OneMoved s (oneMoreOn t s)
 on-moves Applied s = (0, omega arith, refl)

@@ -13,6 +13,7 @@ use Rattle.kinds.specs.Kinds.{kindIn}
 use Rattle.elements.specs.Elements.{stateOf, wordOf}
 use Rattle.kinds.specs.declared.Kind.{Kind}
 use Rattle.kinds.specs.declared.Element.{Element}
+use Rattle.elements.proofs.Laws.{state-kind}
 use Rattle.elements.proofs.DatLaws.{Stale}
 use Rattle.history.specs.Verdict.{Verdict, refused, done, then, refusalAt, _unless_⨾_}
 use Rattle.history.specs.Table.{Plan, kindAt}
@@ -21,13 +22,13 @@ use Rattle.history.specs.Calls.{readPlan, placed, stateAt, readStateUnde
 use Rattle.elements.specs.Elements.{sameKind}
 use Rattle.history.specs.Legal.{isAccepted, admits, Every, nil, and, LegalImage}
 use Rattle.history.proofs.VerdictLaws.{held, used}
-use Rattle.history.proofs.ElementLaws.{was-accepted, is-accepted, admits-accepted, word-again, state-again, state-kind, state-admitted, same-kind, is-same-kind, state-current, state-twelve}
+use Rattle.history.proofs.ElementLaws.{was-accepted, is-accepted, admits-accepted, word-again, state-again, state-admitted, same-kind, is-same-kind, state-current, state-twelve}
 use Rattle.history.proofs.CallLaws.{AcceptedImage, legal-image}
 
 -- ---- all objects
 
 -- the words of all states are the words that these were read from
-pub words-again : {ks : List Kind} {ws : List ℕ} → Every admits ks ws → map wordOf (zipWith stateOf ks ws) ≡ ws
+words-again : {ks : List Kind} {ws : List ℕ} → Every admits ks ws → map wordOf (zipWith stateOf ks ws) ≡ ws
 unfolding zipWith
 words-again nil = refl
 words-again (and {a = k} {b = w} h r) = ap₂ _∷_ (word-again k w h) (words-again r)
@@ -74,7 +75,7 @@ module _ (ks : List Kind) (i : ℕ) (e : Element) where
       let q₃ = was-accepted (element (kindAt ks i) (wordOf e)) i _ (q₂ .1) in
       record { inside = ltb-true _ _ (q₁ .0); kind = same-kind (kindIn e) (kindAt ks i) (q₂ .0); good = q₃ .0; word = cc (q₃ .1) }
 
-  pub state-checked : i < length ks → kindIn e ≡ kindAt ks i → checkState ks i e ≡ (element (kindAt ks i) (wordOf e) of i ⨾ done (wordOf e))
+  state-checked : i < length ks → kindIn e ≡ kindAt ks i → checkState ks i e ≡ (element (kindAt ks i) (wordOf e) of i ⨾ done (wordOf e))
   unfolding checkState
   state-checked l s = rw (lt-ltb i (length ks) l, is-same-kind (kindIn e) (kindAt ks i) s)
 

@@ -45,12 +45,11 @@ back (swap old new) = swap new old
 
 -- ---- all objects (lists of one length)
 
-module _ {A B C : Type 0} where
-  -- refused at the lowest object, counted from i, at which the test fails
-  abbrev pub lowest : ℕ → (A → B → Bool) → ℕ → List A → List B → C → Verdict C
-  lowest code test i [] ys c = done c
-  lowest code test i (x ∷ xs) [] c = done c
-  lowest code test i (x ∷ xs) (y ∷ ys) c = refusalAt code i unless test x y ⨾ lowest code test (suc i) xs ys c
+-- refused at the lowest object, counted from i, at which the test fails
+abbrev pub lowest : {A B C : Type 0} → ℕ → (A → B → Bool) → ℕ → List A → List B → C → Verdict C
+lowest code test i [] ys c = done c
+lowest code test i (x ∷ xs) [] c = done c
+lowest code test i (x ∷ xs) (y ∷ ys) c = refusalAt code i unless test x y ⨾ lowest code test (suc i) xs ys c
 
 -- ---- the four operations
 

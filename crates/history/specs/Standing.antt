@@ -2,7 +2,7 @@
 -- other. Each receive call adds 1 to exactly one, refusals too; a tally at 4,294,967,295 stays."
 use Prim.Native.Nat.{ℕ, _+_, _<_}
 use mathlib.Core.Bool.{cond}
-use mathlib.Core.List.{List}
+use mathlib.Core.List.{List, [], _∷_}
 use lib.Dec.{eqb, ltb}
 use Rattle.history.specs.declared.Answer.{Answer}
 use Rattle.history.specs.declared.Standing.{Standing}
@@ -18,6 +18,10 @@ full = 4294967295
 -- one more; a full tally stays
 abbrev pub oneMore : ℕ → ℕ
 oneMore n = cond (ltb n full) (n + 1) n
+
+-- the four, in their order
+abbrev pub talliesOf : Standing → List ℕ
+talliesOf s = s .applied ∷ s .late ∷ s .gap ∷ s .other ∷ []
 
 pub data Tally : Type 0 where
   Applied : Tally

@@ -35,10 +35,14 @@ r unless false ⨾ rest = r
 abbrev pub numbers : ℕ → ℕ → ℕ → ℕ → Answer
 numbers code object bit n = record { code = code; object = object; bit = bit; length = n }
 
+-- where nothing is named
+abbrev pub unnamed : ℕ → ℕ → Answer
+unnamed code n = numbers code 65535 255 n
+
 -- a call that writes nothing: success is 0, 65535, 255, 0
 unfoldable pub told : {A : Type 0} → Verdict A → Answer
 told (refused code object bit) = numbers code object bit 0
-told (done a) = numbers 0 65535 255 0
+told (done a) = unnamed 0 0
 
 pub record Outcome : Type 0 where
   pub answer : Answer
@@ -49,5 +53,5 @@ unfoldable pub settled : Verdict (List ℕ) → List ℕ → Outcome
 settled (refused code object bit) out = record { answer = numbers code object bit 0; output = out }
 settled (done b) out =
     cond (leb (length b) (length out))
-    (record { answer = numbers 0 65535 255 (length b); output = b ++ drop (length b) out })
-    (record { answer = numbers 21 65535 255 (length b); output = out })
+    (record { answer = unnamed 0 (length b); output = b ++ drop (length b) out })
+    (record { answer = unnamed 21 (length b); output = out })

@@ -10,15 +10,10 @@ use Rattle.elements.specs.Elements.{carried, kindOf, datRule, elementCheck}
 use Rattle.history.specs.Form.{isWhole, readForm}
 use Rattle.history.specs.Table.{versionGood, catalogueGood, labelLimit, labelGood, checkObject, readTable, planOf}
 use Rattle.history.specs.Image.{imageVersionGood, element, readImage}
+use Rattle.history.proofs.Examples.{T, A}
 use Rattle.text.specs.Decimal.{decimalIn, decimal}
 use Rattle.text.specs.Hex.{hexDigit}
 use Rattle.listing.specs.Listing.{readBoth, readPanel, firstLine, objectLine, refusedLine, textOf, listingOf}
-
-abbrev T : List ℕ
-T = 0x00 ∷ 0x00 ∷ 0x00 ∷ 0x14 ∷ 0x01 ∷ 0x01 ∷ 0x00 ∷ 0x00 ∷ 0x02 ∷ 0x04 ∷ 0x06 ∷ 0x41 ∷ 0x41 ∷ 0x3A ∷ 0x43 ∷ 0x56 ∷ 0x31 ∷ 0x02 ∷ 0x05 ∷ 0x41 ∷ 0x41 ∷ 0x3A ∷ 0x53 ∷ 0x31 ∷ []
-
-abbrev A : List ℕ
-A = 0x00 ∷ 0x00 ∷ 0x00 ∷ 0x0A ∷ 0x01 ∷ 0x01 ∷ 0x00 ∷ 0x00 ∷ 0x00 ∷ 0x00 ∷ 0x07 ∷ 0x00 ∷ 0x01 ∷ 0x03 ∷ []
 
 -- "1.0 7 2", "0 4 AA:CV1 0001", "1 2 AA:S1 03", each with its newline
 abbrev printed : List ℕ

@@ -7,32 +7,32 @@ use mathlib.Core.Bool.{true, false}
 use mathlib.Core.List.{List, _++_}
 use lib.Dec.{leb}
 use lib.ListN.{length, take, drop, length-append, length-drop}
-use lib.Seq.{sets-eq, take-all}
+use lib.Seq.{sets-eq, take-all, take-append-seam, drop-append-seam}
 use borrow.Author.Tests.{le-leb, lt-leb}
 use Rattle.octets.specs.Octets.{number}
 use Rattle.history.specs.declared.Answer.{Answer}
-use Rattle.history.specs.Verdict.{refused, numbers}
+use Rattle.history.specs.Verdict.{refused, unnamed}
 use Rattle.text.specs.Wrote.{Wrote}
 use Rattle.listing.specs.Listing.{readBoth, tableSize, readPanel, refusedLine, textOf, listingOf}
 use Rattle.listing.specs.Output.{Listed, inFront, listed, ListedInto}
 use Rattle.listing.proofs.Fits.{listing-fits}
 
 module _ (input : List ℕ) where
-  first-refusal : {a : Answer} → a ≡ numbers 1 65535 255 0 → readPanel input ≡ refused 1 65535 255 → refusedLine (a .code) (a .object) (a .bit) ≡ listingOf input
+  first-refusal : {a : Answer} → a ≡ unnamed 1 0 → readPanel input ≡ refused 1 65535 255 → refusedLine (a .code) (a .object) (a .bit) ≡ listingOf input
   unfolding textOf listingOf
   first-refusal one e = ap (λ (a : Answer). refusedLine (a .code) (a .object) (a .bit)) one ∙ sym (ap textOf e)
 
-  pub above : {a : Answer} → a ≡ numbers 1 65535 255 0 → 65536 < length input → refusedLine (a .code) (a .object) (a .bit) ≡ listingOf input
+  pub above : {a : Answer} → a ≡ unnamed 1 0 → 65536 < length input → refusedLine (a .code) (a .object) (a .bit) ≡ listingOf input
   unfolding readPanel
   above one h = first-refusal one (rw (lt-leb (length input) 65536 h))
 
   module _ (few : length input ≤ 65536) where
-    pub under-four : {a : Answer} → a ≡ numbers 1 65535 255 0 → length input < 4 → refusedLine (a .code) (a .object) (a .bit) ≡ listingOf input
+    pub under-four : {a : Answer} → a ≡ unnamed 1 0 → length input < 4 → refusedLine (a .code) (a .object) (a .bit) ≡ listingOf input
     unfolding readPanel
     under-four one h = first-refusal one (rw (le-leb (length input) 65536 few, lt-leb 4 (length input) h))
 
     module _ (four : 4 ≤ length input) {n : ℕ} (n-is : n ≡ number (take 4 input)) where
-      pub unsplit : {a : Answer} → a ≡ numbers 1 65535 255 0 → length input < 4 + n → refusedLine (a .code) (a .object) (a .bit) ≡ listingOf input
+      pub unsplit : {a : Answer} → a ≡ unnamed 1 0 → length input < 4 + n → refusedLine (a .code) (a .object) (a .bit) ≡ listingOf input
       unfolding readPanel
       unsplit one h =
           let short : leb (tableSize input) (length input) ≡ false = lt-leb (tableSize input) (length input) (omega arith) in
@@ -57,6 +57,11 @@ listed-short input out h = rw (lt-leb 65536 (length out) h)
 listed-room : (input out : List ℕ) → 65536 ≤ length out → listed input out ≡ inFront (listingOf input) out
 unfolding listed
 listed-room input out h = rw (le-leb 65536 (length out) h)
+
+-- with room the text stands in front, and the rest is as it was
+pub text-in-front : (input out : List ℕ) → 65536 ≤ length out
+    → (take (listed input out .size) (listed input out .output) ≡ listingOf input) × (drop (listed input out .size) (listed input out .output) ≡ drop (listed input out .size) out)
+text-in-front input out h = rw (listed-room input out h) (take-append-seam (listingOf input) (drop (length (listingOf input)) out), drop-append-seam (listingOf input) (drop (length (listingOf input)) out))
 
 pub stays : (input out : List ℕ) → length out < 65536 → ListedInto input out out 0
 stays input out h =

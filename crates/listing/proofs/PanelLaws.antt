@@ -32,7 +32,7 @@ use Rattle.listing.specs.Walk.{Ready, linesIn}
 
 -- ---- a refusal's line
 
-pub refused-text : {A : Type 0} (v : Verdict A) (f : A → Verdict Panel) {a : Answer} → a ≡ told v → (a .code ≡ 0 → ⊥)
+refused-text : {A : Type 0} (v : Verdict A) (f : A → Verdict Panel) {a : Answer} → a ≡ told v → (a .code ≡ 0 → ⊥)
     → refusedLine (a .code) (a .object) (a .bit) ≡ textOf (then v f)
 unfolding told textOf
 refused-text (refused code object bit) f e n = ap (λ (a : Answer). refusedLine (a .code) (a .object) (a .bit)) e

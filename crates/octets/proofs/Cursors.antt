@@ -19,7 +19,7 @@ pub drop-next : (xs : List ℕ) (i : ℕ) → i < length xs → drop i xs ≡ ge
 drop-next xs i h = rw (add-one, drop-cons xs i 0)
 
 -- a store at the cursor lengthens what is written by one
-pub take-store : (xs : List ℕ) (i a : ℕ) → i < length xs → take (i + 1) (set xs i a) ≡ take i xs ++ (a ∷ [])
+take-store : (xs : List ℕ) (i a : ℕ) → i < length xs → take (i + 1) (set xs i a) ≡ take i xs ++ (a ∷ [])
 take-store xs i a h = rw (add-one, take-suc-set)
 
 drop-set : (xs : List ℕ) (i a : ℕ) → i < length xs → drop i (set xs i a) ≡ a ∷ drop (suc i) xs

@@ -15,7 +15,7 @@ unfolding bytes
 length-bytes zero x = refl
 length-bytes (suc n) x = ap suc (length-bytes n x)
 
-pub bytes-fit : (n x : ℕ) → Bytes (bytes n x)
+bytes-fit : (n x : ℕ) → Bytes (bytes n x)
 unfolding bytes
 bytes-fit zero x i = omega arith
 bytes-fit (suc n) x zero = mod-lt (x / 256 ^ n) (omega arith)
@@ -23,7 +23,7 @@ bytes-fit (suc n) x (suc i) = bytes-fit n x i
 
 -- ---- one byte more at the end
 
-pub number-snoc : (xs : List ℕ) (b : ℕ) → number (xs ++ (b ∷ [])) ≡ number xs * 256 + b
+number-snoc : (xs : List ℕ) (b : ℕ) → number (xs ++ (b ∷ [])) ≡ number xs * 256 + b
 number-snoc [] b = omega arith
 number-snoc (x ∷ xs) b =
     let long : length (xs ++ (b ∷ [])) ≡ suc (length xs) = length-append xs (b ∷ []) ∙ omega arith in
@@ -44,7 +44,7 @@ number-bytes (suc n) x h =
     let less : x / 256 < 256 ^ n = div-lt-iff-lt-mul {k = 256} {x = x} {y = 256 ^ n} (omega arith) .1 (rw (pow-suc 256 n) at h) in
     ap number (bytes-snoc n x) ∙ number-snoc (bytes n (x / 256)) (x % 256) ∙ rw (number-bytes n (x / 256) less) (div-add-mod' x 256)
 
-pub number-lt : (b : List ℕ) → Bytes b → number b < 256 ^ length b
+number-lt : (b : List ℕ) → Bytes b → number b < 256 ^ length b
 number-lt [] h = omega arith
 number-lt (x ∷ xs) h =
     omega (arith, number-lt xs (λ i. h (suc i)), pow-succ' 256 (length xs), mul-le-mul-right (256 ^ length xs) (h 0))
@@ -88,7 +88,7 @@ module _ (n x : ℕ) (rest : List ℕ) where
 pub drop-is : (n : ℕ) (b : List ℕ) → Bytes b → Bytes (drop n b)
 drop-is n b h i = rw (getD-drop n b i 0) (h (n + i))
 
-pub take-is : (n : ℕ) (b : List ℕ) → Bytes b → Bytes (take n b)
+take-is : (n : ℕ) (b : List ℕ) → Bytes b → Bytes (take n b)
 take-is zero b h i = omega arith
 take-is (suc n) [] h i = omega arith
 take-is (suc n) (x ∷ xs) h zero = h 0

@@ -22,7 +22,7 @@ pub start : (out : List ℕ) → Written out [] 0 out
 start out = record { is = refl; len = refl; room = omega arith }
 
 module _ {out₀ done : List ℕ} {o : ℕ} {out : List ℕ} (w : Written out₀ done o out) where
-  pub same-long : length out ≡ length out₀
+  same-long : length out ≡ length out₀
   same-long = ap length (w .is) ∙ rw (length-append, length-drop) (omega arith)
 
   -- the part from o to e was lent and came back as zs

@@ -11,7 +11,7 @@ use Rattle.octets.specs.Octets.{bytes}
 use Rattle.kinds.specs.declared.Kind.{Kind}
 use Rattle.history.specs.declared.Change.{Change}
 use Rattle.history.specs.declared.Answer.{Answer}
-use Rattle.history.specs.Verdict.{done, numbers, settled}
+use Rattle.history.specs.Verdict.{done, unnamed, settled}
 use Rattle.history.specs.Form.{formBytes}
 use Rattle.history.specs.Image.{widths}
 use Rattle.history.specs.Changes.{listVersion, entries, entriesBytes, listBytes}
@@ -79,10 +79,10 @@ module _ (walk : Walk) (x y : ℕ) (ns : List ℕ) (from to : ℕ) (f s : List �
   length-list = ap length list-is ∙ length-append (listHead (13 + size) x y from to count) _ ∙ ap₂ _+_ (length-head (13 + size) x y from to count) (sym (m .bytes))
 
   module _ (out : List ℕ) where
-    pub list-short : {r : Answer} → length out < 17 + size → r ≡ numbers 21 65535 255 (17 + size) → Leaves (done (walkList walk x y ns from to f s)) out r out
+    pub list-short : {r : Answer} → length out < 17 + size → r ≡ unnamed 21 (17 + size) → Leaves (done (walkList walk x y ns from to f s)) out r out
     list-short room e = short-leaves _ out length-list room e
 
-    pub list-answer : {r : Answer} → 17 + size ≤ length out → r ≡ numbers 0 65535 255 (17 + size) → r ≡ settled (done (walkList walk x y ns from to f s)) out .answer
+    pub list-answer : {r : Answer} → 17 + size ≤ length out → r ≡ unnamed 0 (17 + size) → r ≡ settled (done (walkList walk x y ns from to f s)) out .answer
     list-answer room e = written-leaves _ out length-list room e refl .0
 
     -- the head and the entries, one after the other
@@ -122,10 +122,10 @@ module _ (ks : List Kind) (b : List ℕ) (to : ℕ) (e : List ℕ) (h : length b
   length-after = ap length (sym after-is) ∙ simp (length-append, length-bytes, length-front, length-rest) (omega arith)
 
   module _ (out : List ℕ) where
-    pub image-short : {r : Answer} → length out < length b → r ≡ numbers 21 65535 255 (length b) → Leaves (done (imageAfter ks b to e)) out r out
+    pub image-short : {r : Answer} → length out < length b → r ≡ unnamed 21 (length b) → Leaves (done (imageAfter ks b to e)) out r out
     image-short room q = short-leaves _ out length-after room q
 
-    pub image-answer : {r : Answer} → length b ≤ length out → r ≡ numbers 0 65535 255 (length b) → r ≡ settled (done (imageAfter ks b to e)) out .answer
+    pub image-answer : {r : Answer} → length b ≤ length out → r ≡ unnamed 0 (length b) → r ≡ settled (done (imageAfter ks b to e)) out .answer
     image-answer room q = written-leaves _ out length-after room q refl .0
 
     -- the front, the new position and the elements, one after the other

@@ -11,18 +11,17 @@ use borrow.Author.Tests.{le-leb}
 use Rattle.octets.specs.Octets.{Bytes, number}
 use Rattle.kinds.specs.declared.Element.{Element}
 use Rattle.history.specs.declared.Answer.{Answer}
-use Rattle.history.specs.Verdict.{Verdict, refused, done, then, numbers, settled}
+use Rattle.history.specs.Verdict.{Verdict, refused, done, then, unnamed, settled}
 use Rattle.history.specs.Table.{Plan}
 use Rattle.history.specs.Image.{Image, readImage}
 use Rattle.history.specs.Calls.{readPlan, imageCall, readStateUnder, readStateCall, writeStateCall}
 use Rattle.history.proofs.CodeLaws.{write-call-coded, Delivered, delivered}
 use Rattle.history.proofs.Demands.{write-then-read, others-stay, read-then-write}
 use Rattle.history.proofs.OutputLaws.{Ran, refusal-stays}
-use Rattle.history.proofs.ImageLaws.{image-is}
+use Rattle.history.proofs.ImageLaws.{image-is, image-position}
 use Rattle.history.proofs.VerdictLaws.{used}
 use Rattle.panel.specs.declared.read.Reading.{Reading}
 use Rattle.panel.specs.Readings.{readingOf}
-use Rattle.panel.proofs.ElementPlaces.{image-position}
 
 -- what `read_state` ensures of its reading
 abbrev pub Read : List ℕ → List ℕ → ℕ → Reading → Type 0
@@ -69,7 +68,7 @@ module _ (T A : List ℕ) (i : ℕ) (e : Element) (position : ℕ) {out : List �
 
 -- what was read, written at the image's own position where there is room, gives the image's bytes
 pub write-after-read : (T A : List ℕ) (i : ℕ) (e : Element) (out : List ℕ) {r : Answer} {m : List ℕ} → Bytes A → Read T A i (Reading.State e) → length A ≤ length out
-    → Ran (writeStateCall T A i e (number (take 4 (drop 7 A)))) out r m → (r ≡ numbers 0 65535 255 (length A)) × (m ≡ A ++ drop (length A) out)
+    → Ran (writeStateCall T A i e (number (take 4 (drop 7 A)))) out r m → (r ≡ unnamed 0 (length A)) × (m ≡ A ++ drop (length A) out)
 unfolding settled
 write-after-read T A i e out h q room w =
     let v = state-read (readStateCall T A i) e q in

@@ -18,7 +18,7 @@ use Rattle.history.specs.Image.{Image, widths, wordsBytes, imageBytes}
 use Rattle.history.specs.Calls.{placed}
 use Rattle.history.specs.Legal.{admits, Every, nil, and, LegalImage}
 use Rattle.history.proofs.ElementLaws.{admits-fits}
-use Rattle.history.proofs.ImageLaws.{length-words, widths-few}
+use Rattle.history.proofs.ImageLaws.{widths-few, image-words}
 use Rattle.tables.specs.Outlines.{kindsOf}
 use Rattle.forms.proofs.KindLaws.{length-kinds}
 use Rattle.panel.specs.Places.{placeIn, Sized}
@@ -26,13 +26,13 @@ use Rattle.panel.specs.Writings.{over, imageAnew}
 
 -- ---- bytes laid over others
 
-pub over-past : (xs bs l : List ℕ) (at n : ℕ) → at ≡ length xs + n → over at bs (xs ++ l) ≡ xs ++ over n bs l
+over-past : (xs bs l : List ℕ) (at n : ℕ) → at ≡ length xs + n → over at bs (xs ++ l) ≡ xs ++ over n bs l
 over-past xs bs l at n e =
     let f : at + length bs ≡ length xs + (n + length bs) = omega arith in
     ap₂ (λ (p q : ℕ). take p (xs ++ l) ++ (bs ++ drop q (xs ++ l))) e f
     ∙ rw (take-append-add xs l n, drop-append-add xs l (n + length bs), append-assoc)
 
-pub over-here : (c bs l : List ℕ) → length bs ≡ length c → over 0 bs (c ++ l) ≡ bs ++ l
+over-here : (c bs l : List ℕ) → length bs ≡ length c → over 0 bs (c ++ l) ≡ bs ++ l
 over-here c bs l e =
     let f : length c ≡ 0 + length bs = omega arith in
     rw (drop-at c l (0 + length bs) f)
@@ -96,29 +96,12 @@ split p a = sym (append-assoc (bytes 4 (3 + length (contents p a))) (a .version 
 contents-long : (p : Plan) (a : Image) → length (contents p a) ≡ 4 + length (wordsBytes (p .kinds) (a .words))
 contents-long p a = length-append (bytes 4 (a .position)) _ ∙ rw (length-bytes 4 (a .position))
 
--- behind the position
-behind : (p : Plan) (a : Image) → drop 11 (imageBytes p a) ≡ wordsBytes (p .kinds) (a .words)
-behind p a =
-    ap (drop 11) (split p a ∙ sym (append-assoc (front p a (length (contents p a))) (bytes 4 (a .position)) (wordsBytes (p .kinds) (a .words))))
-    ∙ drop-at (front p a (length (contents p a)) ++ bytes 4 (a .position)) (wordsBytes (p .kinds) (a .words)) 11
-    (length-append (front p a (length (contents p a))) (bytes 4 (a .position)) ∙ rw (front-long p a (length (contents p a)), length-bytes 4 (a .position)))
-
 module _ {p : Plan} {a : Image} (legal : LegalImage p a) where
-  pub image-long : length (imageBytes p a) ≡ 11 + widths (p .kinds)
-  image-long =
-      ap length (split p a) ∙ length-append (front p a (length (contents p a))) (contents p a)
-      ∙ omega (arith, front-long p a (length (contents p a)), contents-long p a, length-words (legal .words))
-
-  pub image-position : number (take 4 (drop 7 (imageBytes p a))) ≡ a .position
-  image-position =
-      ap (λ (b : List ℕ). number (take 4 b)) (ap (drop 7) (split p a) ∙ drop-at (front p a (length (contents p a))) (contents p a) 7 (front-long p a (length (contents p a))))
-      ∙ read-bytes 4 (a .position) (wordsBytes (p .kinds) (a .words)) (legal .position)
-
   module _ (i : ℕ) (l : i < length (p .kinds)) where
     pub image-number : number (take (widthOf (kindAt (p .kinds) i)) (drop (placeIn (p .kinds) i) (imageBytes p a))) ≡ getD (a .words) i 0
     image-number =
         ap (λ (b : List ℕ). number (take (widthOf (kindAt (p .kinds) i)) b))
-        (sym (drop-drop (widths (take i (p .kinds))) 11 (imageBytes p a)) ∙ ap (drop (widths (take i (p .kinds)))) (behind p a))
+        (sym (drop-drop (widths (take i (p .kinds))) 11 (imageBytes p a)) ∙ ap (drop (widths (take i (p .kinds)))) (image-words p a))
         ∙ words-number (legal .words) i l
 
     module _ (position w : ℕ) where

@@ -37,14 +37,15 @@ use Rattle.forms.proofs.UnderPlan.{table-refused, under-plan}
 use Rattle.panel.specs.declared.read.Reading.{Reading}
 use Rattle.panel.specs.Readings.{readingOf, answerIn}
 use Rattle.panel.specs.Places.{placeIn, Sized}
-use Rattle.panel.proofs.ElementPlaces.{image-long, image-number}
+use Rattle.history.proofs.ImageLaws.{image-long}
+use Rattle.panel.proofs.ElementPlaces.{image-number}
 
 -- an answer that refuses is the answer of all that comes after
 pub first-told : {A B : Type 0} (v : Verdict A) (f : A → Verdict B) {r : Answer} → r ≡ told v → (r .code ≡ 0 → ⊥) → r ≡ told (then v f)
 first-told v f e bad = e ∙ told-first v f (λ z. bad (ap (λ (a : Answer). a .code) e ∙ z))
 
 -- .. and it is the reading
-pub refusal-read : {r : Answer} (v : Verdict Element) → r ≡ told v → (r .code ≡ 0 → ⊥) → Reading.Refused r ≡ readingOf v
+refusal-read : {r : Answer} (v : Verdict Element) → r ≡ told v → (r .code ≡ 0 → ⊥) → Reading.Refused r ≡ readingOf v
 unfolding told readingOf
 refusal-read (refused code object bit) e n = ap Reading.Refused e
 refusal-read (done s) e n = absurd (n (ap (λ (r : Answer). r .code) e))

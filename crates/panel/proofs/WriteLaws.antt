@@ -22,7 +22,7 @@ use Rattle.kinds.specs.declared.Kind.{Kind}
 use Rattle.kinds.specs.declared.Element.{Element}
 use Rattle.elements.specs.Elements.{sameKind, elementCheck, wordOf}
 use Rattle.history.specs.declared.Answer.{Answer}
-use Rattle.history.specs.Verdict.{done, then, numbers, told}
+use Rattle.history.specs.Verdict.{done, then, numbers, unnamed, told}
 use Rattle.history.specs.Table.{kindAt}
 use Rattle.history.specs.Image.{element, _of_⨾_, readImage, imageBytes}
 use Rattle.history.specs.Calls.{placed, checkState, writeStateUnder, writeStateCall}
@@ -71,7 +71,7 @@ module _ (ns : List ℕ) (i : ℕ) (e : Element) where
       unfolding told
       bad-state {f} n q = q ∙ sym (ap (λ (n : Finding). told (n of i ⨾ done (wordOf e))) n) ∙ by-finding
 
-      pub good-state : found ≡ Finding.Accepted → {s : Answer} → s ≡ numbers 0 65535 255 0 → s ≡ told (checkState (kindsOf ns) i e)
+      pub good-state : found ≡ Finding.Accepted → {s : Answer} → s ≡ unnamed 0 0 → s ≡ told (checkState (kindsOf ns) i e)
       unfolding told
       good-state n q = q ∙ sym (ap (λ (n : Finding). told (n of i ⨾ done (wordOf e))) n) ∙ by-finding
 

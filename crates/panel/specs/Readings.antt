@@ -1,7 +1,7 @@
 -- What reading a state gives: "A refused reading gives a code and no state."
 use Rattle.kinds.specs.declared.Element.{Element}
 use Rattle.history.specs.declared.Answer.{Answer}
-use Rattle.history.specs.Verdict.{Verdict, refused, done, numbers}
+use Rattle.history.specs.Verdict.{Verdict, refused, done, numbers, unnamed}
 use Rattle.panel.specs.declared.read.Reading.{Reading}
 
 -- the paper's numbers of a refusal, length 0; or the state
@@ -11,5 +11,5 @@ readingOf (done e) = Reading.State e
 
 -- a reading's four numbers: success writes no bytes
 abbrev pub answerIn : Reading → Answer
-answerIn (Reading.State e) = numbers 0 65535 255 0
+answerIn (Reading.State e) = unnamed 0 0
 answerIn (Reading.Refused answer) = answer

@@ -16,11 +16,11 @@ module _ (t a l out : List ℕ) (s : Standing) where
   unfolding answerOf receiveCall
   answer-is = refl
 
-  pub output-is : outputOf t a l out ≡ receiveCall t a l out s .output
+  output-is : outputOf t a l out ≡ receiveCall t a l out s .output
   unfolding outputOf receiveCall
   output-is = refl
 
-  pub standing-is : standingOf t a l out s ≡ receiveCall t a l out s .standing
+  standing-is : standingOf t a l out s ≡ receiveCall t a l out s .standing
   unfolding standingOf
   standing-is = refl
 

@@ -14,6 +14,7 @@ use Rattle.rows.specs.Table.{Row}
 use Rattle.rows.specs.Fields.{codeAt, fieldOf, fieldRead, onField, checkRows, valuesOf, composeOf, bitNo}
 use Rattle.rows.specs.declared.Field.{Field}
 use Rattle.rows.specs.declared.Finding.{Finding}
+use Rattle.rows.specs.declared.Refusal.{Refusal}
 use Rattle.rows.proofs.Tests.{both-left, both-right}
 use Rattle.rows.proofs.Words.{Within}
 
@@ -66,8 +67,38 @@ pub within-accepted : (w : ℕ) (rs : List Row) → Within rs (valuesOf w rs) �
 within-accepted w [] h = refl
 within-accepted w (r ∷ rs) h = ap (λ (b : Bool). onField (cond b (Field.Value (fieldOf w r)) (Field.Refused (codeAt (cond (eqb (r .top) 0) 10 11) (r .low)))) (checkRows w rs)) (le-leb _ _ (h .0)) ∙ within-accepted w rs (h .1)
 
+-- ---- what is refused: the lowest field whose value is not listed, 10 where it is reserved and else 11, with its lowest bit
+
+pub record FirstUnlisted (w : ℕ) (rs : List Row) (x : Refusal) : Type 0 where
+  pub below : List Row
+  pub row : Row
+  pub above : List Row
+  pub parts : rs ≡ below ++ (row ∷ above)
+  pub listed : Within below (valuesOf w below)
+  pub unlisted : row .top < fieldOf w row
+  pub told : x ≡ codeAt (cond (eqb (row .top) 0) 10 11) (row .low)
+
+pub names-first : (w : ℕ) (rs : List Row) {x : Refusal} → checkRows w rs ≡ Finding.Refused x → FirstUnlisted w rs x
+names-first w [] e = absurd (let z : _≡_ {A = ℕ} 0 1 = cc in omega arith)
+names-first w (r ∷ rs) {x} e = go (leb (fieldOf w r) (r .top)) refl (names-first w rs) e
+  where
+    go : (b : Bool) → leb (fieldOf w r) (r .top) ≡ b → (checkRows w rs ≡ Finding.Refused x → FirstUnlisted w rs x)
+        → onField (cond b (Field.Value (fieldOf w r)) (Field.Refused (codeAt (cond (eqb (r .top) 0) 10 11) (r .low)))) (checkRows w rs) ≡ Finding.Refused x → FirstUnlisted w (r ∷ rs) x
+    go false t later e = record { below = []; row = r; above = rs; parts = refl; listed = tt; unlisted = leb-false _ _ t; told = cc }
+    go true t later e =
+        let q = later e in
+        record { below = r ∷ q .below; row = q .row; above = q .above; parts = ap (λ (l : List Row). r ∷ l) (q .parts); listed = (leb-true _ _ t, q .listed); unlisted = q .unlisted; told = q .told }
+
+refuses-at : (w : ℕ) (bs : List Row) (r : Row) (as′ : List Row) → Within bs (valuesOf w bs) → r .top < fieldOf w r
+    → checkRows w (bs ++ (r ∷ as′)) ≡ Finding.Refused (codeAt (cond (eqb (r .top) 0) 10 11) (r .low))
+refuses-at w [] r as′ h u = rw (lt-leb (fieldOf w r) (r .top) u)
+refuses-at w (b ∷ bs) r as′ h u = rw (le-leb (fieldOf w b) (b .top) (h .0)) (refuses-at w bs r as′ (h .1) u)
+
+pub refuses-first : (w : ℕ) (rs : List Row) {x : Refusal} → FirstUnlisted w rs x → checkRows w rs ≡ Finding.Refused x
+refuses-first w rs q = rw (q .parts, q .told) (refuses-at w (q .below) (q .row) (q .above) (q .listed) (q .unlisted))
+
 -- the number 0 has nothing but zeros
-pub zero-within : (rs : List Row) → Within rs (valuesOf 0 rs)
+zero-within : (rs : List Row) → Within rs (valuesOf 0 rs)
 zero-within [] = tt
 zero-within (r ∷ rs) =
     (rw (zero-div (2 ^ r .low), zero-mod (2 ^ r .width)) zero-le, zero-within rs)

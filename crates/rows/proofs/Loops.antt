@@ -18,7 +18,7 @@ use Rattle.rows.specs.declared.Refusal.{Refusal}
 use Rattle.rows.specs.declared.Field.{Field}
 use Rattle.rows.specs.declared.Finding.{Finding}
 
-pub rows-snoc : (n i : ℕ) → rowsFrom i (suc n) ≡ rowsFrom i n ++ (rowAt (i + n) ∷ [])
+rows-snoc : (n i : ℕ) → rowsFrom i (suc n) ≡ rowsFrom i n ++ (rowAt (i + n) ∷ [])
 rows-snoc zero i = ap (λ (k : ℕ). rowAt k ∷ []) (sym (add-zero i))
 rows-snoc (suc n) i = ap (λ (l : List Row). rowAt i ∷ l) (rows-snoc n (suc i) ∙ ap (λ (k : ℕ). rowsFrom (suc i) n ++ (rowAt k ∷ [])) (suc-add i n ∙ sym (add-suc i n)))
 
@@ -26,7 +26,7 @@ values-snoc : (w : ℕ) (rs : List Row) (r : Row) → valuesOf w (rs ++ (r ∷ [
 values-snoc w [] r = refl
 values-snoc w (s ∷ rs) r = ap (λ (l : List ℕ). fieldOf w s ∷ l) (values-snoc w rs r)
 
-pub values-length : (w n i : ℕ) → length (valuesOf w (rowsFrom i n)) ≡ n
+values-length : (w n i : ℕ) → length (valuesOf w (rowsFrom i n)) ≡ n
 values-length w zero i = refl
 values-length w (suc n) i = ap suc (values-length w n (suc i))
 
@@ -53,7 +53,7 @@ picked : (b : Bool) (x v : ℕ) (r : Refusal) → cond b (Field.Value x) (Field.
 picked true x v r e = cc
 picked false x v r e = let z : _≡_ {A = ℕ} 0 1 = cc in omega arith
 
-pub value-is : (w : ℕ) (r : Row) (v : ℕ) → fieldRead w r ≡ Field.Value v → v ≡ fieldOf w r
+value-is : (w : ℕ) (r : Row) (v : ℕ) → fieldRead w r ≡ Field.Value v → v ≡ fieldOf w r
 value-is w r v e = picked (leb (fieldOf w r) (r .top)) (fieldOf w r) v _ e
 
 -- what both loops over fields keep: what is found is found in the rows to come

@@ -48,7 +48,7 @@ join q a d =
     ∙ ap (λ (p : ℕ). p * 2 ^ a) (omega arith)
 
 -- the fields of w compose to w
-pub compose-from : (rs : List Row) (at end w : ℕ) → T (tiles at rs end) → w < 2 ^ end → composeOf rs (valuesOf w rs) ≡ w / 2 ^ at * 2 ^ at
+compose-from : (rs : List Row) (at end w : ℕ) → T (tiles at rs end) → w < 2 ^ end → composeOf rs (valuesOf w rs) ≡ w / 2 ^ at * 2 ^ at
 compose-from [] at end w t h =
     let e : at ≡ end = eqb→eq at end t in
     sym (ap (λ (q : ℕ). q * 2 ^ at) (div-eq-of-lt (rw e h)) ∙ zero-mul (2 ^ at))

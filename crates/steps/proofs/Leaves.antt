@@ -30,7 +30,7 @@ module _ (l : List ℕ) (at w : ℕ) where
   unfolding reach
   reach-whole h = rw (length-drop, le-leb w (length l - at) h)
 
-pub reach-room : (w : ℕ) (b : List ℕ) → reach w b ≤ length b
+reach-room : (w : ℕ) (b : List ℕ) → reach w b ≤ length b
 unfolding reach
 reach-room w b = go (leb w (length b)) refl
   where

@@ -174,7 +174,7 @@ pub fn count_of(change: Change) -> usize
 }
 
 // Old differs from new.
-pub fn differ(old: u32, new: u32) -> Change
+fn differ(old: u32, new: u32) -> Change
     ensures { λ r. ⌜ r ≡ differ old new ⌝ }
 {
     if old != new {
@@ -184,7 +184,7 @@ pub fn differ(old: u32, new: u32) -> Change
 }
 
 // In both: the first's old and the second's new, dropped if these are equal; in one: copied.
-pub fn joined(first: Change, second: Change) -> Change
+fn joined(first: Change, second: Change) -> Change
     ensures { λ r. ⌜ r ≡ joined first second ⌝ }
 {
     let Change::Swap(old, _) = first else {
@@ -197,7 +197,7 @@ pub fn joined(first: Change, second: Change) -> Change
 }
 
 // In both: the first's new is the second's old.
-pub fn meets(first: Change, second: Change) -> bool
+fn meets(first: Change, second: Change) -> bool
     ensures { λ r. ⌜ r ≡ meets first second ⌝ }
 {
     let Change::Swap(_, new) = first else {
@@ -210,7 +210,7 @@ pub fn meets(first: Change, second: Change) -> bool
 }
 
 // Old with new.
-pub fn back(change: Change) -> Change
+fn back(change: Change) -> Change
     ensures { λ r. ⌜ r ≡ back change ⌝ }
 {
     let Change::Swap(old, new) = change else {
@@ -220,7 +220,7 @@ pub fn back(change: Change) -> Change
 }
 
 // The named element is the old one.
-pub fn fits(change: Change, element: u32) -> bool
+fn fits(change: Change, element: u32) -> bool
     ensures { λ r. ⌜ r ≡ fits change element ⌝ }
 {
     let Change::Swap(old, _) = change else {

@@ -5,7 +5,7 @@ use mathlib.Core.Path.{_≡_, refl, sym, _∙_}
 use mathlib.Core.Bool.{Bool, true, false, not}
 use borrow.Author.Tests.{not-true, not-false}
 use Rattle.history.specs.declared.Answer.{Answer}
-use Rattle.history.specs.Verdict.{Verdict, refused, done, then, numbers, told}
+use Rattle.history.specs.Verdict.{Verdict, refused, done, then, numbers, unnamed, told}
 
 -- what `if !t` says of the definition that t equals
 pub no : {t u : Bool} → t ≡ u → not t ≡ true → u ≡ false
@@ -19,7 +19,7 @@ pub told-refused : {A : Type 0} (v : Verdict A) {code object bit : ℕ} {r : Ans
 unfolding told
 told-refused v e q = rw e q
 
-pub told-done : {A : Type 0} (v : Verdict A) {a : A} {r : Answer} → v ≡ done a → r ≡ numbers 0 65535 255 0 → r ≡ told v
+pub told-done : {A : Type 0} (v : Verdict A) {a : A} {r : Answer} → v ≡ done a → r ≡ unnamed 0 0 → r ≡ told v
 unfolding told
 told-done v e q = rw e q
 

@@ -9,7 +9,7 @@ use lib.ListN.{length, getD, take, drop}
 use lib.Dec.{leb}
 use borrow.Author.Tests.{lt-leb, le-leb, leb-true}
 use Rattle.history.specs.declared.Answer.{Answer}
-use Rattle.history.specs.Verdict.{done, numbers, told}
+use Rattle.history.specs.Verdict.{done, numbers, unnamed, told}
 use Rattle.elements.specs.Elements.{carried}
 use Rattle.history.specs.Table.{labelLimit, labelGood}
 use Rattle.history.proofs.VerdictLaws.{left, right, held}
@@ -17,7 +17,7 @@ use Rattle.tables.specs.Places.{checkObjectAt}
 use Rattle.history.proofs.CodeLaws.{Coded, coded-unless, zero-told}
 
 module _ (b : List ℕ) (at k : ℕ) where
-  pub entry-cut : length b - at < 2 → numbers 8 65535 255 0 ≡ told (checkObjectAt b at k)
+  pub entry-cut : length b - at < 2 → unnamed 8 0 ≡ told (checkObjectAt b at k)
   unfolding checkObjectAt told
   entry-cut h = simp (lt-leb (at + 2) (length b) (omega arith))
 
@@ -35,7 +35,7 @@ module _ (b : List ℕ) (at k : ℕ) where
       entry-size h = rw (← e) (simp (both, type, h))
 
       module _ (size : leb 1 n && leb n (labelLimit (getD b 4 0)) ≡ true) where
-        pub label-cut : length b - at - 2 < n → numbers 8 65535 255 0 ≡ told (checkObjectAt b at k)
+        pub label-cut : length b - at - 2 < n → unnamed 8 0 ≡ told (checkObjectAt b at k)
         unfolding checkObjectAt told
         label-cut h = rw (← e) (simp (both, type, size, lt-leb (at + (2 + n)) (length b) (omega arith)))
 
@@ -47,7 +47,7 @@ module _ (b : List ℕ) (at k : ℕ) where
           unfolding checkObjectAt told
           label-bad h = rw (← e) (simp (both, type, size, all, h))
 
-          pub entry-good : labelGood (take n (drop (at + 2) b)) ≡ true → numbers 0 65535 255 0 ≡ told (checkObjectAt b at k)
+          pub entry-good : labelGood (take n (drop (at + 2) b)) ≡ true → unnamed 0 0 ≡ told (checkObjectAt b at k)
           unfolding checkObjectAt told
           entry-good h = rw (← e) (simp (both, type, size, all, h))
 
@@ -80,11 +80,11 @@ entry-coded : (b : List ℕ) (at k : ℕ) → Coded (checkObjectAt b at k)
 unfolding checkObjectAt
 entry-coded b at k =
     let n = getD b (at + 1) 0 in
-    coded-unless _ _ _ (leb (at + 2) (length b)) _ (omega arith) (omega arith)
-    (coded-unless _ _ _ (carried (getD b 5 0) (getD b at 0)) _ (omega arith) (omega arith)
-    (coded-unless _ _ _ (leb 1 n && leb n (labelLimit (getD b 4 0))) _ (omega arith) (omega arith)
-    (coded-unless _ _ _ (leb (at + (2 + n)) (length b)) _ (omega arith) (omega arith)
-    (coded-unless _ _ _ (labelGood (take n (drop (at + 2) b))) _ (omega arith) (omega arith) tt))))
+    coded-unless _ _ _ (leb (at + 2) (length b)) _ (omega arith) (omega arith) (λ e. omega arith)
+    (coded-unless _ _ _ (carried (getD b 5 0) (getD b at 0)) _ (omega arith) (omega arith) (λ e. omega arith)
+    (coded-unless _ _ _ (leb 1 n && leb n (labelLimit (getD b 4 0))) _ (omega arith) (omega arith) (λ e. omega arith)
+    (coded-unless _ _ _ (leb (at + (2 + n)) (length b)) _ (omega arith) (omega arith) (λ e. omega arith)
+    (coded-unless _ _ _ (labelGood (take n (drop (at + 2) b))) _ (omega arith) (omega arith) (λ e. omega arith) tt))))
 
 -- an entry whose answer has code 0 is accepted
 pub entry-of : (a : Answer) (b : List ℕ) (at k : ℕ) → a ≡ told (checkObjectAt b at k) → a .code ≡ 0 → (n : ℕ) × (checkObjectAt b at k ≡ done n)

@@ -13,7 +13,7 @@ use lib.Seq.{take-all, take-append-le, getD-append-seam}
 use borrow.Author.Tests.{lt-ltb, le-ltb}
 use Rattle.octets.specs.Octets.{Bytes}
 use Rattle.history.specs.declared.Answer.{Answer}
-use Rattle.history.specs.Verdict.{Verdict, refused, done, then, refusalAt, _unless_⨾_, numbers, told}
+use Rattle.history.specs.Verdict.{Verdict, refused, done, then, refusalAt, _unless_⨾_, numbers, unnamed, told}
 use Rattle.history.specs.Table.{Object, Table, object, objectsBytes}
 use Rattle.history.specs.Calls.{tableCall, Place, labelPlace, labelCall}
 use Rattle.history.proofs.LabelLaws.{LabelIs, label-is}
@@ -69,7 +69,7 @@ pub object-is : (b : List ℕ) {t : Table} → Accepted b t → (i : ℕ) → i 
 unfolding nobody
 object-is b a i h = ap (λ (os : List Object). getD os i nobody) (a .objects) ∙ at-below b (countIn b) i h
 
-pub label-place-is : (b : List ℕ) {t : Table} → Accepted b t → (i : ℕ) → i < countIn b → labelPlace t i ≡ record { offset = placeOf b i + 2; size = getD b (placeOf b i + 1) 0 }
+label-place-is : (b : List ℕ) {t : Table} → Accepted b t → (i : ℕ) → i < countIn b → labelPlace t i ≡ record { offset = placeOf b i + 2; size = getD b (placeOf b i + 1) 0 }
 label-place-is b {t} a i h =
     let p : ℕ = placeOf b i in
     let front : take i (t .objects) ≡ objectsBelow b i = ap (take i) (a .objects) ∙ take-below b (countIn b) i (omega arith) in
@@ -118,7 +118,7 @@ module _ (b : List ℕ) (i : ℕ) (z : told (tableCall b) .code ≡ 0) where
       let few : ltb i (length (table-of b z .0 .objects)) ≡ true = lt-ltb i (length (table-of b z .0 .objects)) (omega (arith, accepted b (table-of b z .1) .count)) in
       call-is ∙ rw few
 
-  pub label-found : i < countIn b → (at : ℕ) → at ≡ placeOf b i → (n : ℕ) → n ≡ getD b (at + 1) 0 → (c : Answer) → c ≡ numbers 0 65535 255 0
+  pub label-found : i < countIn b → (at : ℕ) → at ≡ placeOf b i → (n : ℕ) → n ≡ getD b (at + 1) 0 → (c : Answer) → c ≡ unnamed 0 0
       → LabelFound b i (record { answer = c; offset = at + 2; size = n })
   unfolding labelTold told
   label-found h at at-is n n-is c c-is =

@@ -24,14 +24,14 @@ use Rattle.tables.proofs.TableLaws.{Accepted, accepted, table-of, Stand
 
 -- ---- numbers and kinds
 
-pub kinds-back : (ks : List Kind) → kindsOf (map layoutNo ks) ≡ ks
+kinds-back : (ks : List Kind) → kindsOf (map layoutNo ks) ≡ ks
 unfolding kindsOf
 kinds-back [] = refl
 kinds-back (k ∷ ks) = ap₂ _∷_ (kind-numbered k) (kinds-back ks)
 
 -- ---- zeros behind
 
-pub places-length : (ns : List ℕ) → length ns ≤ 1024 → length (filled 1024 ns) ≡ 1024
+places-length : (ns : List ℕ) → length ns ≤ 1024 → length (filled 1024 ns) ≡ 1024
 places-length ns h = length-append ns (replicate (1024 - length ns) 0) ∙ omega (arith, length-replicate {A = ℕ} (1024 - length ns) 0)
 
 -- ---- the loop

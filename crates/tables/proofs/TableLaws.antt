@@ -12,7 +12,7 @@ use lib.ListN.{length, getD}
 use lib.Seq.{drop-drop}
 use borrow.Author.Tests.{lt-leb, le-leb, leb-true}
 use Rattle.history.specs.declared.Answer.{Answer}
-use Rattle.history.specs.Verdict.{Verdict, done, then, refusal, _unless_⨾_, numbers, told}
+use Rattle.history.specs.Verdict.{Verdict, done, then, refusal, _unless_⨾_, unnamed, told}
 use Rattle.history.specs.Form.{isWhole}
 use Rattle.history.specs.Table.{Object, Table, versionGood, catalogueGood, readTable}
 use Rattle.history.specs.Calls.{tableCall}
@@ -47,22 +47,22 @@ module _ (b : List ℕ) where
 
   -- ---- each answer from the tests that lead there
 
-  pub table-1 : isWhole 5 b ≡ false → numbers 1 65535 255 0 ≡ told (tableCall b)
+  pub table-1 : isWhole 5 b ≡ false → unnamed 1 0 ≡ told (tableCall b)
   unfolding told
   table-1 h = rw (in-order, h)
 
   module _ (w : isWhole 5 b ≡ true) where
-    pub table-2 : versionGood (getD b 4 0) ≡ false → numbers 2 65535 255 0 ≡ told (tableCall b)
+    pub table-2 : versionGood (getD b 4 0) ≡ false → unnamed 2 0 ≡ told (tableCall b)
     unfolding told
     table-2 h = rw (in-order, w, h)
 
     module _ (v : versionGood (getD b 4 0) ≡ true) where
-      pub table-3 : catalogueGood (getD b 5 0) (getD b 6 0) ≡ false → numbers 3 65535 255 0 ≡ told (tableCall b)
+      pub table-3 : catalogueGood (getD b 5 0) (getD b 6 0) ≡ false → unnamed 3 0 ≡ told (tableCall b)
       unfolding told
       table-3 h = rw (in-order, w, v, h)
 
       module _ (c : catalogueGood (getD b 5 0) (getD b 6 0) ≡ true) (n : ℕ) (e : n ≡ countIn b) where
-        pub table-4 : 1024 < n → numbers 4 65535 255 0 ≡ told (tableCall b)
+        pub table-4 : 1024 < n → unnamed 4 0 ≡ told (tableCall b)
         unfolding told
         table-4 h = let l : leb (countIn b) 1024 ≡ false = lt-leb (countIn b) 1024 (omega arith) in rw (in-order, w, v, c, l)
 

@@ -10,7 +10,7 @@ use mathlib.Core.List.{List}
 use lib.ListN.{length, getD}
 use borrow.Author.Tests.{eq-eqb, ne-eqb}
 use Rattle.history.specs.declared.Answer.{Answer}
-use Rattle.history.specs.Verdict.{Verdict, then, refusalAt, _unless_⨾_, numbers, told}
+use Rattle.history.specs.Verdict.{Verdict, then, refusalAt, _unless_⨾_, numbers, unnamed, told}
 use Rattle.tables.specs.Places.{placeOf, checkObjectAt, entriesIn}
 use Rattle.tables.proofs.AnswerLaws.{told-first}
 use Rattle.tables.proofs.EntryLaws.{entry-of, end-of}
@@ -75,11 +75,11 @@ module _ {b : List ℕ} {count k at : ℕ} (w : Walking b count k at) where
     none : entriesIn b count ≡ entriesCheck b zero k
     none = let e : count - k ≡ zero = omega arith in w .left ∙ ap (λ (n : ℕ). entriesCheck b n k) e
 
-    pub end-over : (at ≡ length b → ⊥) → numbers 8 65535 255 0 ≡ told (entriesIn b count)
+    pub end-over : (at ≡ length b → ⊥) → unnamed 8 0 ≡ told (entriesIn b count)
     unfolding entriesCheck told
     end-over n = rw (none, ← w .place, ne-eqb _ _ n)
 
-    pub end-good : at ≡ length b → numbers 0 65535 255 0 ≡ told (entriesIn b count)
+    pub end-good : at ≡ length b → unnamed 0 0 ≡ told (entriesIn b count)
     unfolding entriesCheck told
     end-good e = rw (none, ← w .place, eq-eqb _ _ e)
 

@@ -1,11 +1,11 @@
 // The numbers given back, made in one place for each kind of answer; and what the calls on a table give beside them.
 use history::Answer;
 ghost use mathlib.Core.Path.{_≡_};
-ghost use Rattle.history.specs.Verdict.{numbers};
+ghost use Rattle.history.specs.Verdict.{numbers, unnamed};
 
 // A refusal that names nothing.
 pub fn refused(code: u8) -> Answer
-    ensures { λ r. ⌜ r ≡ numbers code 65535 255 0 ⌝ }
+    ensures { λ r. ⌜ r ≡ unnamed code 0 ⌝ }
 {
     refused_at(code, 65535)
 }
@@ -31,14 +31,14 @@ pub fn refused_bit(code: u8, object: u16, bit: u8) -> Answer
 
 // Success that writes no bytes: code 0, and nothing is named.
 pub fn accepted() -> Answer
-    ensures { λ r. ⌜ r ≡ numbers 0 65535 255 0 ⌝ }
+    ensures { λ r. ⌜ r ≡ unnamed 0 0 ⌝ }
 {
     refused(0)
 }
 
 // Success: so many bytes are written.
 pub fn written(bytes: u32) -> Answer
-    ensures { λ r. ⌜ r ≡ numbers 0 65535 255 bytes ⌝ }
+    ensures { λ r. ⌜ r ≡ unnamed 0 bytes ⌝ }
 {
     Answer {
         code: 0,
@@ -50,7 +50,7 @@ pub fn written(bytes: u32) -> Answer
 
 // 21: so many bytes are needed.
 pub fn short(bytes: u32) -> Answer
-    ensures { λ r. ⌜ r ≡ numbers 21 65535 255 bytes ⌝ }
+    ensures { λ r. ⌜ r ≡ unnamed 21 bytes ⌝ }
 {
     Answer {
         code: 21,

@@ -41,7 +41,7 @@ unfolding labelTold givenPlace
 told-place (refused code object bit) = refl
 told-place (done p) = refl
 
-pub found-place : {T : List ℕ} {i : ℕ} {r : LabelAt} → LabelFound T i r → at r ≡ givenPlace (labelCall T i)
+found-place : {T : List ℕ} {i : ℕ} {r : LabelAt} → LabelFound T i r → at r ≡ givenPlace (labelCall T i)
 found-place {T} {i} l = ap at (l .whole) ∙ told-place (labelCall T i)
 
 -- the part that the code makes of the place

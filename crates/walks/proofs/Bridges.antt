@@ -133,7 +133,7 @@ turn-walk i b s (and {a = k} {b = c} p ps) =
     let x = found i k c s p ps in
     rw (x .change, x .rest, turn-walk (suc i) b (omega arith) ps)
 
-pub apply-walk : {ks : List Kind} {c : List Change} (i : ℕ) (b : List ℕ) → i + length ks ≤ 65536 → Every lawful ks c
+apply-walk : {ks : List Kind} {c : List Change} (i : ℕ) (b : List ℕ) → i + length ks ≤ 65536 → Every lawful ks c
     → walked Walk.Apply i ks (entriesBytes i ks c) b ≡ c
 unfolding walked stepOf
 apply-walk i b s nil = refl

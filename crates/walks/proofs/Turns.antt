@@ -48,32 +48,32 @@ module _ (walk : Walk) (ns f s : List ℕ) where
 
   module _ (i p q : ℕ) where
     module _ (h : i < length ns) {w : ℕ} (e : w ≡ widthOf (kindAt (kindsOf ns) i)) {r : Step} (t : Stepped walk i w f p s q r) where
-      pub left-next : left i p q ≡ r .change ∷ left (i + 1) (p + r .first) (q + r .second)
+      left-next : left i p q ≡ r .change ∷ left (i + 1) (p + r .first) (q + r .second)
       unfolding walked
       left-next =
           rw (kinds-next ns i h, ← e, ← (t .is), add-one i, drop-drop (r .first) p f, drop-drop (r .second) q s)
 
-      pub bytes-next : leftBytes i p q ≡ entryBytes i w (r .change) ++ leftBytes (i + 1) (p + r .first) (q + r .second)
+      bytes-next : leftBytes i p q ≡ entryBytes i w (r .change) ++ leftBytes (i + 1) (p + r .first) (q + r .second)
       bytes-next = bytes-cons i (i + 1) (kindAt (kindsOf ns) i) (r .change) (kinds-next ns i h) left-next e (add-one i)
 
-      pub count-next : entries (left i p q) ≡ entries (r .change ∷ []) + entries (left (i + 1) (p + r .first) (q + r .second))
+      count-next : entries (left i p q) ≡ entries (r .change ∷ []) + entries (left (i + 1) (p + r .first) (q + r .second))
       count-next = ap entries left-next ∙ entries-more (r .change) (left (i + 1) (p + r .first) (q + r .second))
 
-      pub misfit-next : misfit walk i (drop i (kindsOf ns)) (drop p f) (drop q s)
+      misfit-next : misfit walk i (drop i (kindsOf ns)) (drop p f) (drop q s)
           ≡ cond (r .agrees) (misfit walk (i + 1) (drop (i + 1) (kindsOf ns)) (drop (p + r .first) f) (drop (q + r .second) s)) i
       unfolding misfit
       misfit-next =
           rw (kinds-next ns i h, ← e, ← (t .is), add-one i, drop-drop (r .first) p f, drop-drop (r .second) q s)
 
     module _ (h : length ns ≤ i) where
-      pub left-end : left i p q ≡ []
+      left-end : left i p q ≡ []
       unfolding walked
       left-end = rw (kinds-end ns i h)
 
-      pub bytes-end : leftBytes i p q ≡ []
+      bytes-end : leftBytes i p q ≡ []
       bytes-end = rw (kinds-end ns i h)
 
-      pub misfit-end : misfit walk i (drop i (kindsOf ns)) (drop p f) (drop q s) ≡ i
+      misfit-end : misfit walk i (drop i (kindsOf ns)) (drop p f) (drop q s) ≡ i
       unfolding misfit
       misfit-end = rw (kinds-end ns i h)
 

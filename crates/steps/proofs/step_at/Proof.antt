@@ -5,6 +5,18 @@ use Rattle.steps.proofs.Leaves.{difference-step, join-step, turn-step, 
 use Rattle.steps.proofs.step_at.Statement.{statement}
 use Rattle.steps.proofs.step_at.Tie as tie
 
+returns : tie.Need-returns
+returns c = search difference-step
+
+returns-2 : tie.Need-returns-2
+returns-2 c = search join-step
+
+returns-3 : tie.Need-returns-3
+returns-3 c = search turn-step
+
+returns-4 : tie.Need-returns-4
+returns-4 c = search apply-step
+
 pub step-at-spec : {M : Type 1} → statement M
 step-at-spec =
     tie.close
@@ -32,7 +44,7 @@ step-at-spec =
     (λ c κs. search needs)
     (λ c κs. search needs)
     (λ c κs. search needs)
-    (λ c. search difference-step)
-    (λ c. search join-step)
-    (λ c. search turn-step)
-    (λ c. search apply-step))
+    returns
+    returns-2
+    returns-3
+    returns-4)

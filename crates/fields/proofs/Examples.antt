@@ -1,0 +1,34 @@
+-- Fields by computation: those of two states, a refused reading, and fields handed in for the paper's changer signal (fixed T, object 1).
+-- Assumes nothing.
+use mathlib.Core.Path.{_≡_, refl}
+use mathlib.Core.List.{_∷_}
+use lib.ListN.{replicate}
+use Rattle.octets.specs.Octets.{bytes}
+use Rattle.rows.specs.Table.{table, layouts}
+use Rattle.kinds.specs.declared.Kind.{Kind}
+use Rattle.elements.specs.Elements.{carried, kindOf, datRule, elementCheck, stateOf, wordOf}
+use Rattle.history.specs.Verdict.{refused, done, numbers, unnamed}
+use Rattle.history.specs.Form.{formBytes, isWhole, readForm}
+use Rattle.history.specs.Table.{versionGood, catalogueGood, labelLimit, labelGood, checkObject, readTable, planOf}
+use Rattle.history.specs.Image.{imageVersionGood, element, imageBytes, readImage}
+use Rattle.history.specs.Calls.{readPlan, readStateUnder, readStateCall, checkState, writeStateUnder, writeStateCall}
+use Rattle.history.proofs.Examples.{T, A, C}
+use Rattle.panel.specs.declared.read.Reading.{Reading}
+use Rattle.fields.specs.Fields.{shownOf, plainOf}
+use Rattle.fields.specs.Calls.{writeFieldsCall}
+
+-- a green high signal; a track circuit of points whose third row is reserved; a refusal
+pub handed-out : (plainOf (Reading.State (stateOf Kind.Signal 0x000001B5)) ≡ record { answer = unnamed 0 0; kind = 1; count = 23; fields = 1 ∷ 2 ∷ 11 ∷ 1 ∷ replicate 28 0 })
+    × (plainOf (Reading.State (stateOf Kind.PointsTrackCircuit 0x0009)) ≡ record { answer = unnamed 0 0; kind = 5; count = 8; fields = 1 ∷ 0 ∷ 1 ∷ replicate 29 0 })
+    × (plainOf (Reading.Refused (numbers 13 7 255 0)) ≡ record { answer = numbers 13 7 255 0; kind = 0; count = 0; fields = replicate 32 0 })
+unfolding table layouts stateOf shownOf plainOf
+handed-out = (refl, refl, refl)
+
+-- fixed C; a value with no named case, another kind's number, no such object, and a value without data
+pub taken-in : (writeFieldsCall T A 1 2 (1 ∷ 2 ∷ replicate 30 0) 9 ≡ done C)
+    × (writeFieldsCall T A 1 2 (1 ∷ 4 ∷ replicate 30 0) 9 ≡ refused 11 1 1)
+    × (writeFieldsCall T A 1 4 (1 ∷ 4 ∷ replicate 30 0) 9 ≡ refused 22 1 255)
+    × (writeFieldsCall T A 7 2 (1 ∷ 4 ∷ replicate 30 0) 9 ≡ refused 13 7 255)
+    × (writeFieldsCall T A 1 2 (0 ∷ 1 ∷ replicate 30 0) 9 ≡ refused 12 1 0)
+unfolding table layouts datRule elementCheck stateOf wordOf bytes formBytes isWhole readForm versionGood catalogueGood labelLimit carried kindOf labelGood checkObject readTable planOf imageVersionGood element imageBytes readImage readPlan readStateUnder readStateCall checkState writeStateUnder writeStateCall writeFieldsCall
+taken-in = (refl, refl, refl, refl, refl)
