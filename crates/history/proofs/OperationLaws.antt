@@ -17,7 +17,7 @@ use Rattle.history.specs.declared.Change.the-variants.{Keep as keep}
 use Rattle.history.specs.Changes.{Changes}
 use Rattle.history.specs.Operations.{differ, fits, after, meets, joined, back, lowest, resultOf, jointOf, difference, applied, join, turned}
 use Rattle.history.specs.Legal.{admits, Every, nil, and, LegalImage, lawful, LegalList}
-use Rattle.history.proofs.VerdictLaws.{held, past, stopped, Lowest, names-lowest, refuses-lowest, Paired, none, more, paired, passes, passed, value}
+use Rattle.history.proofs.VerdictLaws.{held, past, stopped, Lowest, names-lowest, other-code, refuses-lowest, Paired, none, more, paired, passes, passed, value}
 use Rattle.history.proofs.ChangeLaws.{fits-differ, after-differ, only-differ, meets-differ, joined-differ, back-differ, lawful-differ, lawful-joined, lawful-back, admits-after}
 
 -- ---- all objects
@@ -180,33 +180,24 @@ module _ {p : Plan} where
 pub late-exactly : (l : Changes) (a : Image) → (applied l a ≡ refusal 16) ↔ (l .from < a .position)
 unfolding applied
 late-exactly l a = (
-  (λ e. leb-false _ _ (stopped (leb (a .position) (l .from)) _ _ _ _ (λ r. lowest-code (past (leb (l .from) (a .position)) 17 65535 255 _ (omega arith) r)) e)),
+  (λ e. leb-false _ _ (stopped (leb (a .position) (l .from)) _ _ _ _ (λ r. other-code fits keep 0 18 (resultOf l a) 0 (l .each) (a .words) (λ n. omega arith) (past (leb (l .from) (a .position)) 17 65535 255 _ (omega arith) r)) e)),
   (λ h. rw (lt-leb (a .position) (l .from) h)),
 )
-  where
-    lowest-code : lowest 18 fits 0 (l .each) (a .words) (resultOf l a) ≡ refusal 16 → ⊥
-    lowest-code r = omega (arith, names-lowest fits keep 0 18 (resultOf l a) 0 (l .each) (a .words) r .given)
 
 pub gap-exactly : (l : Changes) (a : Image) → (applied l a ≡ refusal 17) ↔ (a .position < l .from)
 unfolding applied
 gap-exactly l a = (
-  (λ e. leb-false _ _ (stopped (leb (l .from) (a .position)) _ _ _ _ lowest-code (past (leb (a .position) (l .from)) 16 65535 255 _ (omega arith) e))),
+  (λ e. leb-false _ _ (stopped (leb (l .from) (a .position)) _ _ _ _ (other-code fits keep 0 18 (resultOf l a) 0 (l .each) (a .words) (λ n. omega arith)) (past (leb (a .position) (l .from)) 16 65535 255 _ (omega arith) e))),
   (λ h. rw (le-leb (a .position) (l .from) (omega (arith, h)), lt-leb (l .from) (a .position) h)),
 )
-  where
-    lowest-code : lowest 18 fits 0 (l .each) (a .words) (resultOf l a) ≡ refusal 17 → ⊥
-    lowest-code r = omega (arith, names-lowest fits keep 0 18 (resultOf l a) 0 (l .each) (a .words) r .given)
 
 -- 19 exactly where the second doesn't start at the first's end
 pub apart-exactly : (l m : Changes) → (join l m ≡ refusal 19) ↔ (l .to ≡ m .from → ⊥)
 unfolding join
 apart-exactly l m = (
-  (λ e. eqb-false _ _ (stopped (eqb (l .to) (m .from)) _ _ _ _ lowest-code e)),
+  (λ e. eqb-false _ _ (stopped (eqb (l .to) (m .from)) _ _ _ _ (other-code meets keep keep 20 (jointOf l m) 0 (l .each) (m .each) (λ n. omega arith)) e)),
   (λ h. rw (ne-eqb (l .to) (m .from) h)),
 )
-  where
-    lowest-code : lowest 20 meets 0 (l .each) (m .each) (jointOf l m) ≡ refusal 19 → ⊥
-    lowest-code r = omega (arith, names-lowest meets keep keep 20 (jointOf l m) 0 (l .each) (m .each) r .given)
 
 -- 18: the lowest object whose old element is not the image's
 pub names-old : (l : Changes) (a : Image) {j bit : ℕ} → applied l a ≡ refused 18 j bit → Lowest fits keep 0 (l .each) (a .words) j × (bit ≡ 255)

@@ -90,6 +90,10 @@ module _ {A B : Type 0} (test : A → B → Bool) (x : A) (y : B) where
             record { place = suc (r .place); lowest = lowest-later a b xs ys (r .place) t (r .lowest); object = omega (arith, r .object); given = r .given; no-bit = r .no-bit }
 
   module _ {C : Type 0} (code : ℕ) (c : C) where
+    -- .. no other code is given ..
+    pub other-code : (i : ℕ) (xs : List A) (ys : List B) {code′ j bit : ℕ} → (code′ ≡ code → ⊥) → lowest code test i xs ys c ≡ refused code′ j bit → ⊥
+    other-code i xs ys n e = n (names-lowest code c i xs ys e .given)
+
     -- .. and where the test fails, the lowest such object is refused
     pub refuses-lowest : (i : ℕ) (xs : List A) (ys : List B) (n : ℕ) → Lowest xs ys n → lowest code test i xs ys c ≡ refusalAt code (i + n)
     refuses-lowest i [] ys n l = absurd (omega (arith, l .first))
