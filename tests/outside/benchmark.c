@@ -1,4 +1,5 @@
 /* One call, some times over: benchmark FACE CALL OBJECTS ENTRIES REPEATS. Of check_element, OBJECTS is the type.
+   check_first_byte is check_table on labels that differ in the first byte only.
    Prints the bytes of the table and of the other forms; what runs is counted from outside. */
 #include "faces.h"
 #include "forms.h"
@@ -11,6 +12,24 @@ static struct form table, a, b, c, first, second, data;
 static uint8_t out[FORM_MOST];
 static uint32_t answer[8], fields[32], standing[4];
 
+static void begin_table(uint32_t objects)
+{
+    static const uint8_t head[] = {0, 0, 0, 0, 1, 1, 0};
+    memcpy(table.bytes, head, sizeof head);
+    put_number(table.bytes + 7, 2, objects);
+    table.len = 9;
+}
+
+static void put_object(uint8_t type, const char *label)
+{
+    size_t len = strlen(label);
+    table.bytes[table.len++] = type;
+    table.bytes[table.len++] = (uint8_t)len;
+    memcpy(table.bytes + table.len, label, len);
+    table.len += len;
+    refit(&table);
+}
+
 /* A station's objects in their usual mixture, with labels such as ALB:CV0017. */
 static void station_table(uint32_t objects)
 {
@@ -19,19 +38,28 @@ static void station_table(uint32_t objects)
         const char *name;
     } mixture[] = {{4, "CV"},  {1, "SIG"}, {4, "CV"}, {8, "AG"},  {5, "CVA"}, {4, "CV"},  {1, "SIG"},  {6, "CVX"},
                    {2, "IC"},  {4, "CV"},  {3, "PV"}, {7, "SDT"}, {1, "SIG"}, {9, "BOU"}, {22, "AVG"}, {23, "FRA"}};
-    static const uint8_t head[] = {0, 0, 0, 0, 1, 1, 0};
-    memcpy(table.bytes, head, sizeof head);
-    put_number(table.bytes + 7, 2, objects);
-    table.len = 9;
+    begin_table(objects);
     for (uint32_t object = 0; object < objects; object++) {
         char label[32];
-        int len = snprintf(label, sizeof label, "ALB:%s%04u", mixture[object % 16].name, (unsigned)object);
-        table.bytes[table.len++] = mixture[object % 16].type;
-        table.bytes[table.len++] = (uint8_t)len;
-        memcpy(table.bytes + table.len, label, (size_t)len);
-        table.len += (size_t)len;
+        snprintf(label, sizeof label, "ALB:%s%04u", mixture[object % 16].name, (unsigned)object);
+        put_object(mixture[object % 16].type, label);
     }
-    refit(&table);
+}
+
+/* Labels of one length that differ in the first byte only. Of each type there are 93 such; one more is a byte longer. */
+static void first_byte_table(uint32_t objects)
+{
+    begin_table(objects);
+    for (uint32_t object = 0; object < objects; object++) {
+        char label[] = "?LB:CV00170";
+        uint32_t first = object / TYPES;
+        if (first < 93)
+            label[10] = '\0';
+        label[0] = (char)(33 + first % 93);
+        if (label[0] >= ':')
+            label[0]++;
+        put_object(carried[object % TYPES], label);
+    }
 }
 
 /* The next image differs in so many elements, spread over the table, from both that came before. */
@@ -91,7 +119,11 @@ int main(int argc, char **argv)
     }
 
     uint16_t last = (uint16_t)(objects - 1);
-    station_table(objects);
+    bool by_first_byte = strcmp(call, "check_first_byte") == 0;
+    if (by_first_byte)
+        first_byte_table(objects);
+    else
+        station_table(objects);
     put_image(&a, &table, 48213, pool_element);
     change(&b, &a, &a, entries);
     change(&c, &b, &a, entries);
@@ -103,7 +135,7 @@ int main(int argc, char **argv)
     reference.read_state(t, table.len, b.bytes, b.len, last, fields, answer);
     uint32_t kind = answer[4];
 
-    if (strcmp(call, "check_table") == 0) {
+    if (by_first_byte || strcmp(call, "check_table") == 0) {
         while (repeats-- > 0)
             face->check_table(t, table.len, answer);
     } else if (strcmp(call, "check_image") == 0) {

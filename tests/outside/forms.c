@@ -311,12 +311,12 @@ void damage_table(struct form *table)
         if (!once_in(3))
             put_byte(table, at + 2 + (once_in(2) ? draw(2) : label_len - 1 - draw(2)), ':');
         break;
-    default: /* the entry once more at the end, whole or with its last byte or its type changed */
+    default: /* the entry once more at the end, whole or with a byte of its label or its type changed */
         if (count == OBJECTS_MOST || table->len + 2 + label_len > FORM_MOST)
             break;
         memcpy(table->bytes + table->len, table->bytes + at, 2 + label_len);
-        if (once_in(4))
-            table->bytes[table->len + 1 + label_len] ^= 1;
+        if (label_len > 0 && once_in(4))
+            table->bytes[table->len + (place - at)] ^= 1;
         if (once_in(4))
             table->bytes[table->len] = carried[draw(TYPES)];
         table->len += 2 + label_len;

@@ -209,12 +209,21 @@ static bool label_good(const uint8_t *label, size_t len)
     return colon != NULL && colon != label && colon != label + len - 1;
 }
 
-/* Whether the entry at has type and label of an earlier one. */
+/* Two labels of one length, from the last byte to the first. */
+static bool same_label(const uint8_t *label, const uint8_t *earlier, size_t len)
+{
+    for (size_t i = len; i > 0; i--)
+        if (label[i - 1] != earlier[i - 1])
+            return false;
+    return true;
+}
+
+/* Whether the entry at has type and label of an earlier one. Lengths are compared first. */
 static bool repeated(const uint8_t *table, size_t at)
 {
     for (size_t earlier = TABLE_ENTRIES; earlier < at; earlier += 2 + table[earlier + 1])
-        if (table[earlier] == table[at] && table[earlier + 1] == table[at + 1] &&
-            memcmp(table + earlier + 2, table + at + 2, table[at + 1]) == 0)
+        if (table[earlier + 1] == table[at + 1] && table[earlier] == table[at] &&
+            same_label(table + at + 2, table + earlier + 2, table[at + 1]))
             return true;
     return false;
 }

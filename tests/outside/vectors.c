@@ -319,6 +319,6 @@ int main(int argc, char **argv)
     }
     free(line);
     fclose(file);
-    printf("vectors, %s: %u passed, %u failed\n", face->name, passed, failed);
+    printf("%s, %s: %u passed, %u failed\n", argv[2], face->name, passed, failed);
     return failed != 0 || passed == 0;
 }

@@ -25,7 +25,7 @@ use Rattle.history.specs.Calls.{Place, labelPlace, labelCall}
 use Rattle.history.specs.Legal.{LegalTable}
 use Rattle.history.proofs.OutputLaws.{Leaves, written-leaves}
 use Rattle.history.proofs.VerdictLaws.{held, used}
-use Rattle.history.proofs.TableLaws.{table-is}
+use Rattle.history.proofs.TableLaws.{nobody, table-is}
 use Rattle.tables.specs.LabelPlaces.{labelTold}
 use Rattle.tables.specs.declared.place.LabelAt.{LabelAt}
 use Rattle.tables.proofs.AnswerLaws.{yes, no}
@@ -40,9 +40,6 @@ use Rattle.gateway.specs.Slots.{answerSlots, standingIn}
 
 -- ---- a label stands within 65,536 bytes
 
-nobody : Object
-nobody = record { type = 0; label = [] }
-
 entries-few : (i : ℕ) (os : List Object) → ((j : ℕ) → j < length os → length (getD os j nobody .label) ≤ 48) → length (objectsBytes (take i os)) ≤ 50 * length os
 entries-few zero os h = omega arith
 entries-few (suc i) [] h = omega arith
@@ -50,7 +47,7 @@ entries-few (suc i) (o ∷ os) h =
     omega (arith, length-append (objectBytes o) (objectsBytes (take i os)), h 0 (omega arith), entries-few i os (λ j m. h (suc j) (omega arith)))
 
 place-few : {t : Table} → LegalTable t → (i : ℕ) → i < length (t .objects) → (labelPlace t i .offset < 65536) × (labelPlace t i .size < 65536)
-unfolding nobody labelLimit
+unfolding labelLimit
 place-few {t} h i m =
     let few = entries-few i (t .objects) (λ j l. omega (arith, h .each j l .few)) in
     (omega (arith, few, h .count), omega (arith, h .each i m .few))

@@ -10,10 +10,10 @@ use lib.ListN.{length, take, drop, getD, length-append, length-drop}
 use lib.Seq.{drop-cons}
 use borrow.Author.Tests.{eq-eqb, le-leb, leb-true, eqb-true}
 use Rattle.octets.specs.Octets.{bytes, number, Bytes}
-use Rattle.history.specs.Verdict.{done}
+use Rattle.history.specs.Verdict.{refused, done}
 use Rattle.history.specs.Form.{Form, formBytes, isWhole, readForm}
 use Rattle.octets.proofs.NumberLaws.{length-bytes, read-bytes, drop-is, cut}
-use Rattle.history.proofs.VerdictLaws.{left, right, held}
+use Rattle.history.proofs.VerdictLaws.{left, right, held, past}
 
 pub record Formed (least : ℕ) (good : ℕ → Bool) (b : List ℕ) (f : Form) : Type 0 where
   pub version : good (f .version) ≡ true
@@ -69,16 +69,26 @@ form-version least good b {f} e =
     let v : f .version ≡ getD b 4 0 = cc (p₂ .1) in
     rw v (p₂ .0)
 
+-- no form is refused with a code above 2
+pub form-other : (least : ℕ) (good : ℕ → Bool) (b : List ℕ) {code object bit : ℕ} → 2 < code → readForm least good b ≡ refused code object bit → ⊥
+unfolding readForm
+form-other least good b l e =
+    let p₁ = past (isWhole least b) 1 65535 255 _ (λ z. omega arith) e in
+    let p₂ = past (good (getD b 4 0)) 2 65535 255 _ (λ z. omega arith) (p₁ .1) in
+    let z : _≡_ {A = ℕ} 0 1 = cc (p₂ .1) in
+    omega arith
+
 form-parts : (f : Form) → (getD (formBytes f) 4 0 ≡ f .version) × (getD (formBytes f) 5 0 ≡ f .x) × (getD (formBytes f) 6 0 ≡ f .y) × (drop 7 (formBytes f) ≡ f .contents)
 unfolding formBytes bytes
 form-parts f = (refl, refl, refl, refl)
 
-form-size : (f : Form) → 3 + length (f .contents) < 2 ^ 32 → (number (take 4 (formBytes f)) ≡ 3 + length (f .contents)) × (length (formBytes f) ≡ 4 + (3 + length (f .contents)))
+pub form-length : (f : Form) → length (formBytes f) ≡ 4 + (3 + length (f .contents))
 unfolding formBytes
-form-size f h =
-    let c : List ℕ = f .version ∷ f .x ∷ f .y ∷ f .contents in
-    let n : ℕ = 3 + length (f .contents) in
-    (read-bytes 4 n c h, simp length-append (omega (arith, length-bytes 4 n)))
+form-length f = simp length-append (omega (arith, length-bytes 4 (3 + length (f .contents))))
+
+form-size : (f : Form) → 3 + length (f .contents) < 2 ^ 32 → number (take 4 (formBytes f)) ≡ 3 + length (f .contents)
+unfolding formBytes
+form-size f h = read-bytes 4 (3 + length (f .contents)) (f .version ∷ f .x ∷ f .y ∷ f .contents) h
 
 pub form-reads : (least : ℕ) (good : ℕ → Bool) (f : Form) → good (f .version) ≡ true → least ≤ 3 + length (f .contents) → 3 + length (f .contents) < 2 ^ 32
     → readForm least good (formBytes f) ≡ done f
@@ -86,5 +96,4 @@ unfolding readForm isWhole
 form-reads least good f g l h =
     let n : ℕ = 3 + length (f .contents) in
     let p = form-parts f in
-    let s = form-size f h in
-    rw (s .0, s .1, le-leb 4 (4 + n) (omega arith), eq-eqb (4 + n) (4 + n) refl, le-leb least n l, p .0, g, p .1, p .2, p .3)
+    rw (form-size f h, form-length f, le-leb 4 (4 + n) (omega arith), eq-eqb (4 + n) (4 + n) refl, le-leb least n l, p .0, g, p .1, p .2, p .3)

@@ -180,14 +180,14 @@ module _ {p : Plan} where
 pub late-exactly : (l : Changes) (a : Image) → (applied l a ≡ refusal 16) ↔ (l .from < a .position)
 unfolding applied
 late-exactly l a = (
-  (λ e. leb-false _ _ (stopped (leb (a .position) (l .from)) _ _ _ _ (λ r. other-code fits keep 0 18 (resultOf l a) 0 (l .each) (a .words) (λ n. omega arith) (past (leb (l .from) (a .position)) 17 65535 255 _ (omega arith) r)) e)),
+  (λ e. leb-false _ _ (stopped (leb (a .position) (l .from)) _ _ _ _ (λ r. other-code fits keep 0 18 (resultOf l a) 0 (l .each) (a .words) (λ n. omega arith) (past (leb (l .from) (a .position)) 17 65535 255 _ (omega arith) r .1)) e)),
   (λ h. rw (lt-leb (a .position) (l .from) h)),
 )
 
 pub gap-exactly : (l : Changes) (a : Image) → (applied l a ≡ refusal 17) ↔ (a .position < l .from)
 unfolding applied
 gap-exactly l a = (
-  (λ e. leb-false _ _ (stopped (leb (l .from) (a .position)) _ _ _ _ (other-code fits keep 0 18 (resultOf l a) 0 (l .each) (a .words) (λ n. omega arith)) (past (leb (a .position) (l .from)) 16 65535 255 _ (omega arith) e))),
+  (λ e. leb-false _ _ (stopped (leb (l .from) (a .position)) _ _ _ _ (other-code fits keep 0 18 (resultOf l a) 0 (l .each) (a .words) (λ n. omega arith)) (past (leb (a .position) (l .from)) 16 65535 255 _ (omega arith) e .1))),
   (λ h. rw (le-leb (a .position) (l .from) (omega (arith, h)), lt-leb (l .from) (a .position) h)),
 )
 
@@ -203,8 +203,8 @@ apart-exactly l m = (
 pub names-old : (l : Changes) (a : Image) {j bit : ℕ} → applied l a ≡ refused 18 j bit → Lowest fits keep 0 (l .each) (a .words) j × (bit ≡ 255)
 unfolding applied
 names-old l a {j} {bit} e =
-    let late = past (leb (a .position) (l .from)) 16 65535 255 _ (omega arith) e in
-    let gap = past (leb (l .from) (a .position)) 17 65535 255 _ (omega arith) late in
+    let late = past (leb (a .position) (l .from)) 16 65535 255 _ (omega arith) e .1 in
+    let gap = past (leb (l .from) (a .position)) 17 65535 255 _ (omega arith) late .1 in
     let n = names-lowest fits keep 0 18 (resultOf l a) 0 (l .each) (a .words) gap in
     (rw (n .object, zero-add (n .place)) (n .lowest), n .no-bit)
 
@@ -218,7 +218,7 @@ refuses-old l a j e h =
 pub names-meeting : (l m : Changes) {j bit : ℕ} → join l m ≡ refused 20 j bit → Lowest meets keep keep (l .each) (m .each) j × (bit ≡ 255)
 unfolding join
 names-meeting l m {j} {bit} e =
-    let place = past (eqb (l .to) (m .from)) 19 65535 255 _ (omega arith) e in
+    let place = past (eqb (l .to) (m .from)) 19 65535 255 _ (omega arith) e .1 in
     let n = names-lowest meets keep keep 20 (jointOf l m) 0 (l .each) (m .each) place in
     (rw (n .object, zero-add (n .place)) (n .lowest), n .no-bit)
 

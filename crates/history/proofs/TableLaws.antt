@@ -2,8 +2,9 @@
 -- Assumes nothing.
 use Prim.Native.Nat.{ℕ, zero, suc, _+_, _*_, _≤_, _<_}
 use native.Mathlib.Omega.{arith}
+use native.Mathlib.Nat.{add-zero, zero-add, suc-add}
 use mathlib.Core.Path.{_≡_, refl, sym, ap, ap₂, _∙_}
-use mathlib.Core.Bool.{Bool, true, false, not, _&&_, _||_}
+use mathlib.Core.Bool.{Bool, true, false, not, _&&_, _||_, not-eq-not, or-true}
 use mathlib.Core.List.{List, [], _∷_, _++_, map, append-assoc, append-nil}
 use mathlib.Core.Logic.{_↔_}
 use lib.Dec.{eqb, leb}
@@ -11,7 +12,7 @@ use lib.ListN.{length, take, drop, getD, length-append, length-drop, length-map,
 use lib.Seq.{drop-cons, length-take-le, take-append-seam, drop-append-seam, getD-append-seam}
 use borrow.Author.Tests.{eq-eqb, eqb-true, le-leb, leb-true, not-true}
 use Rattle.octets.specs.Octets.{bytes, number, Bytes}
-use Rattle.history.specs.Verdict.{Verdict, done}
+use Rattle.history.specs.Verdict.{Verdict, refused, done, refusalAt, _unless_⨾_}
 use Rattle.history.specs.Form.{Form, formBytes, readForm}
 use Rattle.history.specs.Table.{Object, Table, versionGood, catalogueGood, labelLimit, labelGood, objectBytes, objectsBytes, tableBytes, sameObject, repeats, ObjectEntry, objectAt, checkObject, readObjects, readTable, Plan, planOf, object}
 use Rattle.elements.specs.Elements.{carried, kindOf}
@@ -19,29 +20,29 @@ use Rattle.octets.specs.Octets.{sameBytes}
 use Rattle.history.specs.Calls.{readPlan}
 use Rattle.history.specs.Legal.{LegalObject, LegalTable}
 use Rattle.octets.proofs.NumberLaws.{length-bytes, read-bytes, drop-bytes, cut}
-use Rattle.history.proofs.VerdictLaws.{all, left, right, held, used}
+use Rattle.history.proofs.VerdictLaws.{all, left, right, kept, held, used}
 use Rattle.history.proofs.FormLaws.{form-version, form-is, form-reads}
 use Rattle.history.proofs.ImageLaws.{Fair}
 
-nobody : Object
+abbrev pub nobody : Object
 nobody = record { type = 0; label = [] }
 
 -- ---- objects that are the same
 
-pub same-refl : (l : List ℕ) → sameBytes l l ≡ true
+same-refl : (l : List ℕ) → sameBytes l l ≡ true
 same-refl [] = refl
 same-refl (x ∷ xs) = all (eq-eqb x x refl) (same-refl xs)
 
-pub same-eq : (l m : List ℕ) → sameBytes l m ≡ true → l ≡ m
+same-eq : (l m : List ℕ) → sameBytes l m ≡ true → l ≡ m
 same-eq [] [] e = refl
 same-eq [] (y ∷ ys) e = absurd (let z : _≡_ {A = ℕ} 0 1 = cc in omega arith)
 same-eq (x ∷ xs) [] e = absurd (let z : _≡_ {A = ℕ} 0 1 = cc in omega arith)
 same-eq (x ∷ xs) (y ∷ ys) e = ap₂ _∷_ (eqb-true x y (left (eqb x y) _ e)) (same-eq xs ys (right (eqb x y) _ e))
 
-object-refl : (o : Object) → sameObject o o ≡ true
+pub object-refl : (o : Object) → sameObject o o ≡ true
 object-refl o = all (eq-eqb (o .type) (o .type) refl) (same-refl (o .label))
 
-object-eq : (o p : Object) → sameObject o p ≡ true → o ≡ p
+pub object-eq : (o p : Object) → sameObject o p ≡ true → o ≡ p
 object-eq o p e =
     let t = eqb-true (o .type) (p .type) (left (eqb (o .type) (p .type)) _ e) in
     let l = same-eq (o .label) (p .label) (right (eqb (o .type) (p .type)) _ e) in
@@ -59,13 +60,23 @@ fresh-before o (p ∷ os) ps e =
     let r = fresh-before o os ps (h .1) in
     (rw (h .0) (r .0), r .1)
 
-fresh-from : (o : Object) (os : List Object) → ((i : ℕ) → i < length os → getD os i nobody ≡ o → ⊥) → repeats o os ≡ false
-fresh-from o [] h = refl
-fresh-from o (p ∷ os) h = go (sameObject p o) refl (fresh-from o os (λ i l. h (suc i) (omega arith)))
+-- one that repeats is as one of them, and each of them repeats
+pub repeats-one : (o : Object) (os : List Object) → repeats o os ≡ true → (i : ℕ) × (i < length os) × (getD os i nobody ≡ o)
+repeats-one o [] e = absurd (let z : _≡_ {A = ℕ} 0 1 = cc in omega arith)
+repeats-one o (p ∷ os) e = go (sameObject p o) refl e (repeats-one o os)
   where
-    go : (u : Bool) → sameObject p o ≡ u → repeats o os ≡ false → (u || repeats o os) ≡ false
-    go true e r = absurd (h 0 (omega arith) (object-eq p o e))
-    go false e r = r
+    go : (u : Bool) → sameObject p o ≡ u → (u || repeats o os) ≡ true → (repeats o os ≡ true → (i : ℕ) × (i < length os) × (getD os i nobody ≡ o))
+        → (i : ℕ) × (i < suc (length os)) × (getD (p ∷ os) i nobody ≡ o)
+    go true t e later = (0, omega arith, object-eq p o t)
+    go false t e later = let r = later e in (suc (r .0), omega (arith, r .1), r .2)
+
+pub repeats-each : (os : List Object) (i : ℕ) → i < length os → repeats (getD os i nobody) os ≡ true
+repeats-each [] i l = absurd (omega arith)
+repeats-each (p ∷ os) zero l = rw (object-refl p)
+repeats-each (p ∷ os) (suc i) l = rw (repeats-each os i (omega arith), or-true)
+
+fresh-from : (o : Object) (os : List Object) → ((i : ℕ) → i < length os → getD os i nobody ≡ o → ⊥) → repeats o os ≡ false
+fresh-from o os h = not-eq-not {b = false} .0 (λ e. let r = repeats-one o os e in h (r .0) (r .1) (r .2))
 
 -- ---- the objects after the earlier ones: each legal, none as one before it
 
@@ -74,7 +85,7 @@ module _ (version x : ℕ) where
   LegalFrom earlier [] = Unit {0}
   LegalFrom earlier (o ∷ os) = LegalObject version x o × (repeats o earlier ≡ false) × LegalFrom (earlier ++ (o ∷ [])) os
 
-  legal-each : (earlier os : List Object) → LegalFrom earlier os → (i : ℕ) → i < length os → LegalObject version x (getD os i nobody)
+  pub legal-each : (earlier os : List Object) → LegalFrom earlier os → (i : ℕ) → i < length os → LegalObject version x (getD os i nobody)
   legal-each earlier [] h i l = absurd (omega arith)
   legal-each earlier (o ∷ os) h zero l = h .0
   legal-each earlier (o ∷ os) h (suc i) l = legal-each (earlier ++ (o ∷ [])) os (h .2) i (omega arith)
@@ -84,7 +95,7 @@ module _ (version x : ℕ) where
   legal-fresh earlier (o ∷ os) h zero l = h .1
   legal-fresh earlier (o ∷ os) h (suc i) l = fresh-before (getD os i nobody) earlier (o ∷ []) (legal-fresh (earlier ++ (o ∷ [])) os (h .2) i (omega arith)) .0
 
-  legal-distinct : (earlier os : List Object) → LegalFrom earlier os → (i j : ℕ) → i < j → j < length os → getD os i nobody ≡ getD os j nobody → ⊥
+  pub legal-distinct : (earlier os : List Object) → LegalFrom earlier os → (i j : ℕ) → i < j → j < length os → getD os i nobody ≡ getD os j nobody → ⊥
   legal-distinct earlier [] h i j l m e = absurd (omega arith)
   legal-distinct earlier (o ∷ os) h i zero l m e = absurd (omega arith)
   legal-distinct earlier (o ∷ os) h zero (suc j) l m e =
@@ -96,7 +107,7 @@ module _ (version x : ℕ) where
   legal-distinct earlier (o ∷ os) h (suc i) (suc j) l m e = legal-distinct (earlier ++ (o ∷ [])) os (h .2) i j (omega arith) (omega arith) e
 
   -- pointwise over the whole list, and so from any place on
-  legal-from : (earlier os all : List Object) → earlier ++ os ≡ all
+  pub legal-from : (earlier os all : List Object) → earlier ++ os ≡ all
       → ((i : ℕ) → i < length all → LegalObject version x (getD all i nobody))
       → ((i j : ℕ) → i < j → j < length all → getD all i nobody ≡ getD all j nobody → ⊥) → LegalFrom earlier os
   legal-from earlier [] all e each distinct = tt
@@ -111,39 +122,53 @@ module _ (version x : ℕ) where
 
   -- ---- an entry
 
-  -- what a read entry is
-  record ObjectIs (earlier : List Object) (b : List ℕ) (e : ObjectEntry) : Type 0 where
-    legal : LegalObject version x (e .object)
-    fresh : repeats (e .object) earlier ≡ false
-    whole : b ≡ objectBytes (e .object) ++ e .rest
+  -- an entry of which nothing but 7 is left to ask: its object is legal, and stands in its bytes
+  pub record Tested (earlier : List Object) (b : List ℕ) (v : Verdict ObjectEntry) : Type 0 where
+    pub legal : LegalObject version x (objectAt b .object)
+    pub whole : b ≡ objectBytes (objectAt b .object) ++ objectAt b .rest
+    pub last : (refusalAt 7 (length earlier) unless not (repeats (objectAt b .object) earlier) ⨾ done (objectAt b)) ≡ v
 
-  object-is : (earlier : List Object) (b : List ℕ) {e : ObjectEntry} → checkObject version x earlier b (objectAt b) ≡ done e → ObjectIs earlier b e
+  pub tested : (earlier : List Object) (b : List ℕ) {v : Verdict ObjectEntry} → ((code object bit : ℕ) → (code ≡ 7 → ⊥) → refused code object bit ≡ v → ⊥)
+      → checkObject version x earlier b (objectAt b) ≡ v → Tested earlier b v
   unfolding checkObject
-  object-is earlier b {e} q =
+  tested earlier b other q =
       let n : ℕ = getD b 1 0 in
-      let p₁ = held (leb 2 (length b)) _ _ _ _ q in
-      let p₂ = held (carried x (getD b 0 0)) _ _ _ _ (p₁ .1) in
-      let p₃ = held (leb 1 n && leb n (labelLimit version)) _ _ _ _ (p₂ .1) in
-      let p₄ = held (leb (2 + n) (length b)) _ _ _ _ (p₃ .1) in
-      let p₅ = held (labelGood (objectAt b .object .label)) _ _ _ _ (p₄ .1) in
-      let p₆ = held (not (repeats (objectAt b .object) earlier)) _ _ _ _ (p₅ .1) in
-      let e-is : e ≡ objectAt b = cc (p₆ .1) in
+      let p₁ = kept (leb 2 (length b)) _ _ _ _ (other _ _ _ (λ e. omega arith)) q in
+      let p₂ = kept (carried x (getD b 0 0)) _ _ _ _ (other _ _ _ (λ e. omega arith)) (p₁ .1) in
+      let p₃ = kept (leb 1 n && leb n (labelLimit version)) _ _ _ _ (other _ _ _ (λ e. omega arith)) (p₂ .1) in
+      let p₄ = kept (leb (2 + n) (length b)) _ _ _ _ (other _ _ _ (λ e. omega arith)) (p₃ .1) in
+      let p₅ = kept (labelGood (objectAt b .object .label)) _ _ _ _ (other _ _ _ (λ e. omega arith)) (p₄ .1) in
       let two : 2 ≤ length b = leb-true _ _ (p₁ .0) in
       let room : 2 + n ≤ length b = leb-true _ _ (p₄ .0) in
       let size : length (take n (drop 2 b)) ≡ n = length-take-le n (drop 2 b) (simp length-drop (omega arith)) in
       let some : 1 ≤ n = leb-true _ _ (left (leb 1 n) _ (p₃ .0)) in
       let few : n ≤ labelLimit version = leb-true _ _ (right (leb 1 n) _ (p₃ .0)) in
-      rw e-is (record {
+      record {
         legal = record { type = p₂ .0; some = rw size some; few = rw size few; good = p₅ .0 };
-        fresh = not-true (repeats (objectAt b .object) earlier) (p₆ .0);
         whole = drop-cons b 0 0 (omega arith) ∙ ap (λ (r : List ℕ). getD b 0 0 ∷ r)
             (drop-cons b 1 0 (omega arith) ∙ ap₂ (λ (m : ℕ) (r : List ℕ). m ∷ r) (sym size) (sym (take-append-drop n (drop 2 b))));
-      })
+        last = p₅ .1;
+      }
 
-  object-reads : (earlier : List Object) (o : Object) (rest : List ℕ) → LegalObject version x o → repeats o earlier ≡ false
-      → checkObject version x earlier (objectBytes o ++ rest) (objectAt (objectBytes o ++ rest)) ≡ done (record { object = o; size = length (o .label); rest = rest })
+  -- what a read entry is
+  pub record ObjectIs (earlier : List Object) (b : List ℕ) (e : ObjectEntry) : Type 0 where
+    pub legal : LegalObject version x (e .object)
+    pub fresh : repeats (e .object) earlier ≡ false
+    pub whole : b ≡ objectBytes (e .object) ++ e .rest
+
+  pub object-is : (earlier : List Object) (b : List ℕ) {e : ObjectEntry} → checkObject version x earlier b (objectAt b) ≡ done e → ObjectIs earlier b e
+  object-is earlier b {e} q =
+      let i = tested earlier b (λ code object bit n z. let y : _≡_ {A = ℕ} 0 1 = cc in omega arith) q in
+      let p = held (not (repeats (objectAt b .object) earlier)) _ _ _ _ (i .last) in
+      let e-is : e ≡ objectAt b = cc (p .1) in
+      rw e-is (record { legal = i .legal; fresh = not-true (repeats (objectAt b .object) earlier) (p .0); whole = i .whole })
+
+  -- a legal object's entry is refused with 7 or not at all
+  pub object-checked : (earlier : List Object) (o : Object) (rest : List ℕ) → LegalObject version x o
+      → checkObject version x earlier (objectBytes o ++ rest) (objectAt (objectBytes o ++ rest))
+      ≡ (refusalAt 7 (length earlier) unless not (repeats o earlier) ⨾ done (record { object = o; size = length (o .label); rest = rest }))
   unfolding checkObject
-  object-reads earlier o rest h f =
+  object-checked earlier o rest h =
       let l : List ℕ = o .label in
       let long = length-append l rest in
       rw (
@@ -155,8 +180,11 @@ module _ (version x : ℕ) where
         take-append-seam l rest,
         drop-append-seam l rest,
         h .good,
-        f,
       )
+
+  object-reads : (earlier : List Object) (o : Object) (rest : List ℕ) → LegalObject version x o → repeats o earlier ≡ false
+      → checkObject version x earlier (objectBytes o ++ rest) (objectAt (objectBytes o ++ rest)) ≡ done (record { object = o; size = length (o .label); rest = rest })
+  object-reads earlier o rest h f = object-checked earlier o rest h ∙ rw f
 
   -- an entry is read from its own bytes alone
   pub object-alone : (earlier : List Object) (b rest : List ℕ) {e : ObjectEntry} → checkObject version x earlier b (objectAt b) ≡ done e
@@ -202,10 +230,16 @@ module _ (version x : ℕ) where
         same = q .whole ∙ ap (λ (c : List ℕ). objectBytes o ++ c) (r .same);
       }
 
+  -- legal objects are read, and then what follows them
+  pub objects-pass : (earlier os : List Object) → LegalFrom earlier os → (n : ℕ) (rest : List ℕ)
+      → readObjects version x earlier (length os + n) (objectsBytes os ++ rest) ≡ readObjects version x (earlier ++ os) n rest
+  objects-pass earlier [] h n rest = rw (zero-add n, append-nil earlier)
+  objects-pass earlier (o ∷ os) h n rest =
+      rw (suc-add (length os) n, append-assoc (o .label) (objectsBytes os) rest, object-reads earlier o (objectsBytes os ++ rest) (h .0) (h .1))
+      (objects-pass (earlier ++ (o ∷ [])) os (h .2) n rest ∙ ap (λ (e : List Object). readObjects version x e n rest) (append-assoc earlier (o ∷ []) os))
+
   objects-read : (earlier os : List Object) → LegalFrom earlier os → readObjects version x earlier (length os) (objectsBytes os) ≡ done (earlier ++ os)
-  objects-read earlier [] h = ap done (sym (append-nil earlier))
-  objects-read earlier (o ∷ os) h =
-      rw (object-reads earlier o (objectsBytes os) (h .0) (h .1)) (objects-read (earlier ++ (o ∷ [])) os (h .2) ∙ ap done (append-assoc earlier (o ∷ []) os))
+  objects-read earlier os h = rw (add-zero (length os), append-nil (objectsBytes os)) at (objects-pass earlier os h 0 [])
 
 -- labels are few enough for any form
 limit-few : (v : ℕ) → labelLimit v ≤ 253
@@ -227,7 +261,7 @@ pub record TableIs (b : List ℕ) (t : Table) : Type 0 where
 contents-are : (b : List ℕ) (f : Form) (t : Table) → readForm 5 versionGood b ≡ done f → catalogueGood (f .x) (f .y) ≡ true → number (take 2 (f .contents)) ≤ 1024
     → ObjectsAre (f .version) (f .x) [] (number (take 2 (f .contents))) (drop 2 (f .contents)) (t .objects)
     → t .version ≡ f .version → t .x ≡ f .x → t .y ≡ f .y → versionGood (f .version) ≡ true → TableIs b t
-unfolding tableBytes nobody
+unfolding tableBytes
 contents-are b f t e c few r v x y g =
     let objects : t .objects ≡ r .more = r .whole in
     let legal = r .legal in
@@ -261,7 +295,7 @@ table-is b {t} e =
     rw t-is (contents-are b f (record { version = f .version; x = f .x; y = f .y; objects = p₃ .0 }) (p .1) (p₁ .0) (leb-true _ _ (p₂ .0)) r refl refl refl (form-version 5 versionGood b (p .1)))
 
 pub table-reads : (t : Table) → LegalTable t → readTable (tableBytes t) ≡ done t
-unfolding readTable tableBytes nobody
+unfolding readTable tableBytes
 table-reads t h =
     let os : List Object = t .objects in
     let n : ℕ = length os in

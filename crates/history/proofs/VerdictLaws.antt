@@ -6,6 +6,7 @@ use native.Mathlib.Omega.{arith}
 use mathlib.Core.Path.{_≡_, refl, sym, ap, _∙_}
 use mathlib.Core.Bool.{Bool, true, false, _&&_}
 use mathlib.Core.List.{List, [], _∷_}
+use mathlib.Core.Logic.{_⊎_, inl, inr}
 use lib.ListN.{length, getD}
 use Rattle.history.specs.Verdict.{Verdict, refused, done, then, refusalAt, _unless_⨾_}
 use Rattle.history.specs.Operations.{lowest}
@@ -23,25 +24,34 @@ pub right : (a b : Bool) → (a && b) ≡ true → b ≡ true
 right true b e = e
 right false b e = absurd (let z : _≡_ {A = ℕ} 0 1 = cc in omega arith)
 
+-- a verdict other than the test's refusal: the test held, and the rest gave it
+pub kept : {A : Type 0} (t : Bool) (code object bit : ℕ) (r : Verdict A) {v : Verdict A} → (refused code object bit ≡ v → ⊥) → (refused code object bit unless t ⨾ r) ≡ v → (t ≡ true) × (r ≡ v)
+kept true code object bit r n e = (refl, e)
+kept false code object bit r n e = absurd (n e)
+
 -- a verdict that is no refusal: the test held; the value was put to use
 pub held : {A : Type 0} (t : Bool) (code object bit : ℕ) (r : Verdict A) {a : A} → (refused code object bit unless t ⨾ r) ≡ done a → (t ≡ true) × (r ≡ done a)
-held true code object bit r e = (refl, e)
-held false code object bit r e = absurd (let z : _≡_ {A = ℕ} 0 1 = cc in omega arith)
+held t code object bit r = kept t code object bit r (λ e. let z : _≡_ {A = ℕ} 0 1 = cc in omega arith)
 
 pub used : {A B : Type 0} (x : Verdict A) (f : A → Verdict B) {b : B} → then x f ≡ done b → (a : A) × (x ≡ done a) × (f a ≡ done b)
 used (refused code object bit) f e = absurd (let z : _≡_ {A = ℕ} 0 1 = cc in omega arith)
 used (done a) f e = (a, refl, e)
+
+-- a refusal is that of a value or of its use
+pub either-refused : {A B : Type 0} (x : Verdict A) (f : A → Verdict B) {code object bit : ℕ} → then x f ≡ refused code object bit
+    → (x ≡ refused code object bit) ⊎ ((a : A) × (x ≡ done a) × (f a ≡ refused code object bit))
+either-refused (refused code object bit) f e = inl cc
+either-refused (done a) f e = inr (a, refl, e)
 
 -- a refusal is passed up
 pub passed-up : {A B : Type 0} (x : Verdict A) (f : A → B) {code object bit : ℕ} → then x (λ a. done (f a)) ≡ refused code object bit → x ≡ refused code object bit
 passed-up (refused code object bit) f e = cc
 passed-up (done a) f e = absurd (let z : _≡_ {A = ℕ} 0 1 = cc in omega arith)
 
--- a refusal of another code comes from the rest
+-- a refusal of another code than the test's: the test held, and the rest gave it
 pub past : {A : Type 0} (t : Bool) (code object bit : ℕ) (r : Verdict A) {code′ object′ bit′ : ℕ}
-    → (code ≡ code′ → ⊥) → (refused code object bit unless t ⨾ r) ≡ refused code′ object′ bit′ → r ≡ refused code′ object′ bit′
-past true code object bit r n e = e
-past false code object bit r n e = absurd (n cc)
+    → (code ≡ code′ → ⊥) → (refused code object bit unless t ⨾ r) ≡ refused code′ object′ bit′ → (t ≡ true) × (r ≡ refused code′ object′ bit′)
+past t code object bit r n = kept t code object bit r (λ e. n cc)
 
 -- a refusal that the rest does not give: the test failed
 pub stopped : {A : Type 0} (t : Bool) (code object bit : ℕ) (r : Verdict A) {v : Verdict A} → (r ≡ v → ⊥) → (refused code object bit unless t ⨾ r) ≡ v → t ≡ false

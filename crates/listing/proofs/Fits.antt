@@ -21,7 +21,7 @@ use Rattle.history.specs.Verdict.{Verdict, refused, done}
 use Rattle.history.specs.Table.{Object, Table, object, labelLimit, planOf, readTable}
 use Rattle.history.specs.Image.{Image, readImage}
 use Rattle.history.specs.Legal.{LegalTable}
-use Rattle.history.proofs.TableLaws.{table-is}
+use Rattle.history.proofs.TableLaws.{nobody, table-is}
 use Rattle.history.proofs.VerdictLaws.{used, held}
 use Rattle.text.specs.Decimal.{decimalIn, decimal}
 use Rattle.text.specs.Wrote.{Wrote}
@@ -29,9 +29,6 @@ use Rattle.text.proofs.Laws.{decimal-fits}
 use Rattle.listing.specs.Listing.{Panel, readBoth, tableSize, readPanel, firstLine, objectLine, linesOf, refusedLine, panelText, textOf, listingOf}
 use Rattle.listing.specs.Walk.{linesIn}
 use Rattle.listing.proofs.LineLaws.{first-length, refused-length, object-length}
-
-nobody : Object
-nobody = record { type = 0; label = [] }
 
 -- ---- numbers: of the lines of n objects, the last below 1,024, each has a digit, at most 1,014 a second, 924 a third, 24 a fourth
 
@@ -134,7 +131,7 @@ digits-all n h = omega arith
 
 -- of a table that is read
 each-few : {t : Table} → LegalTable t → (j : ℕ) → j < length (t .objects) → Few (t .x) (getD (t .objects) j nobody)
-unfolding nobody labelLimit
+unfolding labelLimit
 each-few h j m = record { type = h .each j m .type; label = omega (arith, h .each j m .few) }
 
 table-few : {t : Table} (a : Image) → LegalTable t → length (linesOf 0 (t .objects) (planOf t .kinds) (a .words)) ≤ 65450

@@ -17,6 +17,7 @@ use Rattle.history.specs.Verdict.{Verdict, refused, done, then, refusalAt, _unl
 use Rattle.history.specs.Table.{Object, Table, object, objectsBytes}
 use Rattle.history.specs.Calls.{tableCall, Place, labelPlace, labelCall}
 use Rattle.history.proofs.LabelLaws.{LabelIs, label-is}
+use Rattle.history.proofs.TableLaws.{nobody}
 use Rattle.tables.specs.declared.place.LabelAt.{LabelAt}
 use Rattle.tables.specs.Places.{countIn, placeOf}
 use Rattle.tables.specs.LabelPlaces.{noLabel, labelTold, LabelFound}
@@ -25,9 +26,6 @@ use Rattle.tables.proofs.EntryLaws.{GoodEntry}
 use Rattle.tables.proofs.PlaceLaws.{objectOf, objectsBelow, length-below}
 use Rattle.tables.proofs.RepeatLaws.{part-length}
 use Rattle.tables.proofs.TableLaws.{Accepted, accepted, table-of}
-
-nobody : Object
-nobody = record { type = 0; label = [] }
 
 -- ---- the objects by their places
 
@@ -66,7 +64,6 @@ place-is b (suc i) h =
 
 -- object i of an accepted table, and its label, by its place
 pub object-is : (b : List ℕ) {t : Table} → Accepted b t → (i : ℕ) → i < countIn b → object t i ≡ objectOf b i
-unfolding nobody
 object-is b a i h = ap (λ (os : List Object). getD os i nobody) (a .objects) ∙ at-below b (countIn b) i h
 
 label-place-is : (b : List ℕ) {t : Table} → Accepted b t → (i : ℕ) → i < countIn b → labelPlace t i ≡ record { offset = placeOf b i + 2; size = getD b (placeOf b i + 1) 0 }

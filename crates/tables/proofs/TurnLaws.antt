@@ -15,7 +15,7 @@ use Rattle.tables.specs.Places.{placeOf, checkObjectAt, entriesIn}
 use Rattle.tables.proofs.AnswerLaws.{told-first}
 use Rattle.tables.proofs.EntryLaws.{entry-of, end-of}
 use Rattle.tables.proofs.PlaceLaws.{repeatsBelow, entriesCheck, entries-read, place-nine, place-next, place-before}
-use Rattle.tables.proofs.RepeatLaws.{Agree, repeats-here, repeats-later}
+use Rattle.tables.proofs.RepeatLaws.{repeats-not, repeats-yes, Agree, Both, Common, same-yes, same-no}
 
 pub entries-are : (b : List ℕ) (count : ℕ) → 9 ≤ length b → entriesIn b count ≡ entriesCheck b count 0
 unfolding entriesIn placeOf
@@ -96,9 +96,18 @@ module _ {b : List ℕ} {count k at size j was : ℕ} (s : Searching b count k a
       let r : repeatsBelow b k k ≡ false = rw e at (s .unlike) in
       record { bound = omega (arith, s .more); place = place-next b k at size (s .walking .place) (s .size-is); inside = s .fits; left = after ∙ rw r }
 
-  module _ (h : j < k) (i : ℕ) where
-    pub search-goes : i < size → (getD b (was + i) 0 ≡ getD b (at + i) 0 → ⊥) → (n : ℕ) → n ≡ 2 + getD b (was + 1) 0 → Searching b count k at size (j + 1) (was + n)
-    search-goes l d n e = record {
+  -- entry j, of n bytes, is compared with entry k
+  module _ (h : j < k) (n : ℕ) (e : n ≡ 2 + getD b (was + 1) 0) where
+    both : Both b j k was at
+    both = record {
+      first = s .earlier;
+      second = s .walking .place;
+      first-fits = omega (arith, place-before b j k was at n h (s .earlier) (s .walking .place) e, s .fits);
+      second-fits = omega (arith, s .fits, s .size-is);
+    }
+
+    goes : (Common both → ⊥) → Searching b count k at size (j + 1) (was + n)
+    goes d = record {
       walking = s .walking;
       more = s .more;
       good = s .good;
@@ -107,12 +116,21 @@ module _ {b : List ℕ} {count k at size j was : ℕ} (s : Searching b count k a
       passed = omega arith;
       earlier = place-next b j was n (s .earlier) e;
       before = place-before b j k was at n h (s .earlier) (s .walking .place) e;
-      unlike = repeats-later b j k was at size i (s .earlier) (s .walking .place) (s .size-is) (s .before) (s .fits) h (s .unlike) l d;
+      unlike = repeats-not b k j (s .unlike) (same-no both d);
     }
 
-    pub search-finds : Agree b was at i → i ≡ size → numbers 7 k 255 0 ≡ told (entriesIn b count)
+    pub goes-by-size : (n ≡ size → ⊥) → Searching b count k at size (j + 1) (was + n)
+    goes-by-size d = goes (λ c. d (omega (arith, c .size, s .size-is)))
+
+    pub goes-by-type : (getD b was 0 ≡ getD b at 0 → ⊥) → Searching b count k at size (j + 1) (was + n)
+    goes-by-type d = goes (λ c. d (c .type))
+
+    pub goes-by-byte : (i : ℕ) → 1 < i → i < size → (getD b (was + i) 0 ≡ getD b (at + i) 0 → ⊥) → Searching b count k at size (j + 1) (was + n)
+    goes-by-byte i low l d = goes (λ c. d (c .byte i low (omega (arith, s .size-is))))
+
+    pub search-finds : n ≡ size → getD b was 0 ≡ getD b at 0 → (i : ℕ) → i ≤ 1 → Agree b was at i size → numbers 7 k 255 0 ≡ told (entriesIn b count)
     unfolding told
-    search-finds a e =
-        let r = repeats-here b j k was at size i (s .earlier) (s .walking .place) (s .size-is) (s .before) (s .fits) h a e in
+    search-finds z t i low a =
+        let r = repeats-yes b k j h (same-yes both (omega (arith, s .size-is)) t i low (rw (s .size-is) at a)) in
         let v : entriesIn b count ≡ refusalAt 7 k = after ∙ rw r in
         sym (ap told v)

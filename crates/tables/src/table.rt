@@ -49,6 +49,8 @@ pub fn object_count(table: &[u8]) -> usize
 }
 
 // Per entry its check, then 7; last 8. The search for an earlier object with the same type and label is left at the first.
+// Two entries are compared by their types, their lengths, and then their labels from the last byte to the first: the labels of a
+// station begin alike.
 fn check_entries(table: &[u8], count: usize) -> Answer
     requires { ⌜ (9 ≤ length (now table)) × (count ≤ 1024) ⌝ }
     ensures { λ r. ⌜ r ≡ told (entriesIn (now (table .entry)) count) ⌝ }
@@ -62,20 +64,26 @@ fn check_entries(table: &[u8], count: usize) -> Answer
         }
         let size = entry_size(table, at);
         let mut j = 0;
-        let mut was = 9;
+        let mut next = 9;
         'earlier: while j < k {
-            let mut i = 0;
-            'bytes: while i < size {
-                if table[was + i] != table[at + i] {
-                    break 'bytes;
-                }
-                i += 1;
-            }
-            if i == size {
-                break 'entries;
-            }
-            was = was + entry_size(table, was);
+            let was = next;
+            let other_size = entry_size(table, was);
+            next = was + other_size;
             j += 1;
+            if table[was] != table[at] {
+                continue 'earlier;
+            }
+            if other_size != size {
+                continue 'earlier;
+            }
+            let mut i = size - 1;
+            'bytes: while 1 < i {
+                if table[was + i] != table[at + i] {
+                    continue 'earlier;
+                }
+                i -= 1;
+            }
+            break 'entries;
         }
         at = at + size;
         k += 1;
