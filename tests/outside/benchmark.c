@@ -12,24 +12,6 @@ static struct form table, a, b, c, first, second, data;
 static uint8_t out[FORM_MOST];
 static uint32_t answer[8], fields[32], standing[4];
 
-static void begin_table(uint32_t objects)
-{
-    static const uint8_t head[] = {0, 0, 0, 0, 1, 1, 0};
-    memcpy(table.bytes, head, sizeof head);
-    put_number(table.bytes + 7, 2, objects);
-    table.len = 9;
-}
-
-static void put_object(uint8_t type, const char *label)
-{
-    size_t len = strlen(label);
-    table.bytes[table.len++] = type;
-    table.bytes[table.len++] = (uint8_t)len;
-    memcpy(table.bytes + table.len, label, len);
-    table.len += len;
-    refit(&table);
-}
-
 /* A station's objects in their usual mixture, with labels such as ALB:CV0017. */
 static void station_table(uint32_t objects)
 {
@@ -38,27 +20,25 @@ static void station_table(uint32_t objects)
         const char *name;
     } mixture[] = {{4, "CV"},  {1, "SIG"}, {4, "CV"}, {8, "AG"},  {5, "CVA"}, {4, "CV"},  {1, "SIG"},  {6, "CVX"},
                    {2, "IC"},  {4, "CV"},  {3, "PV"}, {7, "SDT"}, {1, "SIG"}, {9, "BOU"}, {22, "AVG"}, {23, "FRA"}};
-    begin_table(objects);
+    empty_table(&table);
     for (uint32_t object = 0; object < objects; object++) {
         char label[32];
-        snprintf(label, sizeof label, "ALB:%s%04u", mixture[object % 16].name, (unsigned)object);
-        put_object(mixture[object % 16].type, label);
+        int len = snprintf(label, sizeof label, "ALB:%s%04u", mixture[object % 16].name, (unsigned)object);
+        add_object(&table, mixture[object % 16].type, label, (size_t)len);
     }
 }
 
 /* Labels of one length that differ in the first byte only. Of each type there are 93 such; one more is a byte longer. */
 static void first_byte_table(uint32_t objects)
 {
-    begin_table(objects);
+    empty_table(&table);
     for (uint32_t object = 0; object < objects; object++) {
         char label[] = "?LB:CV00170";
         uint32_t first = object / TYPES;
-        if (first < 93)
-            label[10] = '\0';
         label[0] = (char)(33 + first % 93);
         if (label[0] >= ':')
             label[0]++;
-        put_object(carried[object % TYPES], label);
+        add_object(&table, carried[object % TYPES], label, first < 93 ? 10 : 11);
     }
 }
 

@@ -219,23 +219,13 @@ static void compare_one(void)
         compare(&request);
 }
 
-static void add_object(uint8_t type, const uint8_t *label, size_t len)
-{
-    table.bytes[table.len++] = type;
-    table.bytes[table.len++] = (uint8_t)len;
-    memcpy(table.bytes + table.len, label, len);
-    table.len += len;
-    put_number(table.bytes + 7, 2, objects_of(&table) + 1);
-    refit(&table);
-}
-
 /* Every field of every type, written with each value up to 17 and read again, with and without data. */
 static void sweep_states(void)
 {
     for (int i = 0; i < TYPES; i++) {
         static struct form written;
-        random_table(&table, 0);
-        add_object(carried[i], (const uint8_t *)"A:A", 3);
+        empty_table(&table);
+        add_object(&table, carried[i], "A:A", 3);
         first_image(&images[0], &table);
         for (uint32_t place = 0; place < 24 * 18 * 2; place++) {
             struct request write = {.call = WRITE_STATE, .table = &table, .first = &images[0], .kind = carried[i]};
@@ -260,22 +250,22 @@ static void sweep_labels(void)
         for (size_t place = 0; place < len + 3; place++)
             for (int later = 0; later < 2; later++) {
                 const struct request request = {.call = CHECK_TABLE, .table = &table};
-                uint8_t labels[2][33];
+                char labels[2][33];
                 const size_t lens[2] = {len, place > len ? len + 1 : len};
                 memset(labels, 'A', sizeof labels);
                 labels[0][1] = ':';
                 labels[1][place == len + 1 ? 2 : 1] = ':';
                 if (place < len)
                     labels[1][place] = 'B';
-                random_table(&table, 0);
-                add_object(4, labels[!later], lens[!later]);
-                add_object(5, labels[0], len);
-                add_object(4, labels[later], lens[later]);
+                empty_table(&table);
+                add_object(&table, 4, labels[!later], lens[!later]);
+                add_object(&table, 5, labels[0], len);
+                add_object(&table, 4, labels[later], lens[later]);
                 bool same = place == len, good = place != 1 && lens[1] <= 32;
                 uint32_t code = compare(&request).answer[0];
                 if (good)
                     hold(code == (same ? 7 : 0), "objects repeat where type and label are the same");
-                add_object(5, labels[0], len);
+                add_object(&table, 5, labels[0], len);
                 const uint32_t *answer = compare(&request).answer;
                 if (good)
                     hold(answer[0] == 7 && answer[1] == (same ? 2 : 3), "the first object that repeats is named");

@@ -207,6 +207,24 @@ void random_table(struct form *table, uint32_t objects)
     refit(table);
 }
 
+void empty_table(struct form *table)
+{
+    put_head(table);
+    put_number(table->bytes + 7, 2, 0);
+    table->len = TABLE_ENTRIES;
+    refit(table);
+}
+
+void add_object(struct form *table, uint8_t type, const char *label, size_t len)
+{
+    table->bytes[table->len++] = type;
+    table->bytes[table->len++] = (uint8_t)len;
+    memcpy(table->bytes + table->len, label, len);
+    table->len += len;
+    put_number(table->bytes + 7, 2, objects_of(table) + 1);
+    refit(table);
+}
+
 void put_image(struct form *image, const struct form *table, uint32_t position, const uint8_t *(*element)(uint8_t type))
 {
     size_t at = IMAGE_ELEMENTS, entry = TABLE_ENTRIES;

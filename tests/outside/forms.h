@@ -35,6 +35,8 @@ const uint32_t *pool_fields(uint8_t type, const uint8_t *element);
 
 /* Accepted forms. An image that follows another differs in some of its elements, and takes some from a third. */
 void random_table(struct form *table, uint32_t objects);
+void empty_table(struct form *table);
+void add_object(struct form *table, uint8_t type, const char *label, size_t len);
 void first_image(struct form *image, const struct form *table);
 void next_image(struct form *image, const struct form *table, const struct form *before, const struct form *earlier);
 void put_image(struct form *image, const struct form *table, uint32_t position,
