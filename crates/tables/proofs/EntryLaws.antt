@@ -1,7 +1,7 @@
 -- An entry but for repeats: each answer from the tests that lead there, and what an accepted entry says.
 -- Assumes nothing.
 use Prim.Native.Nat.{ℕ, _+_, _-_, _≤_, _<_}
-use mathlib.Core.Path.{_≡_, sym, ap, _∙_}
+use mathlib.Core.Path.{_≡_, refl, sym, ap, _∙_}
 use mathlib.Core.List.{List}
 use mathlib.Core.Bool.{true, false, _&&_}
 use native.Mathlib.Omega.{arith}
@@ -9,47 +9,73 @@ use lib.ListN.{length, getD, take, drop}
 use lib.Dec.{leb}
 use borrow.Author.Tests.{lt-leb, le-leb, leb-true}
 use Rattle.history.specs.declared.Answer.{Answer}
-use Rattle.history.specs.Verdict.{done, numbers, unnamed, told}
+use Rattle.history.specs.Verdict.{Verdict, refused, done, refusal, refusalAt, numbers}
 use Rattle.elements.specs.Elements.{carried}
 use Rattle.history.specs.Table.{labelLimit, labelGood}
 use Rattle.history.proofs.VerdictLaws.{left, right, held}
-use Rattle.tables.specs.Places.{checkObjectAt}
-use Rattle.history.proofs.CodeLaws.{Coded, coded-unless, zero-told}
+use Rattle.tables.specs.Places.{checkObjectAt, hashAt}
+use Rattle.tables.specs.Hashes.{hashOf, hashed, found}
+use Rattle.tables.specs.declared.labels.Label.{Label}
+use Rattle.tables.specs.declared.table.Found.{Found}
+use Rattle.tables.proofs.LabelLaws.{was-bad, was-good, hash-few}
+
+-- ---- what checking an entry gives
+
+pub refuses : (hash : ℕ) {v : Verdict ℕ} {code object bit : ℕ} {a : Answer} → a ≡ numbers code object bit 0 → v ≡ refused code object bit → Found.Refused a ≡ found hash v
+unfolding found
+refuses hash e f = ap Found.Refused e ∙ sym (ap (found hash) f)
+
+refused-in : (hash : ℕ) (v : Verdict ℕ) (a : Answer) → Found.Refused a ≡ found hash v
+    → (code : ℕ) × (object : ℕ) × (bit : ℕ) × (v ≡ refused code object bit) × (a ≡ numbers code object bit 0)
+unfolding found
+refused-in hash (refused code object bit) a e = (code, object, bit, refl, (cc))
+refused-in hash (done next) a e = absurd (let z : _≡_ {A = ℕ} 0 1 = cc in omega arith)
+
+entry-in : (hash : ℕ) (v : Verdict ℕ) (own : ℕ) → Found.Entry own ≡ found hash v → (next : ℕ) × (v ≡ done next) × (own ≡ hash)
+unfolding found
+entry-in hash (refused code object bit) own e = absurd (let z : _≡_ {A = ℕ} 0 1 = cc in omega arith)
+entry-in hash (done next) own e = (next, refl, (cc))
+
+-- ---- each test
 
 module _ (b : List ℕ) (at k : ℕ) where
-  pub entry-cut : length b - at < 2 → unnamed 8 0 ≡ told (checkObjectAt b at k)
-  unfolding checkObjectAt told
+  pub entry-cut : length b - at < 2 → checkObjectAt b at k ≡ refusal 8
+  unfolding checkObjectAt
   entry-cut h = simp (lt-leb (at + 2) (length b) (omega arith))
 
   module _ (two : 2 ≤ length b - at) where
     both : leb (at + 2) (length b) ≡ true
     both = le-leb (at + 2) (length b) (omega arith)
 
-    pub entry-type : carried (getD b 5 0) (getD b at 0) ≡ false → numbers 5 k 255 0 ≡ told (checkObjectAt b at k)
-    unfolding checkObjectAt told
+    pub entry-type : carried (getD b 5 0) (getD b at 0) ≡ false → checkObjectAt b at k ≡ refusalAt 5 k
+    unfolding checkObjectAt
     entry-type h = simp (both, h)
 
     module _ (type : carried (getD b 5 0) (getD b at 0) ≡ true) (n : ℕ) (e : n ≡ getD b (at + 1) 0) where
-      pub entry-size : leb 1 n && leb n (labelLimit (getD b 4 0)) ≡ false → numbers 6 k 255 0 ≡ told (checkObjectAt b at k)
-      unfolding checkObjectAt told
+      pub entry-size : leb 1 n && leb n (labelLimit (getD b 4 0)) ≡ false → checkObjectAt b at k ≡ refusalAt 6 k
+      unfolding checkObjectAt
       entry-size h = rw (← e) (simp (both, type, h))
 
       module _ (size : leb 1 n && leb n (labelLimit (getD b 4 0)) ≡ true) where
-        pub label-cut : length b - at - 2 < n → unnamed 8 0 ≡ told (checkObjectAt b at k)
-        unfolding checkObjectAt told
+        pub label-cut : length b - at - 2 < n → checkObjectAt b at k ≡ refusal 8
+        unfolding checkObjectAt
         label-cut h = rw (← e) (simp (both, type, size, lt-leb (at + (2 + n)) (length b) (omega arith)))
 
-        module _ (rest : n ≤ length b - at - 2) where
+        module _ (rest : n ≤ length b - at - 2) {r : Label} (r-is : r ≡ hashed (labelGood (take n (drop (at + 2) b))) (hashOf (getD b at 0) (take n (drop (at + 2) b)))) where
           all : leb (at + (2 + n)) (length b) ≡ true
           all = le-leb (at + (2 + n)) (length b) (omega arith)
 
-          pub label-bad : labelGood (take n (drop (at + 2) b)) ≡ false → numbers 6 k 255 0 ≡ told (checkObjectAt b at k)
-          unfolding checkObjectAt told
-          label-bad h = rw (← e) (simp (both, type, size, all, h))
+          pub label-bad : r ≡ Label.Bad → checkObjectAt b at k ≡ refusalAt 6 k
+          unfolding checkObjectAt
+          label-bad h =
+              let bad = was-bad (labelGood (take n (drop (at + 2) b))) _ (sym h ∙ r-is) in
+              rw (← e) (simp (both, type, size, all, bad))
 
-          pub entry-good : labelGood (take n (drop (at + 2) b)) ≡ true → unnamed 0 0 ≡ told (checkObjectAt b at k)
-          unfolding checkObjectAt told
-          entry-good h = rw (← e) (simp (both, type, size, all, h))
+          pub entry-good : {h : ℕ} → r ≡ Label.Good h → Found.Entry h ≡ found (hashAt b at) (checkObjectAt b at k)
+          unfolding checkObjectAt hashAt found
+          entry-good {h} g =
+              let good = was-good (labelGood (take n (drop (at + 2) b))) _ h (sym g ∙ r-is) in
+              rw (← e) (simp (both, type, size, all, good .0, ← good .1))
 
 -- what an accepted entry says
 pub record GoodEntry (b : List ℕ) (at : ℕ) : Type 0 where
@@ -76,26 +102,23 @@ good-entry b at k e =
       label = p₅ .0;
     }
 
-entry-coded : (b : List ℕ) (at k : ℕ) → Coded (checkObjectAt b at k)
-unfolding checkObjectAt
-entry-coded b at k =
-    let n = getD b (at + 1) 0 in
-    coded-unless _ _ _ (leb (at + 2) (length b)) _ (omega arith) (omega arith) (λ e. omega arith)
-    (coded-unless _ _ _ (carried (getD b 5 0) (getD b at 0)) _ (omega arith) (omega arith) (λ e. omega arith)
-    (coded-unless _ _ _ (leb 1 n && leb n (labelLimit (getD b 4 0))) _ (omega arith) (omega arith) (λ e. omega arith)
-    (coded-unless _ _ _ (leb (at + (2 + n)) (length b)) _ (omega arith) (omega arith) (λ e. omega arith)
-    (coded-unless _ _ _ (labelGood (take n (drop (at + 2) b))) _ (omega arith) (omega arith) (λ e. omega arith) tt))))
+-- ---- what was given of the entry at a place
 
--- an entry whose answer has code 0 is accepted
-pub entry-of : (a : Answer) (b : List ℕ) (at k : ℕ) → a ≡ told (checkObjectAt b at k) → a .code ≡ 0 → (n : ℕ) × (checkObjectAt b at k ≡ done n)
-entry-of a b at k e z = zero-told (checkObjectAt b at k) (entry-coded b at k) (ap (λ (x : Answer). x .code) (sym e) ∙ z)
+module _ (b : List ℕ) (at k : ℕ) {r : Found} (r-is : r ≡ found (hashAt b at) (checkObjectAt b at k)) where
+  pub was-refused : {a : Answer} → r ≡ Found.Refused a → (code : ℕ) × (object : ℕ) × (bit : ℕ) × (checkObjectAt b at k ≡ refused code object bit) × (a ≡ numbers code object bit 0)
+  was-refused {a} e = refused-in (hashAt b at) (checkObjectAt b at k) a (sym e ∙ r-is)
 
-module _ (a : Answer) (b : List ℕ) (at k : ℕ) (e : a ≡ told (checkObjectAt b at k)) (z : a .code ≡ 0) where
-  good-of : GoodEntry b at
-  good-of = good-entry b at k (entry-of a b at k e z .1)
+  module _ {own : ℕ} (e : r ≡ Found.Entry own) where
+    pub was-found : (next : ℕ) × (checkObjectAt b at k ≡ done next) × (own ≡ hashAt b at)
+    was-found = entry-in (hashAt b at) (checkObjectAt b at k) own (sym e ∙ r-is)
 
-  pub two-of : at + 2 ≤ length b
-  two-of = omega (arith, good-of)
+    pub found-two : at + 2 ≤ length b
+    found-two = omega (arith, good-entry b at k (was-found .1))
 
-  pub end-of : (size : ℕ) → size ≡ 2 + getD b (at + 1) 0 → at + size ≤ length b
-  end-of size s = omega (arith, good-of)
+    pub found-few : own < 1024
+    found-few = omega (arith, was-found .2, hash-few b at)
+
+-- no label is longer than 48 bytes
+pub limit-few : (version : ℕ) → labelLimit version ≤ 48
+unfolding labelLimit
+limit-few version = omega arith

@@ -6,6 +6,7 @@ pub mod LabelLaws
 pub mod EntryLaws
 pub mod PlaceLaws
 pub mod RepeatLaws
+pub mod ChainLaws
 pub mod TurnLaws
 pub mod TableLaws
 pub mod PlanLaws

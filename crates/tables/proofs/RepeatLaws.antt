@@ -4,8 +4,7 @@
 use Prim.Native.Nat.{ℕ, zero, suc, _+_, _-_, _≤_, _<_}
 use native.Mathlib.Omega.{arith}
 use native.Mathlib.Nat.{add-zero, add-suc, eq-or-lt-of-le}
-use native.Mathlib.Numerals.{add-one}
-use mathlib.Core.Path.{_≡_, sym, ap, _∙_}
+use mathlib.Core.Path.{_≡_, refl, sym, ap, _∙_}
 use mathlib.Core.Bool.{Bool, true, false, not-eq-not, or-true}
 use mathlib.Core.List.{List}
 use mathlib.Core.Logic.{⊎-elim}
@@ -18,11 +17,12 @@ use Rattle.tables.proofs.PlaceLaws.{objectOf, repeatsBelow}
 
 -- ---- the search
 
-abbrev same : List ℕ → ℕ → ℕ → Bool
+abbrev pub same : List ℕ → ℕ → ℕ → Bool
 same b j k = sameObject (objectOf b j) (objectOf b k)
 
-pub repeats-not : (b : List ℕ) (k j : ℕ) → repeatsBelow b k j ≡ false → same b j k ≡ false → repeatsBelow b k (j + 1) ≡ false
-repeats-not b k j h n = rw (add-one j, n) h
+pub repeats-none : (b : List ℕ) (k n : ℕ) → ((j : ℕ) → j < n → same b j k ≡ false) → repeatsBelow b k n ≡ false
+repeats-none b k zero f = refl
+repeats-none b k (suc n) f = rw (f n (omega arith)) (repeats-none b k n (λ j l. f j (omega arith)))
 
 repeats-more : (b : List ℕ) (k j n : ℕ) → repeatsBelow b k j ≡ true → repeatsBelow b k (j + n) ≡ true
 repeats-more b k j zero h = rw add-zero h

@@ -2,3 +2,4 @@ pub mod Under
 pub mod Places
 pub mod Outlines
 pub mod LabelPlaces
+pub mod Hashes

@@ -8,6 +8,7 @@ use Rattle.octets.specs.Octets.{number}
 use Rattle.history.specs.Verdict.{Verdict, done, refusal, refusalAt, _unless_⨾_}
 use Rattle.elements.specs.Elements.{carried}
 use Rattle.history.specs.Table.{Object, labelLimit, labelGood, readObjects}
+use Rattle.tables.specs.Hashes.{hashOf}
 
 -- the count in a table's bytes
 abbrev pub countIn : List ℕ → ℕ
@@ -27,6 +28,10 @@ checkObjectAt b at k =
     refusal 8 unless leb (at + (2 + getD b (at + 1) 0)) (length b) ⨾
     refusalAt 6 k unless labelGood (take (getD b (at + 1) 0) (drop (at + 2) b)) ⨾
     done (at + (2 + getD b (at + 1) 0))
+
+-- the hash of the entry at a place
+unfoldable pub hashAt : List ℕ → ℕ → ℕ
+hashAt b at = hashOf (getD b at 0) (take (getD b (at + 1) 0) (drop (at + 2) b))
 
 -- the table's entries, read from byte 9 on
 unfoldable pub entriesIn : List ℕ → ℕ → Verdict (List Object)

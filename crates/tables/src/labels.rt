@@ -1,24 +1,37 @@
-// Labels: bytes 33 to 126; some byte is a colon, and the first colon has a byte before and after it.
+// Labels: bytes 33 to 126; some byte is a colon, and the first colon has a byte before and after it. A good label gets the hash of its
+// entry's type and label in the same pass, by which repeats are looked for.
+use super::whole::byte_at;
 ghost use mathlib.Core.Path.{_≡_};
-ghost use Prim.Native.Nat.{_+_, _≤_};
-ghost use lib.ListN.{length, take, drop};
+ghost use Prim.Native.Nat.{_+_, _≤_, _<_};
+ghost use lib.ListN.{length, getD, take, drop};
 ghost use Rattle.history.specs.Table.{printable, firstColon, labelGood};
+ghost use Rattle.tables.specs.Hashes.{hashFrom, hashOf, hashed};
 
-// All bytes are 33 to 126.
-fn all_printable(label: &[u8]) -> bool
-    ensures { λ r. ⌜ r ≡ printable (now (label .entry)) ⌝ }
+// What checking a label gives: it is bad, or good with its entry's hash.
+pub enum Label {
+    Bad,
+    Good(usize),
+}
+
+// All bytes are 33 to 126. The hash goes on from that of what stands before.
+fn check_bytes(first: usize, label: &[u8]) -> Label
+    requires { ⌜ first < 1024 ⌝ }
+    ensures { λ r. ⌜ r ≡ hashed (printable (now (label .entry))) (hashFrom first (now (label .entry))) ⌝ }
 {
+    let mut hash = first;
     let mut i = 0;
     while i < label.len() {
-        if label[i] < 33 {
-            return false;
+        let byte = byte_at(label, i);
+        if byte < 33 {
+            return Label::Bad;
         }
-        if 126 < label[i] {
-            return false;
+        if 126 < byte {
+            return Label::Bad;
         }
+        hash = (hash * 9 + byte) % 1024;
         i += 1;
     }
-    true
+    Label::Good(hash)
 }
 
 // The place of the first colon; the length where there is none.
@@ -35,24 +48,26 @@ fn first_colon(label: &[u8]) -> usize
     i
 }
 
-fn is_good(label: &[u8]) -> bool
-    ensures { λ r. ⌜ r ≡ labelGood (now (label .entry)) ⌝ }
+fn check_label(first: usize, label: &[u8]) -> Label
+    requires { ⌜ first < 1024 ⌝ }
+    ensures { λ r. ⌜ r ≡ hashed (labelGood (now (label .entry))) (hashFrom first (now (label .entry))) ⌝ }
 {
-    if !all_printable(label) {
-        return false;
-    }
     let colon = first_colon(label);
     if colon < 1 {
-        return false;
+        return Label::Bad;
     }
-    colon + 1 < label.len()
+    if label.len() <= colon + 1 {
+        return Label::Bad;
+    }
+    check_bytes(first, label)
 }
 
-// The bytes of a label, as a part of its table, are good.
-pub fn is_good_at(table: &[u8], from: usize, size: usize) -> bool
-    requires { ⌜ from + size ≤ length (now table) ⌝ }
-    ensures { λ r. ⌜ r ≡ labelGood (take size (drop from (now (table .entry)))) ⌝ }
+// The label of an entry, as a part of its table.
+pub fn check_label_at(table: &[u8], at: usize, size: usize) -> Label
+    requires { ⌜ at + 2 + size ≤ length (now table) ⌝ }
+    ensures { λ r. ⌜ r ≡ hashed (labelGood (take size (drop (at + 2) (now (table .entry))))) (hashOf (getD (now (table .entry)) at 0) (take size (drop (at + 2) (now (table .entry))))) ⌝ }
 {
+    let from = at + 2;
     let to = from + size;
-    is_good(&table[from..to])
+    check_label(byte_at(table, at), &table[from..to])
 }

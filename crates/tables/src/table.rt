@@ -2,7 +2,8 @@
 use super::answers::accepted;
 use super::answers::refused;
 use super::answers::refused_at;
-use super::labels::is_good_at;
+use super::labels::Label;
+use super::labels::check_label_at;
 use super::whole::byte_at;
 use super::whole::is_whole;
 use history::Answer;
@@ -14,7 +15,8 @@ ghost use lib.ListN.{length, getD};
 ghost use Rattle.history.specs.Verdict.{told};
 ghost use Rattle.history.specs.Table.{versionGood, catalogueGood, labelLimit};
 ghost use Rattle.history.specs.Calls.{tableCall};
-ghost use Rattle.tables.specs.Places.{countIn, checkObjectAt, entriesIn};
+ghost use Rattle.tables.specs.Places.{countIn, checkObjectAt, hashAt, entriesIn};
+ghost use Rattle.tables.specs.Hashes.{found};
 
 const MOST_OBJECTS: usize = 1024;
 
@@ -48,32 +50,40 @@ pub fn object_count(table: &[u8]) -> usize
     octets::get_at(table, 7, 2) as usize
 }
 
-// Per entry its check, then 7; last 8. The search for an earlier object with the same type and label is left at the first.
-// Two entries are compared by their types, their lengths, and then their labels from the last byte to the first: the labels of a
-// station begin alike.
+// Per entry its check, then 7; last 8. The search for an earlier object with the same type and label goes by the earlier entries of the
+// same hash, the last first, and is left at the first that repeats. Two entries are compared by their types, their lengths, and then their
+// labels from the last byte to the first: the labels of a station begin alike.
+// For each hash `heads` has the last entry of it, for each entry `links` has the one of its hash before it and `starts` its place. An
+// entry stands there by one more than its number; 0 is none.
 fn check_entries(table: &[u8], count: usize) -> Answer
     requires { ⌜ (9 ≤ length (now table)) × (count ≤ 1024) ⌝ }
     ensures { λ r. ⌜ r ≡ told (entriesIn (now (table .entry)) count) ⌝ }
 {
+    let mut heads = [0u16; 1024];
+    let mut links = [0u16; 1024];
+    let mut starts = [0u16; 1024];
     let mut k = 0;
     let mut at = 9;
     'entries: while k < count {
-        let found = check_entry(table, at, k as u16);
-        if found.code != 0 {
-            return found;
+        let mut hash = 0;
+        match check_entry(table, at, k as u16) {
+            Found::Refused(answer) => {
+                return answer;
+            }
+            Found::Entry(own) => {
+                hash = own;
+            }
         }
         let size = entry_size(table, at);
-        let mut j = 0;
-        let mut next = 9;
-        'earlier: while j < k {
-            let was = next;
-            let other_size = entry_size(table, was);
-            next = was + other_size;
-            j += 1;
+        let mut j = heads[hash] as usize;
+        'earlier: while 0 < j {
+            let e = j - 1;
+            let was = starts[e] as usize;
+            j = links[e] as usize;
             if table[was] != table[at] {
                 continue 'earlier;
             }
-            if other_size != size {
+            if entry_size(table, was) != size {
                 continue 'earlier;
             }
             let mut i = size - 1;
@@ -85,8 +95,11 @@ fn check_entries(table: &[u8], count: usize) -> Answer
             }
             break 'entries;
         }
+        links[k] = heads[hash];
+        starts[k] = at as u16;
         at = at + size;
         k += 1;
+        heads[hash] = k as u16;
     }
     if k < count {
         return refused_at(7, k as u16);
@@ -105,29 +118,36 @@ pub fn entry_size(table: &[u8], at: usize) -> usize
     2 + byte_at(table, at + 1)
 }
 
+// What checking an entry gives: an answer that refuses, or the entry's hash.
+enum Found {
+    Refused(Answer),
+    Entry(usize),
+}
+
 // An entry but for repeats: 8 (two bytes lacking), 5, 6 (length), 8 (label cut), 6 (bytes).
-fn check_entry(table: &[u8], at: usize, object: u16) -> Answer
+fn check_entry(table: &[u8], at: usize, object: u16) -> Found
     requires { ⌜ (9 ≤ length (now table)) × (at ≤ length (now table)) ⌝ }
-    ensures { λ r. ⌜ r ≡ told (checkObjectAt (now (table .entry)) at object) ⌝ }
+    ensures { λ r. ⌜ r ≡ found (hashAt (now (table .entry)) at) (checkObjectAt (now (table .entry)) at object) ⌝ }
 {
     let left = table.len() - at;
     if left < 2 {
-        return refused(8);
+        return Found::Refused(refused(8));
     }
     if !elements::is_carried(table[5], table[at]) {
-        return refused_at(5, object);
+        return Found::Refused(refused_at(5, object));
     }
     let size = byte_at(table, at + 1);
     if !is_size(table[4], size) {
-        return refused_at(6, object);
+        return Found::Refused(refused_at(6, object));
     }
     if left - 2 < size {
-        return refused(8);
+        return Found::Refused(refused(8));
     }
-    if !is_good_at(table, at + 2, size) {
-        return refused_at(6, object);
-    }
-    accepted()
+    let label = check_label_at(table, at, size);
+    let Label::Good(hash) = label else {
+        return Found::Refused(refused_at(6, object));
+    };
+    Found::Entry(hash)
 }
 
 // The version byte is one that is read.

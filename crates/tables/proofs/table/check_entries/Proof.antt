@@ -1,41 +1,61 @@
--- `tables::table::check_entries` meets its contract. The invariants: the verdict for the whole is that for what is left; no earlier
--- entry so far is the same; the label bytes compared so far are, from the last down. Assumes nothing.
-use Prim.Native.Nat.{_-_, _<_}
+-- `tables::table::check_entries` meets its contract. The invariants: the verdict for the whole is that for what is left, and the entries
+-- passed are chained by their hashes; no earlier entry so far is the same; the label bytes compared so far are, from the last down.
+-- Assumes nothing.
+use Prim.Native.Nat.{_+_, _-_, _≤_, _<_}
 use native.Mathlib.Omega.{arith}
 use mathlib.Core.Path.{_∙_}
 use mathlib.Core.Logic.{⊎-elim}
+use lib.ListN.{length}
 use borrow.Author.Needs.{needs}
-use Rattle.tables.proofs.EntryLaws.{two-of}
+use Rattle.tables.proofs.EntryLaws.{found-two, found-few}
 use Rattle.tables.proofs.RepeatLaws.{Agree, agree-none, agree-more}
-use Rattle.tables.proofs.TurnLaws.{Walking, walk-begins, walk-stops, end-over, end-good, Searching, search-begins, goes-by-size, goes-by-type, goes-by-byte, search-finds, search-ends}
+use Rattle.tables.proofs.ChainLaws.{Chained, chain-begins, head-low}
+use Rattle.tables.proofs.TurnLaws.{Walking, walk-begins, walk-stops, end-over, end-good, Searching, search-begins, goes-by-size, goes-by-type, goes-by-byte, was-fits, search-finds, walk-next, chained-next}
 use Rattle.tables.proofs.table.check_entries.Statement.{statement}
 use Rattle.tables.proofs.table.check_entries.Tie as tie
 
 abbrev Inv-bytes : tie.InvT-bytes
-Inv-bytes table count k at size j next was other-size i₀ i = (i < size) × Agree table was at i size
+Inv-bytes table count heads links starts k at hash size j e was i₀ i = (i < size) × (was + size ≤ length table) × Agree table was at i size
 
 abbrev μ-bytes : tie.MeasureT-bytes
-μ-bytes table count k at size j next was other-size i₀ i = i
+μ-bytes table count heads links starts k at hash size j e was i₀ i = i
 
 abbrev Inv-earlier : tie.InvT-earlier
-Inv-earlier table count k at size j₀ next₀ j next = Searching table count k at size j next
+Inv-earlier table count heads links starts k at hash size j₀ j = Searching table count k at size hash heads links starts j
 
 abbrev μ-earlier : tie.MeasureT-earlier
-μ-earlier table count k at size j₀ next₀ j next = k - j
+μ-earlier table count heads links starts k at hash size j₀ j = j
 
 abbrev Inv-entries : tie.InvT-entries
-Inv-entries table count k₀ at₀ k at = Walking table count k at
+Inv-entries table count heads₀ links₀ starts₀ k₀ at₀ heads links starts k at = Walking table count k at × Chained table k heads links starts
 
 abbrev μ-entries : tie.MeasureT-entries
-μ-entries table count k₀ at₀ k at = count - k
+μ-entries table count heads₀ links₀ starts₀ k₀ at₀ heads links starts k at = count - k
 
-earlier-holds :
-    tie.Need-earlier-holds Inv-bytes μ-bytes Inv-earlier μ-earlier Inv-entries μ-entries
-earlier-holds c = search-begins (search) (search) _ (c .before .before .before .check-entry .ensures) (search) _ (c .entry-size .ensures .0)
+mul-j : tie.Need-mul-j Inv-bytes μ-bytes Inv-earlier μ-earlier Inv-entries μ-entries
+mul-j c = omega (arith, found-few _ _ _ (c .before .before .before .before .check-entry .ensures) (c .before .before .own .given .1))
+
+cast-j : tie.Need-cast-j Inv-bytes μ-bytes Inv-earlier μ-earlier Inv-entries μ-entries
+cast-j c =
+    let checked = c .before .before .before .before in
+    omega (arith, head-low (checked .before .before .entries .inv .1) _ (found-few _ _ _ (checked .check-entry .ensures) (c .before .before .own .given .1)))
+
+earlier-again-2 : tie.Need-earlier-again-2 Inv-bytes μ-bytes Inv-earlier μ-earlier Inv-entries μ-entries
+earlier-again-2 c =
+    let turn = c .before .before .before .before .before in
+    goes-by-size (turn .before .earlier .inv) (turn .earlier-test .taken) _ (c .before .entry-size2 .ensures .0) (λ z. omega (arith, c .if2 .taken))
+
+bytes-holds : tie.Need-bytes-holds Inv-bytes μ-bytes Inv-earlier μ-earlier Inv-entries μ-entries
+bytes-holds c =
+    let turn = c .before .before .before .before .before in
+    (omega arith, was-fits (turn .before .earlier .inv) (turn .earlier-test .taken) _ (c .before .entry-size2 .ensures .0) (omega arith), agree-none (omega arith))
+
+entries-again : tie.Need-entries-again Inv-bytes μ-bytes Inv-earlier μ-earlier Inv-entries μ-entries
+entries-again c = let inv = c .before .earlier .inv in (walk-next inv (c .earlier-test .left), chained-next inv (omega arith))
 
 -- the loop was left at a repeat
 returns-2 : tie.Need-returns-2 Inv-bytes μ-bytes Inv-earlier μ-earlier Inv-entries μ-entries
-returns-2 c = c .refused-at .ensures ∙ ⊎-elim (λ w. absurd (omega arith)) (λ w. search search-finds) (c .before .before .entries-test .came)
+returns-2 c = c .refused-at .ensures ∙ ⊎-elim (λ w. absurd (omega arith)) (λ w. search-finds (w .6 .inv) (w .7 .taken) _ (w .11 .ensures .0) (w .12 .left) (w .10 .left) _ (omega arith) (w .13 .inv .2)) (c .before .before .entries-test .came)
 
 pub check-entries-spec : {M : Type 1} → statement M
 check-entries-spec =
@@ -47,23 +67,33 @@ check-entries-spec =
     μ-earlier
     Inv-entries
     μ-entries
-    (λ c. search walk-begins)
+    (λ c. (search walk-begins, search chain-begins))
     (λ c. omega arith)
     (λ c κs. omega arith)
+    (λ c. search needs)
     (λ c. search walk-stops)
-    (λ c κs. two-of _ _ _ _ (c .before .before .check-entry .ensures) (c .if1 .left))
-    earlier-holds
-    (λ c κs. omega arith)
+    (λ c. search needs)
+    (λ c κs. search found-two)
+    mul-j
+    (λ c. search found-few)
+    cast-j
+    (λ c. search search-begins)
+    (λ c. omega arith)
+    (λ c. omega arith)
+    (λ c. omega arith)
+    (λ c. omega arith)
+    (λ c. omega arith)
     (λ c. omega arith)
     (λ c. omega arith)
     (λ c. omega arith)
     (λ c. omega arith)
     (λ c. omega arith)
     (λ c. search goes-by-type)
+    (λ c κs. omega arith)
     (λ c. omega arith)
-    (λ c. search goes-by-size)
+    earlier-again-2
     (λ c. omega arith)
-    (λ c. (omega arith, agree-none (omega arith)))
+    bytes-holds
     (λ c. omega arith)
     (λ c. omega arith)
     (λ c. omega arith)
@@ -72,11 +102,21 @@ check-entries-spec =
     (λ c. search goes-by-byte)
     (λ c. omega arith)
     (λ c. omega arith)
-    (λ c. (omega arith, search agree-more))
+    (λ c. (omega arith, search, search agree-more))
     (λ c. omega arith)
     (λ c. omega arith)
     (λ c. omega arith)
-    (λ c. search search-ends)
+    (λ c. omega arith)
+    (λ c. omega arith)
+    (λ c. omega arith)
+    (λ c. omega arith)
+    (λ c. omega arith)
+    (λ c. omega arith)
+    (λ c. omega arith)
+    (λ c. omega arith)
+    (λ c. omega arith)
+    (λ c. omega arith)
+    entries-again
     (λ c. omega arith)
     (λ c κs. search needs)
     returns-2

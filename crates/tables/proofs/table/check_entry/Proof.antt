@@ -1,29 +1,29 @@
 -- `tables::table::check_entry` meets its contract: each answer from the tests that lead there.
 -- Assumes nothing.
-use mathlib.Core.Path.{_∙_}
+use native.Mathlib.Omega.{arith}
 use Rattle.tables.proofs.AnswerLaws.{no, yes}
-use Rattle.tables.proofs.EntryLaws.{entry-cut, entry-type, entry-size, label-cut, label-bad, entry-good}
+use Rattle.tables.proofs.EntryLaws.{refuses, entry-cut, entry-type, entry-size, label-cut, label-bad, entry-good}
 use borrow.Author.Needs.{needs}
 use Rattle.tables.proofs.table.check_entry.Statement.{statement}
 use Rattle.tables.proofs.table.check_entry.Tie as tie
 
 returns : tie.Need-returns
-returns c = c .refused .ensures ∙ search entry-cut
+returns c = refuses _ (c .refused .ensures) (search entry-cut)
 
 returns-2 : tie.Need-returns-2
-returns-2 c = c .refused-at .ensures ∙ search (entry-type, no)
+returns-2 c = refuses _ (c .refused-at .ensures) (search (entry-type, no))
 
 returns-3 : tie.Need-returns-3
-returns-3 c = c .refused-at2 .ensures ∙ search (entry-size, yes, no)
+returns-3 c = refuses _ (c .refused-at2 .ensures) (search (entry-size, yes, no))
 
 returns-4 : tie.Need-returns-4
-returns-4 c = c .refused2 .ensures ∙ search (label-cut, yes)
+returns-4 c = refuses _ (c .refused2 .ensures) (search (label-cut, yes))
 
 returns-5 : tie.Need-returns-5
-returns-5 c = c .refused-at3 .ensures ∙ search (label-bad, yes, no)
+returns-5 c = refuses _ (c .refused-at3 .ensures) (search (label-bad, yes))
 
 returns-6 : tie.Need-returns-6
-returns-6 c = c .accepted .ensures ∙ search (entry-good, yes)
+returns-6 c = search (entry-good, yes)
 
 pub check-entry-spec : {M : Type 1} → statement M
 check-entry-spec =
@@ -45,9 +45,9 @@ check-entry-spec =
     returns-3
     (λ c κs. search needs)
     returns-4
+    (λ c κs. omega arith)
+    (λ c. search needs)
     (λ c. search needs)
     (λ c κs. search needs)
-    (λ c κs. search needs)
     returns-5
-    (λ c κs. search needs)
     returns-6)
