@@ -1,4 +1,5 @@
-/* The library against the reference on random and damaged requests, and the paper's laws on the library itself:
+/* The library and the handmade calls against the reference on random and damaged requests, and the paper's laws on the
+   library itself:
    compare [REQUESTS [SEED]] */
 #include "laws.h"
 #include "requests.h"
@@ -281,7 +282,7 @@ static unsigned long sweep_elements(void)
         uint32_t end = width == 1 ? 256 : 65536;
         for (uint32_t value = 0; value < end; value++, count++) {
             uint8_t bytes[4];
-            uint32_t expected[8], found[8];
+            uint32_t expected[8], found[8], made[8];
             put_number(bytes, width, value);
             if (width > 2) /* an accepted one with up to three bits changed */
                 memcpy(bytes, pool_element(carried[i]), width);
@@ -289,7 +290,8 @@ static unsigned long sweep_elements(void)
                 flip_bit(bytes, width);
             reference.check_element(carried[i], bytes, width, expected);
             library.check_element(carried[i], bytes, width, found);
-            differing += memcmp(expected, found, sizeof expected) != 0;
+            handmade.check_element(carried[i], bytes, width, made);
+            differing += memcmp(expected, found, sizeof expected) != 0 || memcmp(expected, made, sizeof expected) != 0;
         }
     }
     printf("elements by type: %lu compared, %lu differ\n", count, differing);

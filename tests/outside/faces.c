@@ -1,5 +1,6 @@
 #include "faces.h"
 
+#include "handmade.h"
 #include "reference.h"
 #include "shefumbari.h"
 
@@ -11,13 +12,14 @@
         prefix##receive, prefix##listing
 
 const struct face library = {"library", FACE(shefumbari_)};
+const struct face handmade = {"handmade", FACE(handmade_)};
 const struct face reference = {"reference", FACE(reference_)};
 
 const struct face *face_named(const char *name)
 {
-    if (strcmp(name, library.name) == 0)
-        return &library;
-    if (strcmp(name, reference.name) == 0)
-        return &reference;
+    const struct face *const faces[] = {&library, &handmade, &reference};
+    for (size_t i = 0; i < sizeof faces / sizeof *faces; i++)
+        if (strcmp(name, faces[i]->name) == 0)
+            return faces[i];
     return NULL;
 }

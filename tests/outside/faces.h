@@ -1,4 +1,4 @@
-/* The two that are run alike: the library by its header, and the reference. */
+/* The three that are run alike: the library by its header, the C made for speed by hand, and the reference. */
 #ifndef FACES_H
 #define FACES_H
 
@@ -27,7 +27,7 @@ struct face {
     void (*listing)(const uint8_t *, size_t, uint8_t *, size_t, uint32_t *);
 };
 
-extern const struct face library, reference;
+extern const struct face library, handmade, reference;
 
 /* By name, NULL where there is none. */
 const struct face *face_named(const char *name);

@@ -1,40 +1,11 @@
 /* The paper in plain C11, written from the paper alone: what the library is compared with, in answers and in speed. */
 #include "reference.h"
 
-#include <stdbool.h>
-#include <string.h>
-
-enum {
-    OBJECTS_MOST = 1024,
-    LABEL_MOST = 32,
-    LISTED_MOST = 65536,
-    NO_OBJECT = 65535,
-    NO_BIT = 255,
-    TABLE_LEAST = 5,
-    IMAGE_LEAST = 7,
-    LIST_LEAST = 13,
-    /* offsets in the forms */
-    VERSION = 4,
-    CATALOGUE = 5,
-    TABLE_COUNT = 7,
-    TABLE_ENTRIES = 9,
-    IMAGE_POSITION = 7,
-    IMAGE_ELEMENTS = 11,
-    LIST_FROM = 7,
-    LIST_TO = 11,
-    LIST_COUNT = 15,
-    LIST_ENTRIES = 17,
-    TYPE_WITHOUT_DAT = 22
-};
+#include "paper.h"
 
 /* Catalogue 1.0 */
 
-/* A field: the highest value admitted is 0 where it is reserved. */
-struct row {
-    uint8_t type, low, width, top;
-};
-
-static const struct row rows[107] = {
+const struct row rows[107] = {
     /* SIG */
     {1, 0, 1, 1},   {1, 1, 3, 3},   {1, 4, 4, 12},  {1, 8, 1, 1},   {1, 9, 1, 1},   {1, 10, 1, 1},  {1, 11, 1, 1},
     {1, 12, 1, 1},  {1, 13, 1, 1},  {1, 14, 1, 1},  {1, 15, 1, 1},  {1, 16, 1, 1},  {1, 17, 1, 1},  {1, 18, 1, 1},
@@ -68,10 +39,7 @@ static const struct row rows[107] = {
     {23, 11, 1, 1}, {23, 12, 4, 0},
 };
 
-/* By type: its width in bytes (0 where it isn't carried) and its rows. */
-static const struct layout {
-    uint8_t width, first, end;
-} layouts[256] = {
+const struct layout layouts[256] = {
     [1] = {4, 0, 24},  [2] = {1, 24, 27}, [3] = {1, 27, 31}, [4] = {2, 31, 42},  [5] = {2, 42, 53},   [6] = {2, 53, 65},
     [7] = {1, 65, 72}, [8] = {3, 72, 85}, [9] = {1, 85, 90}, [22] = {2, 90, 98}, [23] = {2, 98, 107},
 };
@@ -92,48 +60,6 @@ static void put_number(uint8_t *bytes, size_t width, uint32_t value)
         bytes[--width] = (uint8_t)value;
         value >>= 8;
     }
-}
-
-/* Answers */
-
-static void give(uint32_t *answer, uint32_t code, uint32_t object, uint32_t bit, size_t length)
-{
-    memset(answer, 0, 8 * sizeof *answer);
-    answer[0] = code;
-    answer[1] = object;
-    answer[2] = bit;
-    answer[3] = (uint32_t)length;
-}
-
-static void succeed(uint32_t *answer, size_t length)
-{
-    give(answer, 0, NO_OBJECT, NO_BIT, length);
-}
-
-/* The refusals are false, so that a check can return them. */
-static bool refused_bit(uint32_t *answer, uint32_t code, uint32_t object, uint32_t bit)
-{
-    give(answer, code, object, bit, 0);
-    return false;
-}
-
-static bool refused_object(uint32_t *answer, uint32_t code, uint32_t object)
-{
-    return refused_bit(answer, code, object, NO_BIT);
-}
-
-static bool refused(uint32_t *answer, uint32_t code)
-{
-    return refused_bit(answer, code, NO_OBJECT, NO_BIT);
-}
-
-/* 21 comes last: false where the output is shorter than the answer. */
-static bool room(size_t out_len, size_t length, uint32_t *answer)
-{
-    if (out_len >= length)
-        return true;
-    give(answer, 21, NO_OBJECT, NO_BIT, length);
-    return false;
 }
 
 /* Elements */

@@ -41,7 +41,7 @@ static unsigned long counts[CALLS][CODES];
 /* What each face is lent. The guards differ, so that a look before a buffer shows. */
 static struct buffers {
     struct lent table, first, second, out, fields, standing, answer;
-} buffers[2];
+} buffers[3];
 
 static struct {
     const struct face *face;
@@ -61,8 +61,9 @@ static void stopped(int signal)
 
 void open_buffers(void)
 {
-    for (int i = 0; i < 2; i++) {
-        uint8_t guard = i == 0 ? 0xA5 : 0x3A;
+    static const uint8_t guards[] = {0xA5, 0x3A, 0x5C};
+    for (int i = 0; i < 3; i++) {
+        uint8_t guard = guards[i];
         buffers[i] = (struct buffers){.table = lent_new(FORM_MOST, guard),
                                       .first = lent_new(FORM_MOST, guard),
                                       .second = lent_new(FORM_MOST, guard),
@@ -103,7 +104,7 @@ static void fail(const struct request *request, const char *what)
 {
     if (failed++ >= PRINTED_MOST)
         return;
-    printf("%s: %s:", call_names[request->call], what);
+    printf("%s, %s: %s:", running.face->name, call_names[request->call], what);
     print_form("table", request->table);
     print_form("first", request->first);
     print_form("second", request->second);
@@ -172,7 +173,7 @@ static void call_face(const struct face *face, const struct request *r, struct b
 
 struct outcome perform(const struct face *face, const struct request *request)
 {
-    struct buffers *b = &buffers[face == &reference];
+    struct buffers *b = &buffers[face == &library ? 0 : face == &handmade ? 1 : 2];
     call_face(face, request, b);
     struct outcome outcome = {(uint32_t *)(void *)b->answer.bytes, (uint32_t *)(void *)b->fields.bytes,
                               (uint32_t *)(void *)b->standing.bytes, b->out.bytes};
@@ -201,28 +202,35 @@ static uint32_t code_of(const struct request *request, const struct outcome *out
     return code;
 }
 
+/* Runs a request on a face and holds what it leaves to what the reference left. */
+static void compare_face(const struct face *face, const struct request *request, const struct outcome *expected)
+{
+    struct outcome found = perform(face, request);
+    if (memcmp(found.answer, expected->answer, 32) != 0) {
+        fail(request, "answer");
+        if (failed <= PRINTED_MOST)
+            for (int i = 0; i < 8; i++)
+                printf("  number %d: reference %" PRIu32 ", %s %" PRIu32 "\n", i, expected->answer[i], face->name,
+                       found.answer[i]);
+    }
+    if (memcmp(found.out, expected->out, request->room) != 0)
+        fail(request, "output");
+    if (request->call == READ_STATE && memcmp(found.fields, expected->fields, 128) != 0)
+        fail(request, "fields");
+    if (memcmp(found.standing, expected->standing, 16) != 0)
+        fail(request, "standing");
+}
+
 struct outcome compare(const struct request *request)
 {
     unsigned long before = failed;
     struct outcome expected = perform(&reference, request);
-    struct outcome found = perform(&library, request);
     compared++;
     uint32_t code = code_of(request, &expected);
     if (code < CODES)
         counts[request->call][code]++;
-    if (memcmp(found.answer, expected.answer, 32) != 0) {
-        fail(request, "answer");
-        if (failed <= PRINTED_MOST)
-            for (int i = 0; i < 8; i++)
-                printf("  number %d: reference %" PRIu32 ", library %" PRIu32 "\n", i, expected.answer[i],
-                       found.answer[i]);
-    }
-    if (memcmp(found.out, expected.out, request->room) != 0)
-        fail(request, "output");
-    if (request->call == READ_STATE && memcmp(found.fields, expected.fields, 128) != 0)
-        fail(request, "fields");
-    if (memcmp(found.standing, expected.standing, 16) != 0)
-        fail(request, "standing");
+    compare_face(&library, request, &expected);
+    compare_face(&handmade, request, &expected);
     if (failed == before)
         passed++;
     return expected;

@@ -1,4 +1,4 @@
-/* A request to any of the calls, run on the library and on the reference and compared. */
+/* A request to any of the calls, run on the reference, the library and the handmade calls, and compared. */
 #ifndef REQUESTS_H
 #define REQUESTS_H
 
@@ -48,7 +48,7 @@ bool writes(enum call call);
 /* Runs a request on one face; what touches anything but its outputs is counted as failed. */
 struct outcome perform(const struct face *face, const struct request *request);
 
-/* Runs a request on both and compares; gives the reference's outcome. */
+/* Runs a request on all three and compares; gives the reference's outcome. */
 struct outcome compare(const struct request *request);
 
 /* One law: counted as passed or failed. */

@@ -1,4 +1,4 @@
-/* Runs the requests of a vectors file against a face: vectors library|reference FILE.
+/* Runs the requests of a vectors file against a face: vectors library|handmade|reference FILE.
    A line is: CALL name=value .. > CODE OBJECT BIT LENGTH name=value .., inputs on the left, outputs on the right.
    Bytes are lower-case hex, - where empty; a lent output stands whole, at entry on the left and at exit on the right. A
    state is TYPE:v,v,.. or none, a standing applied,late,gap,other. A listing's numbers are those of its refusal. */
@@ -294,7 +294,7 @@ int main(int argc, char **argv)
 {
     const struct face *face = argc == 3 ? face_named(argv[1]) : NULL;
     if (face == NULL) {
-        fprintf(stderr, "usage: vectors library|reference FILE\n");
+        fprintf(stderr, "usage: vectors library|handmade|reference FILE\n");
         return 2;
     }
     FILE *file = fopen(argv[2], "r");

@@ -1,0 +1,89 @@
+/* What reference.c and handmade.c share: the paper's numbers, catalogue 1.0, and how an answer is given. */
+#ifndef PAPER_H
+#define PAPER_H
+
+#include <stdbool.h>
+#include <stddef.h>
+#include <stdint.h>
+#include <string.h>
+
+enum {
+    OBJECTS_MOST = 1024,
+    LABEL_MOST = 32,
+    LISTED_MOST = 65536,
+    NO_OBJECT = 65535,
+    NO_BIT = 255,
+    TABLE_LEAST = 5,
+    IMAGE_LEAST = 7,
+    LIST_LEAST = 13,
+    /* offsets in the forms */
+    VERSION = 4,
+    CATALOGUE = 5,
+    TABLE_COUNT = 7,
+    TABLE_ENTRIES = 9,
+    IMAGE_POSITION = 7,
+    IMAGE_ELEMENTS = 11,
+    LIST_FROM = 7,
+    LIST_TO = 11,
+    LIST_COUNT = 15,
+    LIST_ENTRIES = 17,
+    TYPE_WITHOUT_DAT = 22
+};
+
+/* A field: the highest value admitted is 0 where it is reserved. */
+struct row {
+    uint8_t type, low, width, top;
+};
+
+extern const struct row rows[107];
+
+/* By type: its width in bytes (0 where it isn't carried) and its rows. */
+struct layout {
+    uint8_t width, first, end;
+};
+
+extern const struct layout layouts[256];
+
+/* Answers */
+
+static inline void give(uint32_t *answer, uint32_t code, uint32_t object, uint32_t bit, size_t length)
+{
+    memset(answer, 0, 8 * sizeof *answer);
+    answer[0] = code;
+    answer[1] = object;
+    answer[2] = bit;
+    answer[3] = (uint32_t)length;
+}
+
+static inline void succeed(uint32_t *answer, size_t length)
+{
+    give(answer, 0, NO_OBJECT, NO_BIT, length);
+}
+
+/* The refusals are false, so that a check can return them. */
+static inline bool refused_bit(uint32_t *answer, uint32_t code, uint32_t object, uint32_t bit)
+{
+    give(answer, code, object, bit, 0);
+    return false;
+}
+
+static inline bool refused_object(uint32_t *answer, uint32_t code, uint32_t object)
+{
+    return refused_bit(answer, code, object, NO_BIT);
+}
+
+static inline bool refused(uint32_t *answer, uint32_t code)
+{
+    return refused_bit(answer, code, NO_OBJECT, NO_BIT);
+}
+
+/* 21 comes last: false where the output is shorter than the answer. */
+static inline bool room(size_t out_len, size_t length, uint32_t *answer)
+{
+    if (out_len >= length)
+        return true;
+    give(answer, 21, NO_OBJECT, NO_BIT, length);
+    return false;
+}
+
+#endif
