@@ -1,5 +1,5 @@
 /* One call, some times over: benchmark FACE CALL OBJECTS ENTRIES REPEATS. Of check_element, OBJECTS is the type.
-   check_first_byte is check_table on labels that differ in the first byte only.
+   check_first_byte is check_table on labels that differ in the first byte only, check_colliding on labels of one hash.
    Prints the bytes of the table and of the other forms; what runs is counted from outside. */
 #include "faces.h"
 #include "forms.h"
@@ -98,12 +98,22 @@ int main(int argc, char **argv)
         return 0;
     }
 
-    uint16_t last = (uint16_t)(objects - 1);
     bool by_first_byte = strcmp(call, "check_first_byte") == 0;
-    if (by_first_byte)
-        first_byte_table(objects);
-    else
-        station_table(objects);
+    if (by_first_byte || strcmp(call, "check_colliding") == 0) {
+        if (by_first_byte)
+            first_byte_table(objects);
+        else
+            colliding_table(&table, objects);
+        while (repeats-- > 0)
+            face->check_table(t, table.len, answer);
+        if (answer[0] != 0)
+            stop("the table is refused");
+        printf("%zu 0\n", table.len);
+        return 0;
+    }
+
+    uint16_t last = (uint16_t)(objects - 1);
+    station_table(objects);
     put_image(&a, &table, 48213, pool_element);
     change(&b, &a, &a, entries);
     change(&c, &b, &a, entries);
@@ -115,7 +125,7 @@ int main(int argc, char **argv)
     reference.read_state(t, table.len, b.bytes, b.len, last, fields, answer);
     uint32_t kind = answer[4];
 
-    if (by_first_byte || strcmp(call, "check_table") == 0) {
+    if (strcmp(call, "check_table") == 0) {
         while (repeats-- > 0)
             face->check_table(t, table.len, answer);
     } else if (strcmp(call, "check_image") == 0) {

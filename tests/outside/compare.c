@@ -273,6 +273,23 @@ static void sweep_labels(void)
             }
 }
 
+/* Objects that only their first bytes tell apart, all of one hash; and then one of them once more. */
+static void sweep_collisions(void)
+{
+    const struct request request = {.call = CHECK_TABLE, .table = &bent_table};
+    colliding_table(&table, OBJECTS_MOST - 1);
+    copy_form(&bent_table, &table);
+    hold(compare(&request).answer[0] == 0, "objects of one hash are told apart");
+    for (uint32_t object = 0; object < OBJECTS_MOST - 1; object += 73) {
+        const uint8_t *entry = table.bytes + entry_of(&table, object);
+        copy_form(&bent_table, &table);
+        add_object(&bent_table, entry[0], (const char *)entry + 2, entry[1]);
+        const uint32_t *answer = compare(&request).answer;
+        hold(answer[0] == 7 && answer[1] == OBJECTS_MOST - 1,
+             "an object that repeats is found among those of one hash");
+    }
+}
+
 /* Every element of one and two bytes, and many of the longer. */
 static unsigned long sweep_elements(void)
 {
@@ -325,6 +342,7 @@ int main(int argc, char **argv)
     }
     sweep_states();
     sweep_labels();
+    sweep_collisions();
     print_counts(requests >= REQUESTS);
     printf("laws held to: %lu\n", laws);
     passed += sweep_elements();

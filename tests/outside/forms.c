@@ -225,6 +225,24 @@ void add_object(struct form *table, uint8_t type, const char *label, size_t len)
     refit(table);
 }
 
+/* At most 822 labels of one hash are alike behind their third byte. So here 822 have 33 as their fourth, and the others
+   34. */
+void colliding_table(struct form *table, uint32_t objects)
+{
+    enum { TYPE = 4, CROWDED = 529, VALUES = 94 };
+    char label[] = "????:CV0017000000000000000000000";
+    empty_table(table);
+    for (uint32_t front = 0; objects_of(table) < objects; front++) {
+        uint32_t hash = TYPE, rest = front;
+        for (int i = 0; i < 4; i++, rest /= VALUES) {
+            label[i] = (char)(33 + rest % VALUES);
+            hash = (hash * 9 + (uint8_t)label[i]) % 1024;
+        }
+        if (hash == CROWDED && label[0] != ':')
+            add_object(table, TYPE, label, sizeof label - 1);
+    }
+}
+
 void put_image(struct form *image, const struct form *table, uint32_t position, const uint8_t *(*element)(uint8_t type))
 {
     size_t at = IMAGE_ELEMENTS, entry = TABLE_ENTRIES;

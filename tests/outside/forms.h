@@ -37,6 +37,11 @@ const uint32_t *pool_fields(uint8_t type, const uint8_t *element);
 void random_table(struct form *table, uint32_t objects);
 void empty_table(struct form *table);
 void add_object(struct form *table, uint8_t type, const char *label, size_t len);
+
+/* Objects of one type, of 32 bytes and of one hash: h is the type, and then (9 h + b) mod 1,024 for each byte b of the
+   label. They differ in the first four bytes only, and most of them in the first three. */
+void colliding_table(struct form *table, uint32_t objects);
+
 void first_image(struct form *image, const struct form *table);
 void next_image(struct form *image, const struct form *table, const struct form *before, const struct form *earlier);
 void put_image(struct form *image, const struct form *table, uint32_t position,
