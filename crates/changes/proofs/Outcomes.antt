@@ -1,12 +1,12 @@
 -- What the calls under a plan come to, test by test, where the forms are accepted.
 -- Assumes nothing.
-use Prim.Native.Nat.{ℕ, _+_, _≤_, _<_}
+use Prim.Native.Nat.{ℕ, _+_, _-_, _≤_, _<_}
 use native.Mathlib.Omega.{arith}
 use mathlib.Core.Path.{_≡_, sym, ap, _∙_}
 use mathlib.Core.Bool.{true, false}
 use mathlib.Core.List.{List, zipWith}
 use lib.Dec.{eqb, leb}
-use lib.ListN.{length, take, drop}
+use lib.ListN.{length, take, drop, length-drop}
 use borrow.Author.Tests.{eq-eqb, ne-eqb, le-leb, lt-leb}
 use Rattle.octets.specs.Octets.{number}
 use Rattle.history.specs.declared.Answer.{Answer}
@@ -22,12 +22,12 @@ use Rattle.history.proofs.OperationLaws.{takes, joins}
 use Rattle.tables.proofs.AnswerLaws.{told-done, told-then}
 use Rattle.steps.specs.declared.Walk.{Walk}
 use Rattle.tables.specs.Outlines.{kindsOf, planAs}
-use Rattle.walks.specs.Walks.{misfit, renewal}
-use Rattle.walks.proofs.Bridges.{difference-walk, join-walk, turn-walk, join-misfit, apply-misfit, foundAt, renewal-is}
+use Rattle.walks.specs.Walks.{Measured, Surveyed, misfit, renewal}
+use Rattle.walks.proofs.Bridges.{difference-walk, join-walk, turn-walk, turn-measured, join-misfit, apply-misfit, foundAt, renewal-is}
 use Rattle.forms.proofs.KindLaws.{length-kinds}
 use Rattle.walks.proofs.Turns.{length-renewal}
 use Rattle.outputs.specs.Outputs.{walkList, imageAfter}
-use Rattle.changes.proofs.Parts.{position-at, words-at, image-again, from-at, to-at, entries-at}
+use Rattle.changes.proofs.Parts.{position-at, words-at, image-again, from-at, to-at, count-at, entries-at}
 
 -- a value that was put to use, where nothing was refused
 used-told : {A B : Type 0} (v : Verdict A) (f : A → B) → Coded v → {r : Answer} → r ≡ told (then v (λ a. done (f a))) → r .code ≡ 0 → (a : A) × (v ≡ done a)
@@ -54,7 +54,17 @@ module _ (x y : ℕ) (ns : List ℕ) (few : length ns ≤ 1024) where
   unfolding turnUnder walkList turned
   turn-is l s ef et e = rw (ef, et, e, entries-at l, to-at l, from-at l, turn-walk 0 s bound (l .legal .each), l .reads)
 
+  -- its size is the list's
+  pub turn-size : {L : List ℕ} → AcceptedList (planAs x y ns) L → {f : List ℕ} (s : List ℕ) {count size : ℕ} → f ≡ drop 17 L → count ≡ number (take 2 (drop 15 L)) → size ≡ length L - 17
+      → Measured Walk.Turn (kindsOf ns) f s count size
+  turn-size {L} l s e ec es =
+      let m = turn-measured s (omega (arith, length-kinds ns)) (l .legal .each) in
+      rw (e, ec, es, ← length-drop 17 L, count-at l (m .few), entries-at l) m
+
   -- ---- joining
+
+  pub join-size : {f s : List ℕ} {n count size : ℕ} → Surveyed Walk.Join ns f s n count size → length ns ≤ n → Measured Walk.Join (kindsOf ns) f s count size
+  join-size y h = y .measured h
 
   module _ {L M : List ℕ} (l : AcceptedList (planAs x y ns) L) (m : AcceptedList (planAs x y ns) M) where
     join-reads : joinUnder (planAs x y ns) L M ≡ then (join (l .list) (m .list)) (λ k. done (listBytes (planAs x y ns) k))
@@ -79,18 +89,13 @@ module _ (x y : ℕ) (ns : List ℕ) (few : length ns ≤ 1024) where
         pub join-misfits : n < length ns → joinUnder (planAs x y ns) L M ≡ refusalAt 20 n
         join-misfits k = join-found ∙ rw (lt-leb (length ns) n k)
 
-        pub join-meets : length ns ≤ n → {r : Answer} → r ≡ unnamed 0 0 → r ≡ told (joinUnder (planAs x y ns) L M)
-        join-meets k e = told-done _ {a = listBytes (planAs x y ns) (jointOf (l .list) (m .list))} (join-found ∙ rw (le-leb (length ns) n k)) e
-
-    -- what is written where nothing is refused
-    pub join-is : {r : Answer} → r ≡ told (joinUnder (planAs x y ns) L M) → r .code ≡ 0 → {from to : ℕ} {f s : List ℕ}
-        → from ≡ number (take 4 (drop 7 L)) → to ≡ number (take 4 (drop 11 M)) → f ≡ drop 17 L → s ≡ drop 17 M
-        → done (walkList Walk.Join x y ns from to f s) ≡ joinUnder (planAs x y ns) L M
-    unfolding walkList
-    join-is e z ef et e₁ e₂ =
-        let d = used-told (join (l .list) (m .list)) _ (join-coded (l .list) (m .list)) (e ∙ ap told join-reads) z in
-        rw (ef, et, e₁, e₂, from-at l, to-at m, entries-at l, entries-at m, join-walk 0 bound (l .legal .each) (m .legal .each))
-        (sym (join-reads ∙ rw (d .1) (ap (λ (k : Changes). done (listBytes (planAs x y ns) k)) (joins (l .legal) (m .legal) (d .1) .result))))
+        -- what is written where nothing is refused
+        pub join-is : length ns ≤ n → {start end : ℕ} → start ≡ number (take 4 (drop 7 L)) → end ≡ number (take 4 (drop 11 M))
+            → done (walkList Walk.Join x y ns start end f s) ≡ joinUnder (planAs x y ns) L M
+        unfolding walkList
+        join-is k es ee =
+            rw (es, ee, e₁, e₂, from-at l, to-at m, entries-at l, entries-at m, join-walk 0 bound (l .legal .each) (m .legal .each))
+            (sym (join-found ∙ rw (le-leb (length ns) n k)))
 
   -- ---- application
 

@@ -4,7 +4,7 @@ use Prim.Native.Nat.{ℕ, _+_, _≤_}
 use native.Mathlib.Omega.{arith}
 use mathlib.Core.Path.{_≡_, refl, ap, _∙_}
 use mathlib.Core.List.{List, [], _∷_, _++_, append-assoc}
-use lib.ListN.{length, take, drop, length-append}
+use lib.ListN.{length, take, drop, length-append, length-drop}
 use Rattle.octets.specs.Octets.{bytes, number}
 use Rattle.history.specs.Form.{formBytes}
 use Rattle.history.specs.Table.{Plan}
@@ -13,6 +13,7 @@ use Rattle.history.specs.Changes.{Changes, entries, entriesBytes, listBytes}
 use Rattle.octets.proofs.NumberLaws.{length-bytes, read-bytes}
 use Rattle.history.proofs.ImageLaws.{length-words, image-words, image-position, image-long}
 use Rattle.history.proofs.CallLaws.{AcceptedImage, AcceptedList}
+use Rattle.tables.specs.Outlines.{kindsOf, planAs}
 
 -- ---- an image: its position from byte 7 on, its elements from byte 11 on
 
@@ -33,6 +34,9 @@ module _ {p : Plan} {A : List ℕ} (a : AcceptedImage p A) where
   -- the position is inside
   pub image-head : 11 ≤ length A
   image-head = omega (arith, image-length)
+
+pub elements-length : {x y : ℕ} (ns : List ℕ) {A s : List ℕ} → AcceptedImage (planAs x y ns) A → s ≡ drop 11 A → length s ≡ widths (kindsOf ns)
+elements-length ns {A} a e = ap length e ∙ length-drop 11 A ∙ omega (arith, image-length a)
 
 image-front : (p : Plan) (a : Image) → take 7 (imageBytes p a) ≡ bytes 4 (7 + length (wordsBytes (p .kinds) (a .words))) ++ (a .version ∷ p .x ∷ p .y ∷ [])
 unfolding imageBytes formBytes
@@ -62,6 +66,10 @@ list-later : (p : Plan) (l : Changes) → drop 11 (listBytes p l) ≡ bytes 4 (l
 unfolding listBytes formBytes bytes
 list-later p l = refl
 
+list-count : (p : Plan) (l : Changes) → drop 15 (listBytes p l) ≡ bytes 2 (entries (l .each)) ++ entriesBytes 0 (p .kinds) (l .each)
+unfolding listBytes formBytes bytes
+list-count p l = refl
+
 list-entries : (p : Plan) (l : Changes) → drop 17 (listBytes p l) ≡ entriesBytes 0 (p .kinds) (l .each)
 unfolding listBytes formBytes bytes
 list-entries p l = refl
@@ -83,6 +91,11 @@ module _ {p : Plan} {L : List ℕ} (l : AcceptedList p L) where
 
   pub entries-at : drop 17 L ≡ entriesBytes 0 (p .kinds) (l .list .each)
   entries-at = ap (drop 17) (l .same) ∙ list-entries p (l .list)
+
+  pub count-at : entries (l .list .each) ≤ 1024 → number (take 2 (drop 15 L)) ≡ entries (l .list .each)
+  count-at h =
+      ap (λ (b : List ℕ). number (take 2 (drop 15 b))) (l .same) ∙ ap (λ (b : List ℕ). number (take 2 b)) (list-count p (l .list))
+      ∙ read-bytes 2 (entries (l .list .each)) _ (omega arith)
 
   -- the positions and the count are inside
   pub list-head : 17 ≤ length L

@@ -4,6 +4,7 @@ use steps::Walk;
 use tables::accepted;
 use tables::refused;
 use tables::refused_at;
+use walks::Size;
 ghost use mathlib.Core.Path.{_≡_};
 ghost use Prim.Native.Nat.{_≤_};
 ghost use lib.ListN.{length, drop};
@@ -47,17 +48,10 @@ fn write_difference(x: u8, y: u8, kinds: &[u8], a: &[u8], b: &[u8], out: &mut [u
 {
     let from = octets::get_at(a, 7, 4);
     let to = octets::get_at(b, 7, 4);
-    outputs::write_list(
-        Walk::Difference,
-        x,
-        y,
-        kinds,
-        from,
-        to,
-        elements_of(a),
-        elements_of(b),
-        out,
-    )
+    let old = elements_of(a);
+    let new = elements_of(b);
+    let size = walks::measure(Walk::Difference, kinds, old, new);
+    outputs::write_list(Walk::Difference, x, y, kinds, from, to, old, new, size, out)
 }
 
 // The image after the list: 16, 17, 18.
@@ -84,26 +78,24 @@ fn write_joined(x: u8, y: u8, kinds: &[u8], first: &[u8], second: &[u8], out: &m
     ensures { λ r. ⌜ r ≡ settled (joinUnder (planAs x y (now (kinds .entry))) (now (first .entry)) (now (second .entry))) (now (out .entry)) .answer ⌝ }
     ensures { λ _. ⌜ now (out .exit) ≡ settled (joinUnder (planAs x y (now (kinds .entry))) (now (first .entry)) (now (second .entry))) (now (out .entry)) .output ⌝ }
 {
-    let answer = check_joins(x, y, kinds, first, second);
-    if answer.code != 0 {
-        return answer;
+    let end = octets::get_at(first, 11, 4);
+    let start = octets::get_at(second, 7, 4);
+    if end != start {
+        return refused(19);
+    }
+    let one = entries_of(first);
+    let other = entries_of(second);
+    let size = walks::measure(Walk::Join, kinds, one, other);
+    let object = size.misfit;
+    if object < kinds.len() {
+        return refused_at(20, object as u16);
     }
     let from = octets::get_at(first, 7, 4);
     let to = octets::get_at(second, 11, 4);
-    outputs::write_list(
-        Walk::Join,
-        x,
-        y,
-        kinds,
-        from,
-        to,
-        entries_of(first),
-        entries_of(second),
-        out,
-    )
+    outputs::write_list(Walk::Join, x, y, kinds, from, to, one, other, size, out)
 }
 
-// The list turned back. The walk looks at one list only.
+// The list turned back. The walk looks at one list only, and what it writes is as long.
 fn write_turned(x: u8, y: u8, kinds: &[u8], list: &[u8], out: &mut [u8]) -> Answer
     requires { ⌜ length (now kinds) ≤ 1024 ⌝ }
     requires { ⌜ AcceptedList (planAs x y (now kinds)) (now list) ⌝ }
@@ -112,6 +104,11 @@ fn write_turned(x: u8, y: u8, kinds: &[u8], list: &[u8], out: &mut [u8]) -> Answ
 {
     let from = octets::get_at(list, 11, 4);
     let to = octets::get_at(list, 7, 4);
+    let size = Size {
+        misfit: kinds.len(),
+        count: octets::get_at(list, 15, 2) as usize,
+        bytes: list.len() - 17,
+    };
     outputs::write_list(
         Walk::Turn,
         x,
@@ -121,6 +118,7 @@ fn write_turned(x: u8, y: u8, kinds: &[u8], list: &[u8], out: &mut [u8]) -> Answ
         to,
         entries_of(list),
         &list[0..0],
+        size,
         out,
     )
 }
@@ -140,28 +138,9 @@ fn check_applies(x: u8, y: u8, kinds: &[u8], image: &[u8], list: &[u8]) -> Answe
     if position < from {
         return refused(17);
     }
-    let object = walks::find_misfit(Walk::Apply, kinds, entries_of(list), elements_of(image));
+    let object = walks::find_misfit(kinds, entries_of(list), elements_of(image));
     if object < kinds.len() {
         return refused_at(18, object as u16);
-    }
-    accepted()
-}
-
-// Whether the second list goes on where the first ends: 19, 20.
-fn check_joins(x: u8, y: u8, kinds: &[u8], first: &[u8], second: &[u8]) -> Answer
-    requires { ⌜ length (now kinds) ≤ 1024 ⌝ }
-    requires { ⌜ AcceptedList (planAs x y (now kinds)) (now first) ⌝ }
-    requires { ⌜ AcceptedList (planAs x y (now kinds)) (now second) ⌝ }
-    ensures { λ r. ⌜ r ≡ told (joinUnder (planAs x y (now (kinds .entry))) (now (first .entry)) (now (second .entry))) ⌝ }
-{
-    let to = octets::get_at(first, 11, 4);
-    let from = octets::get_at(second, 7, 4);
-    if to != from {
-        return refused(19);
-    }
-    let object = walks::find_misfit(Walk::Join, kinds, entries_of(first), entries_of(second));
-    if object < kinds.len() {
-        return refused_at(20, object as u16);
     }
     accepted()
 }

@@ -4,16 +4,17 @@ use history::Answer;
 use steps::Walk;
 use tables::short;
 use tables::written;
+use walks::Size;
 ghost use mathlib.Core.Path.{_≡_};
 ghost use Prim.Native.Nat.{_+_, _≤_};
 ghost use lib.ListN.{length};
 ghost use Rattle.history.specs.Verdict.{done, settled};
 ghost use Rattle.history.specs.Image.{widths};
 ghost use Rattle.tables.specs.Outlines.{kindsOf};
-ghost use Rattle.walks.specs.Walks.{renewal};
+ghost use Rattle.walks.specs.Walks.{Measured, renewal};
 ghost use Rattle.outputs.specs.Outputs.{opening, listHead, walkList, imageAfter};
 
-// The list of a walk's changes.
+// The list of a walk's changes, of which the size is known.
 pub fn write_list(
     walk: Walk,
     x: u8,
@@ -23,13 +24,14 @@ pub fn write_list(
     to: u32,
     first: &[u8],
     second: &[u8],
+    size: Size,
     out: &mut [u8],
 ) -> Answer
     requires { ⌜ length (now kinds) ≤ 1024 ⌝ }
+    requires { ⌜ Measured walk (kindsOf (now kinds)) (now first) (now second) (size .count) (size .bytes) ⌝ }
     ensures { λ r. ⌜ r ≡ settled (done (walkList walk x y (now (kinds .entry)) from to (now (first .entry)) (now (second .entry)))) (now (out .entry)) .answer ⌝ }
     ensures { λ _. ⌜ now (out .exit) ≡ settled (done (walkList walk x y (now (kinds .entry)) from to (now (first .entry)) (now (second .entry)))) (now (out .entry)) .output ⌝ }
 {
-    let size = walks::measure(walk, kinds, first, second);
     let count = size.count as u32;
     let bytes = size.bytes;
     let need = 17 + bytes;

@@ -17,7 +17,7 @@ use Rattle.history.specs.declared.Change.the-variants.{Keep as keep, Swap as sw
 use Rattle.history.specs.Operations.{differ, fits, meets, joined, back}
 use Rattle.steps.specs.declared.Walk.{Walk}
 use Rattle.steps.specs.declared.Step.{Step}
-use Rattle.steps.specs.Steps.{span, entryBytes, changeAt, reach, stepOf, Stepped, renewed}
+use Rattle.steps.specs.Steps.{span, entryBytes, changeAt, reach, stepOf, Stepped, Silent, Idle, renewed}
 
 -- ---- an element at a cursor
 
@@ -166,3 +166,50 @@ module _ (part : List ℕ) (w : ℕ) {old new : ℕ} {c : Change} (l : length pa
       let w₂ = append-put w₁ old (2 + w) q (omega arith) (omega (arith, long)) in
       let w₃ = append-put w₂ new (2 + w + w) r (omega arith) (omega (arith, long)) in
       filled w₃ (omega (arith, long)) ∙ entry-done i w old new ∙ sym (ap (entryBytes i w) e)
+
+-- ---- objects of which nothing is said
+
+either : {A : Type 0} (t : Bool) (x : A) → cond t x x ≡ x
+either true x = refl
+either false x = refl
+
+module _ (l : List ℕ) (at i n : ℕ) (h : i ≤ n) where
+  -- no entry is left
+  pub silent-cut : length l - at < 2 → Silent i n n (drop at l)
+  unfolding changeAt
+  silent-cut c = record {
+    on = h;
+    within = omega arith;
+    says = λ k w _ _. rw (length-drop, lt-leb (2 + (w + w)) (length l - at) (omega arith));
+  }
+
+  module _ {m : ℕ} (e : m ≡ number (take 2 (drop at l))) where
+    other : (k w : ℕ) → (m ≡ k → ⊥) → changeAt k w (drop at l) ≡ keep
+    unfolding changeAt
+    other k w g = rw (← e, ne-eqb m k g) (either (leb (2 + (w + w)) (length (drop at l))) keep)
+
+    -- the next entry names an object that is passed, or one past the end, or one between
+    pub silent-past : m < i → Silent i n n (drop at l)
+    silent-past c = record { on = h; within = omega arith; says = λ k w a b. other k w (λ q. omega arith) }
+
+    pub silent-after : n < m → Silent i n n (drop at l)
+    silent-after c = record { on = h; within = omega arith; says = λ k w a b. other k w (λ q. omega arith) }
+
+    pub silent-between : i ≤ m → m ≤ n → Silent i m n (drop at l)
+    silent-between c d = record { on = c; within = d; says = λ k w a b. other k w (λ q. omega arith) }
+
+-- where nothing is said, there is nothing to do
+pub idle-none : (walk : Walk) (i n : ℕ) (f s : List ℕ) → i ≤ n → Idle walk i i n f s
+idle-none walk i n f s h = record { on = omega arith; within = h; is = λ k w a b. absurd (omega arith) }
+
+pub idle-join : {walk : Walk} {i m n j : ℕ} {f s : List ℕ} → walk ≡ Walk.Join → Silent i m n f → Silent i j m s → Idle walk i j n f s
+unfolding stepOf
+idle-join t a b = record {
+  on = b .on;
+  within = omega (arith, a .within, b .within);
+  is = λ k w g h. rw (t, a .says k w g (omega (arith, b .within)), b .says k w g h);
+}
+
+pub idle-turn : {walk : Walk} {i j n : ℕ} {f : List ℕ} (s : List ℕ) → walk ≡ Walk.Turn → Silent i j n f → Idle walk i j n f s
+unfolding stepOf
+idle-turn s t a = record { on = a .on; within = a .within; is = λ k w g h. rw (t, a .says k w g h) }

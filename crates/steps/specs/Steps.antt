@@ -1,6 +1,6 @@
 -- One object's step over two forms, on any bytes. A device between the code and the meaning, which is history's: the laws of the walks
 -- tie it to the meaning where the bytes are those of accepted forms.
-use Prim.Native.Nat.{ℕ, _+_, _≤_}
+use Prim.Native.Nat.{ℕ, _+_, _≤_, _<_}
 use mathlib.Core.Path.{_≡_}
 use mathlib.Core.Bool.{true, cond}
 use mathlib.Core.List.{List, [], _++_}
@@ -63,3 +63,18 @@ pub record Stepped (walk : Walk) (i w : ℕ) (f : List ℕ) (p : ℕ) (s : List 
   pub is : r ≡ stepOf walk i w (drop p f) (drop q s)
   pub near : p + r .first ≤ length f
   pub far : q + r .second ≤ length s
+
+-- the entries b say nothing of the objects from i on and below j, which is at most n
+pub record Silent (i j n : ℕ) (b : List ℕ) : Type 0 where
+  pub on : i ≤ j
+  pub within : j ≤ n
+  pub says : (k w : ℕ) → i ≤ k → k < j → changeAt k w b ≡ keep
+
+-- there is nothing to do at these objects, where f and s are left of the two forms
+abbrev pub idle : Step
+idle = record { change = keep; agrees = true; first = 0; second = 0 }
+
+pub record Idle (walk : Walk) (i j n : ℕ) (f s : List ℕ) : Type 0 where
+  pub on : i ≤ j
+  pub within : j ≤ n
+  pub is : (k w : ℕ) → i ≤ k → k < j → stepOf walk k w f s ≡ idle

@@ -12,7 +12,7 @@ ghost use Rattle.history.specs.Table.{kindAt};
 ghost use Rattle.history.specs.Changes.{entries};
 ghost use Rattle.history.specs.Operations.{differ, fits, meets, joined, back};
 ghost use Rattle.tables.specs.Outlines.{kindsOf};
-ghost use Rattle.steps.specs.Steps.{span, entryBytes, changeAt, reach, Stepped, renewed};
+ghost use Rattle.steps.specs.Steps.{span, entryBytes, changeAt, reach, Stepped, Silent, Idle, renewed};
 
 // What is walked for.
 pub enum Walk {
@@ -87,6 +87,49 @@ pub fn step_at(
             }
         }
     }
+}
+
+// The next object from the given one on at which there may be something to do, or the end: lists jump to the next object that they
+// name.
+pub fn next(
+    walk: Walk,
+    object: usize,
+    end: usize,
+    first: &[u8],
+    near: usize,
+    second: &[u8],
+    far: usize,
+) -> usize
+    requires { ⌜ (near ≤ length (now first)) × (far ≤ length (now second)) × (object ≤ end) ⌝ }
+    ensures { λ r. ⌜ Idle walk object r end (drop near (now (first .entry))) (drop far (now (second .entry))) ⌝ }
+{
+    match walk {
+        Walk::Difference => object,
+        Walk::Join => {
+            let one = named(first, near, object, end);
+            named(second, far, object, one)
+        }
+        Walk::Turn => named(first, near, object, end),
+        Walk::Apply => object,
+    }
+}
+
+// The object that the entries from a place on name, or the end where they name none between.
+pub fn named(entries: &[u8], at: usize, object: usize, end: usize) -> usize
+    requires { ⌜ (at ≤ length (now entries)) × (object ≤ end) ⌝ }
+    ensures { λ r. ⌜ Silent object r end (drop at (now (entries .entry))) ⌝ }
+{
+    if entries.len() - at < 2 {
+        return end;
+    }
+    let name = octets::get_at(entries, at, 2) as usize;
+    if name < object {
+        return end;
+    }
+    if end < name {
+        return end;
+    }
+    name
 }
 
 // What the entries from a place on say of the object.
@@ -220,7 +263,7 @@ fn back(change: Change) -> Change
 }
 
 // The named element is the old one.
-fn fits(change: Change, element: u32) -> bool
+pub fn fits(change: Change, element: u32) -> bool
     ensures { λ r. ⌜ r ≡ fits change element ⌝ }
 {
     let Change::Swap(old, _) = change else {

@@ -1,10 +1,10 @@
 -- The walk finds the meaning: over the bytes of admitted words and lawful changes, each walk gives what its operation gives.
 -- Assumes nothing.
-use Prim.Native.Nat.{ℕ, suc, _+_, _^_, _≤_, _<_}
+use Prim.Native.Nat.{ℕ, suc, _+_, _*_, _^_, _≤_, _<_}
 use native.Mathlib.Omega.{arith}
-use mathlib.Core.Path.{_≡_, refl, sym, _∙_}
+use mathlib.Core.Path.{_≡_, refl, sym, ap, _∙_}
 use mathlib.Core.Bool.{Bool, true, false, cond}
-use mathlib.Core.List.{List, _∷_, _++_, map, append-assoc, zipWith}
+use mathlib.Core.List.{List, [], _∷_, _++_, map, append-assoc, zipWith}
 use lib.Dec.{leb}
 use lib.ListN.{length, drop, length-append}
 use lib.Seq.{drop-drop, drop-at}
@@ -14,17 +14,17 @@ use Rattle.kinds.specs.Kinds.{widthOf}
 use Rattle.kinds.specs.declared.Kind.{Kind}
 use Rattle.history.specs.declared.Change.{Change}
 use Rattle.history.specs.declared.Change.the-variants.{Keep as keep, Swap as swap}
-use Rattle.history.specs.Changes.{entriesBytes}
+use Rattle.history.specs.Changes.{entriesBytes, entries}
 use Rattle.history.specs.Image.{wordsBytes}
 use Rattle.history.specs.Verdict.{Verdict, done, refusalAt, _unless_⨾_}
 use Rattle.history.specs.Operations.{differ, fits, meets, joined, back, after, lowest}
 use Rattle.history.specs.Legal.{Every, nil, and, admits, lawful}
 use Rattle.octets.proofs.NumberLaws.{length-bytes, take-bytes, drop-bytes, read-bytes}
 use Rattle.history.proofs.ChangeLaws.{lawful-swap}
-use Rattle.history.proofs.ElementLaws.{admits-fits}
+use Rattle.history.proofs.ElementLaws.{admits-fits, width-few}
 use Rattle.steps.specs.declared.Walk.{Walk}
 use Rattle.steps.specs.Steps.{span, entryBytes, changeAt, reach, stepOf, renewed}
-use Rattle.walks.specs.Walks.{walked, misfit, renewal}
+use Rattle.walks.specs.Walks.{walked, Measured, misfit, renewal}
 
 -- ---- one object's entry
 
@@ -141,7 +141,45 @@ apply-walk i b s (and {a = k} {b = c} p ps) =
     let x = found i k c s p ps in
     rw (x .change, x .rest, apply-walk (suc i) _ (omega arith) ps)
 
+-- ---- a list turned back is as long
+
+entries-back : (cs : List Change) → entries (map back cs) ≡ entries cs
+entries-back [] = refl
+entries-back (keep ∷ cs) = entries-back cs
+entries-back (swap old new ∷ cs) = ap suc (entries-back cs)
+
+length-back : (i : ℕ) (ks : List Kind) (cs : List Change) → length (entriesBytes i ks (map back cs)) ≡ length (entriesBytes i ks cs)
+length-back i [] cs = refl
+length-back i (k ∷ ks) [] = refl
+length-back i (k ∷ ks) (keep ∷ cs) = length-back (suc i) ks cs
+length-back i (k ∷ ks) (swap old new ∷ cs) = simp (length-append, length-bytes, length-back (suc i) ks cs)
+
+entries-few : {ks : List Kind} {cs : List Change} → Every lawful ks cs → entries cs ≤ length ks
+entries-few nil = omega arith
+entries-few (and {b = keep} p ps) = omega (arith, entries-few ps)
+entries-few (and {b = swap old new} p ps) = omega (arith, entries-few ps)
+
+entries-short : {ks : List Kind} {cs : List Change} (i : ℕ) → Every lawful ks cs → length (entriesBytes i ks cs) ≤ 10 * length ks
+entries-short i nil = omega arith
+entries-short i (and {b = keep} p ps) = omega (arith, entries-short (suc i) ps)
+entries-short i (and {a = k} {b = swap old new} p ps) = simp (length-append, length-bytes) (omega (arith, width-few k, entries-short (suc i) ps))
+
+pub turn-measured : {ks : List Kind} {cs : List Change} (b : List ℕ) → length ks ≤ 1024 → Every lawful ks cs
+    → Measured Walk.Turn ks (entriesBytes 0 ks cs) b (entries cs) (length (entriesBytes 0 ks cs))
+turn-measured {ks} {cs} b h ps = record {
+  entries = rw (turn-walk 0 b (omega arith) ps) (sym (entries-back cs));
+  bytes = rw (turn-walk 0 b (omega arith) ps) (sym (length-back 0 ks cs));
+  few = omega (arith, entries-few ps);
+  short = omega (arith, entries-short 0 ps);
+}
+
 -- ---- the lowest object on which the forms do not agree
+
+-- a difference refuses nothing
+pub difference-misfit : (i : ℕ) (ks : List Kind) (f s : List ℕ) → misfit Walk.Difference i ks f s ≡ i + length ks
+unfolding misfit stepOf
+difference-misfit i [] f s = omega arith
+difference-misfit i (k ∷ ks) f s = difference-misfit (suc i) ks _ _ ∙ omega arith
 
 module _ {C : Type 0} (code : ℕ) (value : C) where
   -- m below n is refused; else the value

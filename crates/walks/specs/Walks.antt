@@ -9,6 +9,7 @@ use Rattle.kinds.specs.Kinds.{widthOf}
 use Rattle.kinds.specs.declared.Kind.{Kind}
 use Rattle.history.specs.declared.Change.{Change}
 use Rattle.history.specs.Changes.{entriesBytes, entries}
+use Rattle.tables.specs.Outlines.{kindsOf}
 use Rattle.steps.specs.declared.Walk.{Walk}
 use Rattle.steps.specs.Steps.{span, changeAt, stepOf, renewed}
 
@@ -36,6 +37,12 @@ misfit walk i (k ∷ ks) f s =
     cond (stepOf walk i (widthOf k) f s .agrees)
     (misfit walk (suc i) ks (drop (stepOf walk i (widthOf k) f s .first) f) (drop (stepOf walk i (widthOf k) f s .second) s))
     i
+
+-- that object, and the size where there is none
+pub record Surveyed (walk : Walk) (ns f s : List ℕ) (object count size : ℕ) : Type 0 where
+  pub found : object ≡ misfit walk 0 (kindsOf ns) f s
+  pub inside : object ≤ length ns
+  pub measured : length ns ≤ object → Measured walk (kindsOf ns) f s count size
 
 -- the elements b after the entries e
 unfoldable pub renewal : ℕ → List Kind → List ℕ → List ℕ → List ℕ

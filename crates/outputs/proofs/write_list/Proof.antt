@@ -6,7 +6,9 @@ use Rattle.outputs.proofs.write_list.Statement.{statement}
 use Rattle.outputs.proofs.write_list.Tie as tie
 
 returns : tie.Need-returns
-returns c = list-short _ _ _ _ _ _ _ _ (c .before .before .before .measure .ensures) _ (c .before .if1 .taken) (c .short .ensures)
+returns c =
+    let known = c .before .before .before .before .before .before .before in
+    list-short _ _ _ _ _ _ _ _ (known .pre .1) _ (c .before .if1 .taken) (c .short .ensures)
 
 returns-2 : tie.Need-returns-2
 returns-2 c = search (list-answer, list-output)
@@ -15,7 +17,6 @@ pub write-list-spec : {M : Type 1} → statement M
 write-list-spec =
     tie.close
     (tie.spec
-    (λ c κs. search needs)
     (λ c. search needs)
     (λ c. search needs)
     (λ c. search needs)

@@ -3,7 +3,8 @@
 use Prim.Native.Nat.{_-_}
 use lib.ListN.{length}
 use borrow.Author.Needs.{needs}
-use Rattle.walks.proofs.Turns.{Sizing, none-sized, one-sized, all-sized}
+use borrow.Author.Tests.{not-true, not-false}
+use Rattle.walks.proofs.Turns.{Sizing, none-sized, sized-until, one-sized, all-sized}
 use Rattle.walks.proofs.measure.Statement.{statement}
 use Rattle.walks.proofs.measure.Tie as tie
 
@@ -22,6 +23,7 @@ measure-spec =
     (λ c. search none-sized)
     (λ c κs. search needs)
     (λ c κs. search needs)
+    (λ c. search (sized-until, not-true))
     (λ c κs. search needs)
     (λ c. search needs)
     (λ c κs. search needs)
@@ -29,6 +31,7 @@ measure-spec =
     (λ c. search needs)
     (λ c. search needs)
     (λ c. search needs)
+    (λ c κs. search needs)
     (λ c. search needs)
-    (λ c. search one-sized)
+    (λ c. search (one-sized, not-false))
     (λ c. search all-sized))

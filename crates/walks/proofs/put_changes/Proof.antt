@@ -37,6 +37,7 @@ put-changes-spec =
     (λ c. search needs)
     add-far
     (λ c. search needs)
+    (λ c κs. search needs)
     (λ c. search needs)
     (λ c. search one-put)
     (λ c. search put-keeps)

@@ -2,7 +2,7 @@
 -- Assumes nothing.
 use borrow.Author.Needs.{needs}
 use Rattle.tables.proofs.AnswerLaws.{told-refused}
-use Rattle.changes.proofs.Parts.{image-head, list-head, from-inside}
+use Rattle.changes.proofs.Parts.{image-head, elements-length, list-head, from-inside}
 use Rattle.changes.proofs.Outcomes.{apply-late, apply-gap, apply-misfits, apply-fits}
 use Rattle.changes.proofs.accepted.check_applies.Statement.{statement}
 use Rattle.changes.proofs.accepted.check_applies.Tie as tie
@@ -31,7 +31,7 @@ check-applies-spec =
     returns-2
     (λ c κs. search list-head)
     (λ c κs. search image-head)
-    (λ c κs. search needs)
+    (λ c κs. (search needs, search elements-length))
     (λ c. search needs)
     (λ c κs. search needs)
     returns-3

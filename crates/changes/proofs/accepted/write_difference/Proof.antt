@@ -2,13 +2,23 @@
 -- Assumes nothing.
 use borrow.Author.Needs.{needs}
 use Rattle.history.proofs.OutputLaws.{leaves-as}
+use Rattle.walks.proofs.Turns.{difference-measured}
 use Rattle.changes.proofs.Parts.{image-head}
 use Rattle.changes.proofs.Outcomes.{difference-is}
 use Rattle.changes.proofs.accepted.write_difference.Statement.{statement}
 use Rattle.changes.proofs.accepted.write_difference.Tie as tie
 
 returns : tie.Need-returns
-returns c = leaves-as _ (search difference-is) (c .before .before .write-list .ensures)
+returns c =
+    let wrote = c .before .before in
+    let new = wrote .before .before .before in
+    let old = new .before in
+    let to = old .before in
+    let from = to .before in
+    let known = from .before .before .before .before .before in
+    leaves-as _
+    (difference-is _ _ _ (known .pre .0) (known .pre .1 .0) (known .pre .1 .1) (from .get-at .ensures .0) (to .get-at2 .ensures .0) (old .elements-of .ensures) (new .elements-of2 .ensures))
+    (wrote .write-list .ensures)
 
 pub write-difference-spec : {M : Type 1} → statement M
 write-difference-spec =
@@ -19,5 +29,6 @@ write-difference-spec =
     (λ c κs. search image-head)
     (λ c κs. search image-head)
     (λ c κs. search needs)
+    (λ c κs. (search needs, search difference-measured))
     (λ c. search needs)
     returns)

@@ -1,40 +1,51 @@
--- `changes::accepted::write_joined` meets its contract: what is refused is the answer, else the list is written.
+-- `changes::accepted::write_joined` meets its contract: the positions, then the lowest object that does not meet, else the list is written.
 -- Assumes nothing.
 use borrow.Author.Needs.{needs}
-use Rattle.history.proofs.OutputLaws.{leaves-as, told-leaves}
+use Rattle.history.proofs.OutputLaws.{leaves-as, refused-leaves}
 use Rattle.changes.proofs.Parts.{list-head, from-inside, to-inside}
-use Rattle.changes.proofs.Outcomes.{join-is}
+use Rattle.changes.proofs.Outcomes.{join-apart, join-misfits, join-size, join-is}
 use Rattle.changes.proofs.accepted.write_joined.Statement.{statement}
 use Rattle.changes.proofs.accepted.write_joined.Tie as tie
 
 returns : tie.Need-returns
-returns c = told-leaves _ _ (search) (c .if1 .taken)
+returns c = refused-leaves _ _ (search join-apart) (c .refused .ensures)
 
 returns-2 : tie.Need-returns-2
-returns-2 c =
+returns-2 c = refused-leaves _ _ (search join-misfits) (c .refused-at .ensures)
+
+returns-3 : tie.Need-returns-3
+returns-3 c =
     let wrote = c .before .before in
-    let second = wrote .before .before in
-    let first = second .before in
-    let to = first .before in
+    let to = wrote .before .before in
     let from = to .before in
-    let tested = from .before in
-    let checked = tested .before .before in
-    let known = checked .before .before .before in
-    let s = known .before .before in
+    let agreed = from .before in
+    let sized = agreed .before in
+    let second = sized .before in
+    let first = second .before in
+    let tested = first .before in
+    let start = tested .before in
+    let end = start .before in
+    let known = end .before .before .before .before .before in
     leaves-as _
-    (join-is _ _ _ (s .pre .0) (s .pre .1 .0) (s .pre .1 .1) (checked .check-joins .ensures) (tested .if1 .left) (from .get-at .ensures .0) (to .get-at2 .ensures .0) (first .entries-of .ensures) (second .entries-of2 .ensures))
+    (join-is _ _ _ (known .pre .0) (known .pre .1 .0) (known .pre .1 .1) (end .get-at .ensures .0) (start .get-at2 .ensures .0) (tested .if1 .left) (first .entries-of .ensures) (second .entries-of2 .ensures) (sized .measure .ensures .found) (agreed .if2 .left) (from .get-at3 .ensures .0) (to .get-at4 .ensures .0))
     (wrote .write-list .ensures)
 
 pub write-joined-spec : {M : Type 1} → statement M
 write-joined-spec =
     tie.close
     (tie.spec
+    (λ c κs. search (to-inside, needs))
+    (λ c κs. search (from-inside, needs))
     (λ c κs. search needs)
     returns
-    (λ c κs. search (from-inside, needs))
-    (λ c κs. search (to-inside, needs))
     (λ c κs. search list-head)
     (λ c κs. search list-head)
     (λ c κs. search needs)
     (λ c. search needs)
-    returns-2)
+    (λ c κs. search needs)
+    returns-2
+    (λ c κs. search (from-inside, needs))
+    (λ c κs. search (to-inside, needs))
+    (λ c κs. (search needs, search join-size))
+    (λ c. search needs)
+    returns-3)

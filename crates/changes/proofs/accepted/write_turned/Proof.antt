@@ -3,7 +3,7 @@
 use borrow.Author.Needs.{needs}
 use Rattle.changes.proofs.Parts.{list-head, from-inside, to-inside}
 use Rattle.history.proofs.OutputLaws.{leaves-as}
-use Rattle.changes.proofs.Outcomes.{turn-is}
+use Rattle.changes.proofs.Outcomes.{turn-size, turn-is}
 use Rattle.changes.proofs.accepted.write_turned.Statement.{statement}
 use Rattle.changes.proofs.accepted.write_turned.Tie as tie
 
@@ -16,10 +16,13 @@ write-turned-spec =
     (tie.spec
     (λ c κs. search (to-inside, needs))
     (λ c κs. search (from-inside, needs))
+    (λ c κs. search (list-head, needs))
+    (λ c. search needs)
+    (λ c. search list-head)
     (λ c κs. search list-head)
     (λ c. search needs)
     (λ c. search needs)
     (λ c. search needs)
-    (λ c κs. search needs)
+    (λ c κs. (search needs, search turn-size))
     (λ c. search needs)
     returns)

@@ -1,0 +1,18 @@
+-- `steps::named` meets its contract: no entry is left, or the next one names an object passed, one past the end, or one between.
+-- Assumes nothing.
+use borrow.Author.Needs.{needs}
+use Rattle.steps.proofs.Leaves.{silent-cut, silent-past, silent-after, silent-between}
+use Rattle.steps.proofs.named.Statement.{statement}
+use Rattle.steps.proofs.named.Tie as tie
+
+pub named-spec : {M : Type 1} → statement M
+named-spec =
+    tie.close
+    (tie.spec
+    (λ c. search needs)
+    (λ c. search silent-cut)
+    (λ c κs. search needs)
+    (λ c. search needs)
+    (λ c. search silent-past)
+    (λ c. search silent-after)
+    (λ c. search silent-between))
