@@ -1,4 +1,4 @@
--- The four calls as one: a refused table's answer is the whole answer, then that of each form as given; of accepted forms the walk decides.
+-- The four calls as one: a refused table's answer is the whole answer, then that of each form as given; of accepted forms the operation decides.
 -- Assumes nothing.
 use Prim.Native.Nat.{ℕ}
 use mathlib.Core.Path.{_≡_, refl, sym, ap, subst, _∙_}
@@ -14,77 +14,77 @@ use Rattle.history.specs.Changes.{readList}
 use Rattle.history.specs.Calls.{differenceUnder, differenceCall, applyUnder, applyCall, joinUnder, joinCall, turnUnder, turnCall}
 use Rattle.history.proofs.CallLaws.{AcceptedImage, AcceptedList}
 use Rattle.history.proofs.OutputLaws.{Leaves, first-leaves}
-use Rattle.steps.specs.declared.Walk.{Walk}
 use Rattle.tables.specs.declared.answers.Outline.{Outline}
 use Rattle.tables.specs.Outlines.{planAs, Outlined}
 use Rattle.forms.proofs.Accepted.{image-accepted, list-accepted}
 use Rattle.forms.proofs.UnderPlan.{table-leaves, under-plan}
-use Rattle.changes.specs.Walked.{walkUnder, walkCall, firstTold, secondTold, FirstAccepted, SecondAccepted}
+use Rattle.changes.specs.declared.Operation.{Operation}
+use Rattle.changes.specs.OneCall.{operationUnder, operationCall, firstTold, secondTold, FirstAccepted, SecondAccepted}
 
--- ---- each call is its walk's
+-- ---- each call is its operation's
 
 module _ (T A B : List ℕ) where
-  pub difference-call : walkCall Walk.Difference T A B ≡ differenceCall T A B
-  unfolding walkCall walkUnder differenceCall
+  pub difference-call : operationCall Operation.Difference T A B ≡ differenceCall T A B
+  unfolding operationCall operationUnder differenceCall
   difference-call = refl
 
-  pub apply-call : walkCall Walk.Apply T A B ≡ applyCall T A B
-  unfolding walkCall walkUnder applyCall
+  pub apply-call : operationCall Operation.Apply T A B ≡ applyCall T A B
+  unfolding operationCall operationUnder applyCall
   apply-call = refl
 
-  pub join-call : walkCall Walk.Join T A B ≡ joinCall T A B
-  unfolding walkCall walkUnder joinCall
+  pub join-call : operationCall Operation.Join T A B ≡ joinCall T A B
+  unfolding operationCall operationUnder joinCall
   join-call = refl
 
-  pub turn-call : walkCall Walk.Turn T A B ≡ turnCall T A
-  unfolding walkCall walkUnder turnCall
+  pub turn-call : operationCall Operation.Turn T A B ≡ turnCall T A
+  unfolding operationCall operationUnder turnCall
   turn-call = refl
 
--- ---- .. and what is said of a walk that is known
+-- ---- .. and what is said of an operation that is known
 
-module _ {walk w : Walk} (p : Plan) (b : List ℕ) (is : walk ≡ w) where
-  pub first-told : {r : Answer} → r ≡ firstTold w p b → r ≡ firstTold walk p b
-  first-told q = q ∙ sym (ap (λ (v : Walk). firstTold v p b) is)
+module _ {operation o : Operation} (p : Plan) (b : List ℕ) (is : operation ≡ o) where
+  pub first-told : {r : Answer} → r ≡ firstTold o p b → r ≡ firstTold operation p b
+  first-told q = q ∙ sym (ap (λ (v : Operation). firstTold v p b) is)
 
-  pub second-told : {r : Answer} → r ≡ secondTold w p b → r ≡ secondTold walk p b
-  second-told q = q ∙ sym (ap (λ (v : Walk). secondTold v p b) is)
+  pub second-told : {r : Answer} → r ≡ secondTold o p b → r ≡ secondTold operation p b
+  second-told q = q ∙ sym (ap (λ (v : Operation). secondTold v p b) is)
 
-  pub first-as : FirstAccepted walk p b → FirstAccepted w p b
-  first-as a = subst (λ (v : Walk). FirstAccepted v p b) is a
+  pub first-as : FirstAccepted operation p b → FirstAccepted o p b
+  first-as a = subst (λ (v : Operation). FirstAccepted v p b) is a
 
-  pub second-as : SecondAccepted walk p b → SecondAccepted w p b
-  second-as a = subst (λ (v : Walk). SecondAccepted v p b) is a
+  pub second-as : SecondAccepted operation p b → SecondAccepted o p b
+  second-as a = subst (λ (v : Operation). SecondAccepted v p b) is a
 
-  pub under-as : (a : List ℕ) → walkUnder w p a b ≡ walkUnder walk p a b
-  under-as a = sym (ap (λ (v : Walk). walkUnder v p a b) is)
+  pub under-as : (a : List ℕ) → operationUnder o p a b ≡ operationUnder operation p a b
+  under-as a = sym (ap (λ (v : Operation). operationUnder v p a b) is)
 
 -- ---- the table
 
-module _ {T : List ℕ} {o : Outline} (k : Outlined T o) (walk : Walk) (A B : List ℕ) where
-  pub table-stops : (out : List ℕ) → (o .answer .code ≡ 0 → ⊥) → Leaves (walkCall walk T A B) out (o .answer) out
-  unfolding walkCall
-  table-stops out n = table-leaves k n (λ p. walkUnder walk p A B) out
+module _ {T : List ℕ} {o : Outline} (k : Outlined T o) (operation : Operation) (A B : List ℕ) where
+  pub table-stops : (out : List ℕ) → (o .answer .code ≡ 0 → ⊥) → Leaves (operationCall operation T A B) out (o .answer) out
+  unfolding operationCall
+  table-stops out n = table-leaves k n (λ p. operationUnder operation p A B) out
 
-  pub table-goes : o .answer .code ≡ 0 → walkUnder walk (planAs (o .x) (o .y) (take (o .count) (o .kinds))) A B ≡ walkCall walk T A B
-  unfolding walkCall
-  table-goes z = sym (under-plan k z (λ p. walkUnder walk p A B))
+  pub table-goes : o .answer .code ≡ 0 → operationUnder operation (planAs (o .x) (o .y) (take (o .count) (o .kinds))) A B ≡ operationCall operation T A B
+  unfolding operationCall
+  table-goes z = sym (under-plan k z (λ p. operationUnder operation p A B))
 
 -- ---- the other forms
 
 module _ (p : Plan) (A B out : List ℕ) {r : Answer} where
-  pub first-stops : (walk : Walk) → r ≡ firstTold walk p A → (r .code ≡ 0 → ⊥) → Leaves (walkUnder walk p A B) out r out
-  unfolding walkUnder firstTold differenceUnder applyUnder joinUnder turnUnder
-  first-stops Walk.Difference e n = first-leaves (readImage p A) _ out e n
-  first-stops Walk.Apply e n = first-leaves (readImage p A) _ out e n
-  first-stops Walk.Join e n = first-leaves (readList p A) _ out e n
-  first-stops Walk.Turn e n = first-leaves (readList p A) _ out e n
+  pub first-stops : (operation : Operation) → r ≡ firstTold operation p A → (r .code ≡ 0 → ⊥) → Leaves (operationUnder operation p A B) out r out
+  unfolding operationUnder firstTold differenceUnder applyUnder joinUnder turnUnder
+  first-stops Operation.Difference e n = first-leaves (readImage p A) _ out e n
+  first-stops Operation.Apply e n = first-leaves (readImage p A) _ out e n
+  first-stops Operation.Join e n = first-leaves (readList p A) _ out e n
+  first-stops Operation.Turn e n = first-leaves (readList p A) _ out e n
 
-  pub second-stops : (walk : Walk) → FirstAccepted walk p A → r ≡ secondTold walk p B → (r .code ≡ 0 → ⊥) → Leaves (walkUnder walk p A B) out r out
-  unfolding walkUnder secondTold FirstAccepted differenceUnder applyUnder joinUnder turnUnder
-  second-stops Walk.Difference a e n = rw (a .reads) (first-leaves (readImage p B) _ out e n)
-  second-stops Walk.Apply a e n = rw (a .reads) (first-leaves (readList p B) _ out e n)
-  second-stops Walk.Join l e n = rw (l .reads) (first-leaves (readList p B) _ out e n)
-  second-stops Walk.Turn l e n = absurd (n (ap (λ (a : Answer). a .code) e))
+  pub second-stops : (operation : Operation) → FirstAccepted operation p A → r ≡ secondTold operation p B → (r .code ≡ 0 → ⊥) → Leaves (operationUnder operation p A B) out r out
+  unfolding operationUnder secondTold FirstAccepted differenceUnder applyUnder joinUnder turnUnder
+  second-stops Operation.Difference a e n = rw (a .reads) (first-leaves (readImage p B) _ out e n)
+  second-stops Operation.Apply a e n = rw (a .reads) (first-leaves (readList p B) _ out e n)
+  second-stops Operation.Join l e n = rw (l .reads) (first-leaves (readList p B) _ out e n)
+  second-stops Operation.Turn l e n = absurd (n (ap (λ (a : Answer). a .code) e))
 
 -- h is what is known of the bytes of a slice
 module _ (p : Plan) (b : List ℕ) (h : (i : ℕ) → Fits w8 (getD b i 0)) {r : Answer} (z : r .code ≡ 0) where
@@ -94,16 +94,16 @@ module _ (p : Plan) (b : List ℕ) (h : (i : ℕ) → Fits w8 (getD b i 0)) {r :
   list : r ≡ told (readList p b) → AcceptedList p b
   list e = list-accepted p b (λ i. h i .fits) (ap (λ (a : Answer). a .code) (sym e) ∙ z)
 
-  pub first-accepted : (walk : Walk) → r ≡ firstTold walk p b → FirstAccepted walk p b
+  pub first-accepted : (operation : Operation) → r ≡ firstTold operation p b → FirstAccepted operation p b
   unfolding firstTold FirstAccepted
-  first-accepted Walk.Difference e = image e
-  first-accepted Walk.Apply e = image e
-  first-accepted Walk.Join e = list e
-  first-accepted Walk.Turn e = list e
+  first-accepted Operation.Difference e = image e
+  first-accepted Operation.Apply e = image e
+  first-accepted Operation.Join e = list e
+  first-accepted Operation.Turn e = list e
 
-  pub second-accepted : (walk : Walk) → r ≡ secondTold walk p b → SecondAccepted walk p b
+  pub second-accepted : (operation : Operation) → r ≡ secondTold operation p b → SecondAccepted operation p b
   unfolding secondTold SecondAccepted
-  second-accepted Walk.Difference e = image e
-  second-accepted Walk.Apply e = list e
-  second-accepted Walk.Join e = list e
-  second-accepted Walk.Turn e = tt
+  second-accepted Operation.Difference e = image e
+  second-accepted Operation.Apply e = list e
+  second-accepted Operation.Join e = list e
+  second-accepted Operation.Turn e = tt

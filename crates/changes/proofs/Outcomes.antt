@@ -12,20 +12,21 @@ use Rattle.octets.specs.Octets.{number}
 use Rattle.history.specs.declared.Answer.{Answer}
 use Rattle.history.specs.Verdict.{Verdict, done, then, refusal, refusalAt, unnamed, told}
 use Rattle.history.specs.Image.{Image, widths, wordsBytes, imageBytes}
-use Rattle.history.specs.Changes.{Changes, listBytes}
+use Rattle.history.specs.Changes.{listBytes}
 use Rattle.history.specs.Calls.{differenceUnder, applyUnder, joinUnder, turnUnder}
 use Rattle.history.specs.Operations.{after, resultOf, jointOf, difference, applied, join, turned}
 use Rattle.history.proofs.CallLaws.{AcceptedImage, AcceptedList}
-use Rattle.history.proofs.CodeLaws.{Coded, applied-coded, join-coded, zero-told}
+use Rattle.history.proofs.CodeLaws.{Coded, applied-coded, zero-told}
 use Rattle.history.proofs.ImageLaws.{length-words}
-use Rattle.history.proofs.OperationLaws.{takes, joins}
+use Rattle.history.proofs.OperationLaws.{takes}
 use Rattle.tables.proofs.AnswerLaws.{told-done, told-then}
 use Rattle.steps.specs.declared.Walk.{Walk}
 use Rattle.tables.specs.Outlines.{kindsOf, planAs}
-use Rattle.walks.specs.Walks.{Measured, Surveyed, misfit, renewal}
+use Rattle.walks.specs.declared.Survey.{Survey}
+use Rattle.walks.specs.Walks.{Measured, Surveyed, misfit, unfit, renewal}
 use Rattle.walks.proofs.Bridges.{difference-walk, join-walk, turn-walk, turn-measured, join-misfit, apply-misfit, foundAt, renewal-is}
 use Rattle.forms.proofs.KindLaws.{length-kinds}
-use Rattle.walks.proofs.Turns.{length-renewal}
+use Rattle.walks.proofs.Application.{length-renewal}
 use Rattle.outputs.specs.Outputs.{walkList, imageAfter}
 use Rattle.changes.proofs.Parts.{position-at, words-at, image-again, from-at, to-at, count-at, entries-at}
 
@@ -63,7 +64,8 @@ module _ (x y : ℕ) (ns : List ℕ) (few : length ns ≤ 1024) where
 
   -- ---- joining
 
-  pub join-size : {f s : List ℕ} {n count size : ℕ} → Surveyed Walk.Join ns f s n count size → length ns ≤ n → Measured Walk.Join (kindsOf ns) f s count size
+  -- its size is measured where no object is a misfit
+  pub join-size : {f s : List ℕ} {r : Survey} → Surveyed Walk.Join ns f s r → length ns ≤ r .misfit → Measured Walk.Join (kindsOf ns) f s (r .size .count) (r .size .bytes)
   join-size y h = y .measured h
 
   module _ {L M : List ℕ} (l : AcceptedList (planAs x y ns) L) (m : AcceptedList (planAs x y ns) M) where
@@ -71,18 +73,18 @@ module _ (x y : ℕ) (ns : List ℕ) (few : length ns ≤ 1024) where
     unfolding joinUnder
     join-reads = rw (l .reads, m .reads)
 
-    module _ {to from : ℕ} (et : to ≡ number (take 4 (drop 11 L))) (ef : from ≡ number (take 4 (drop 7 M))) where
-      pub join-apart : (to ≡ from → ⊥) → joinUnder (planAs x y ns) L M ≡ refusal 19
+    module _ {end start : ℕ} (ee : end ≡ number (take 4 (drop 11 L))) (es : start ≡ number (take 4 (drop 7 M))) where
+      pub join-apart : (end ≡ start → ⊥) → joinUnder (planAs x y ns) L M ≡ refusal 19
       unfolding join
       join-apart h =
-          let t : eqb (l .list .to) (m .list .from) ≡ false = ne-eqb _ _ (λ e. h (et ∙ to-at l ∙ e ∙ sym (ef ∙ from-at m))) in
+          let t : eqb (l .list .to) (m .list .from) ≡ false = ne-eqb _ _ (λ e. h (ee ∙ to-at l ∙ e ∙ sym (es ∙ from-at m))) in
           join-reads ∙ rw t
 
-      module _ (h : to ≡ from) {f s : List ℕ} (e₁ : f ≡ drop 17 L) (e₂ : s ≡ drop 17 M) {n : ℕ} (en : n ≡ misfit Walk.Join 0 (kindsOf ns) f s) where
+      module _ (h : end ≡ start) {f s : List ℕ} (e₁ : f ≡ drop 17 L) (e₂ : s ≡ drop 17 M) {n : ℕ} (en : n ≡ misfit Walk.Join 0 (kindsOf ns) f s) where
         join-found : joinUnder (planAs x y ns) L M ≡ then (foundAt 20 (jointOf (l .list) (m .list)) (length ns) n) (λ k. done (listBytes (planAs x y ns) k))
         unfolding join
         join-found =
-            let t : eqb (l .list .to) (m .list .from) ≡ true = eq-eqb _ _ (sym (to-at l) ∙ sym et ∙ h ∙ ef ∙ from-at m) in
+            let t : eqb (l .list .to) (m .list .from) ≡ true = eq-eqb _ _ (sym (to-at l) ∙ sym ee ∙ h ∙ es ∙ from-at m) in
             join-reads
             ∙ rw (t, en, e₁, e₂, entries-at l, entries-at m, join-misfit 20 (jointOf (l .list) (m .list)) 0 (length ns) (omega (arith, length-kinds ns)) (omega arith) (l .legal .each) (m .legal .each))
 
@@ -90,11 +92,11 @@ module _ (x y : ℕ) (ns : List ℕ) (few : length ns ≤ 1024) where
         join-misfits k = join-found ∙ rw (lt-leb (length ns) n k)
 
         -- what is written where nothing is refused
-        pub join-is : length ns ≤ n → {start end : ℕ} → start ≡ number (take 4 (drop 7 L)) → end ≡ number (take 4 (drop 11 M))
-            → done (walkList Walk.Join x y ns start end f s) ≡ joinUnder (planAs x y ns) L M
+        pub join-is : length ns ≤ n → {from to : ℕ} → from ≡ number (take 4 (drop 7 L)) → to ≡ number (take 4 (drop 11 M))
+            → done (walkList Walk.Join x y ns from to f s) ≡ joinUnder (planAs x y ns) L M
         unfolding walkList
-        join-is k es ee =
-            rw (es, ee, e₁, e₂, from-at l, to-at m, entries-at l, entries-at m, join-walk 0 bound (l .legal .each) (m .legal .each))
+        join-is k ef et =
+            rw (ef, et, e₁, e₂, from-at l, to-at m, entries-at l, entries-at m, join-walk 0 bound (l .legal .each) (m .legal .each))
             (sym (join-found ∙ rw (le-leb (length ns) n k)))
 
   -- ---- application
@@ -125,7 +127,7 @@ module _ (x y : ℕ) (ns : List ℕ) (few : length ns ≤ 1024) where
           apply-reads
           ∙ rw (le-leb (a .image .position) (l .list .from) (omega (arith, position-at a, from-at l)), lt-leb (l .list .from) (a .image .position) (omega (arith, position-at a, from-at l)))
 
-      module _ (h : position ≤ from) (k : from ≤ position) {f s : List ℕ} (e₁ : f ≡ drop 17 L) (e₂ : s ≡ drop 11 A) {n : ℕ} (en : n ≡ misfit Walk.Apply 0 (kindsOf ns) f s) where
+      module _ (h : position ≤ from) (k : from ≤ position) {f s : List ℕ} (e₁ : f ≡ drop 17 L) (e₂ : s ≡ drop 11 A) {n : ℕ} (en : n ≡ unfit 0 (kindsOf ns) f s) where
         apply-found : applyUnder (planAs x y ns) A L ≡ then (foundAt 18 (resultOf (l .list) (a .image)) (length ns) n) (λ b. done (imageBytes (planAs x y ns) b))
         unfolding applied
         apply-found =

@@ -1,4 +1,5 @@
 // Where the forms are accepted: what is left to test are positions and values, in the paper's order, and the room last.
+use super::Operation;
 use history::Answer;
 use steps::Walk;
 use tables::accepted;
@@ -12,11 +13,11 @@ ghost use Rattle.history.specs.Verdict.{told, settled};
 ghost use Rattle.history.specs.Calls.{differenceUnder, applyUnder, joinUnder, turnUnder};
 ghost use Rattle.history.proofs.CallLaws.{AcceptedImage, AcceptedList};
 ghost use Rattle.tables.specs.Outlines.{planAs};
-ghost use Rattle.changes.specs.Walked.{walkUnder, FirstAccepted, SecondAccepted};
+ghost use Rattle.changes.specs.OneCall.{operationUnder, FirstAccepted, SecondAccepted};
 
-// By what is walked for.
+// By the operation.
 pub fn write(
-    walk: Walk,
+    operation: Operation,
     x: u8,
     y: u8,
     kinds: &[u8],
@@ -25,16 +26,16 @@ pub fn write(
     out: &mut [u8],
 ) -> Answer
     requires { ⌜ length (now kinds) ≤ 1024 ⌝ }
-    requires { ⌜ FirstAccepted walk (planAs x y (now kinds)) (now first) ⌝ }
-    requires { ⌜ SecondAccepted walk (planAs x y (now kinds)) (now second) ⌝ }
-    ensures { λ r. ⌜ r ≡ settled (walkUnder walk (planAs x y (now (kinds .entry))) (now (first .entry)) (now (second .entry))) (now (out .entry)) .answer ⌝ }
-    ensures { λ _. ⌜ now (out .exit) ≡ settled (walkUnder walk (planAs x y (now (kinds .entry))) (now (first .entry)) (now (second .entry))) (now (out .entry)) .output ⌝ }
+    requires { ⌜ FirstAccepted operation (planAs x y (now kinds)) (now first) ⌝ }
+    requires { ⌜ SecondAccepted operation (planAs x y (now kinds)) (now second) ⌝ }
+    ensures { λ r. ⌜ r ≡ settled (operationUnder operation (planAs x y (now (kinds .entry))) (now (first .entry)) (now (second .entry))) (now (out .entry)) .answer ⌝ }
+    ensures { λ _. ⌜ now (out .exit) ≡ settled (operationUnder operation (planAs x y (now (kinds .entry))) (now (first .entry)) (now (second .entry))) (now (out .entry)) .output ⌝ }
 {
-    match walk {
-        Walk::Difference => write_difference(x, y, kinds, first, second, out),
-        Walk::Apply => write_applied(x, y, kinds, first, second, out),
-        Walk::Join => write_joined(x, y, kinds, first, second, out),
-        Walk::Turn => write_turned(x, y, kinds, first, out),
+    match operation {
+        Operation::Difference => write_difference(x, y, kinds, first, second, out),
+        Operation::Apply => write_applied(x, y, kinds, first, second, out),
+        Operation::Join => write_joined(x, y, kinds, first, second, out),
+        Operation::Turn => write_turned(x, y, kinds, first, out),
     }
 }
 
@@ -50,8 +51,19 @@ fn write_difference(x: u8, y: u8, kinds: &[u8], a: &[u8], b: &[u8], out: &mut [u
     let to = octets::get_at(b, 7, 4);
     let old = elements_of(a);
     let new = elements_of(b);
-    let size = walks::measure(Walk::Difference, kinds, old, new);
-    outputs::write_list(Walk::Difference, x, y, kinds, from, to, old, new, size, out)
+    let known = walks::measure(Walk::Difference, kinds, old, new);
+    outputs::write_list(
+        Walk::Difference,
+        x,
+        y,
+        kinds,
+        from,
+        to,
+        old,
+        new,
+        known.size,
+        out,
+    )
 }
 
 // The image after the list: 16, 17, 18.
@@ -85,17 +97,28 @@ fn write_joined(x: u8, y: u8, kinds: &[u8], first: &[u8], second: &[u8], out: &m
     }
     let one = entries_of(first);
     let other = entries_of(second);
-    let size = walks::measure(Walk::Join, kinds, one, other);
-    let object = size.misfit;
+    let known = walks::measure(Walk::Join, kinds, one, other);
+    let object = known.misfit;
     if object < kinds.len() {
         return refused_at(20, object as u16);
     }
     let from = octets::get_at(first, 7, 4);
     let to = octets::get_at(second, 11, 4);
-    outputs::write_list(Walk::Join, x, y, kinds, from, to, one, other, size, out)
+    outputs::write_list(
+        Walk::Join,
+        x,
+        y,
+        kinds,
+        from,
+        to,
+        one,
+        other,
+        known.size,
+        out,
+    )
 }
 
-// The list turned back. The walk looks at one list only, and what it writes is as long.
+// The list turned back. The walk looks at one list only. What it writes is as long as the list, so nothing is measured.
 fn write_turned(x: u8, y: u8, kinds: &[u8], list: &[u8], out: &mut [u8]) -> Answer
     requires { ⌜ length (now kinds) ≤ 1024 ⌝ }
     requires { ⌜ AcceptedList (planAs x y (now kinds)) (now list) ⌝ }
@@ -105,7 +128,6 @@ fn write_turned(x: u8, y: u8, kinds: &[u8], list: &[u8], out: &mut [u8]) -> Answ
     let from = octets::get_at(list, 11, 4);
     let to = octets::get_at(list, 7, 4);
     let size = Size {
-        misfit: kinds.len(),
         count: octets::get_at(list, 15, 2) as usize,
         bytes: list.len() - 17,
     };
@@ -138,7 +160,7 @@ fn check_applies(x: u8, y: u8, kinds: &[u8], image: &[u8], list: &[u8]) -> Answe
     if position < from {
         return refused(17);
     }
-    let object = walks::find_misfit(kinds, entries_of(list), elements_of(image));
+    let object = walks::find_unfit(kinds, entries_of(list), elements_of(image));
     if object < kinds.len() {
         return refused_at(18, object as u16);
     }

@@ -5,7 +5,6 @@ mod accepted;
 use forms::check_image_under;
 use forms::check_list_under;
 use history::Answer;
-use steps::Walk;
 use tables::outline;
 ghost use mathlib.Core.Path.{_≡_};
 ghost use Prim.Native.Nat.{_≤_};
@@ -13,14 +12,14 @@ ghost use lib.ListN.{length};
 ghost use Rattle.history.specs.Verdict.{settled};
 ghost use Rattle.history.specs.Calls.{differenceCall, applyCall, joinCall, turnCall};
 ghost use Rattle.tables.specs.Outlines.{planAs};
-ghost use Rattle.changes.specs.Walked.{walkUnder, walkCall, firstTold, secondTold};
+ghost use Rattle.changes.specs.OneCall.{operationUnder, operationCall, firstTold, secondTold};
 
 // The list from image a to image b.
 pub fn difference(table: &[u8], a: &[u8], b: &[u8], out: &mut [u8]) -> Answer
     ensures { λ r. ⌜ r ≡ settled (differenceCall (now (table .entry)) (now (a .entry)) (now (b .entry))) (now (out .entry)) .answer ⌝ }
     ensures { λ _. ⌜ now (out .exit) ≡ settled (differenceCall (now (table .entry)) (now (a .entry)) (now (b .entry))) (now (out .entry)) .output ⌝ }
 {
-    call(Walk::Difference, table, a, b, out)
+    call(Operation::Difference, table, a, b, out)
 }
 
 // The image after the list: 16, 17, 18.
@@ -28,7 +27,7 @@ pub fn apply(table: &[u8], image: &[u8], list: &[u8], out: &mut [u8]) -> Answer
     ensures { λ r. ⌜ r ≡ settled (applyCall (now (table .entry)) (now (image .entry)) (now (list .entry))) (now (out .entry)) .answer ⌝ }
     ensures { λ _. ⌜ now (out .exit) ≡ settled (applyCall (now (table .entry)) (now (image .entry)) (now (list .entry))) (now (out .entry)) .output ⌝ }
 {
-    call(Walk::Apply, table, image, list, out)
+    call(Operation::Apply, table, image, list, out)
 }
 
 // The join of two lists: 19, 20.
@@ -36,7 +35,7 @@ pub fn join(table: &[u8], first: &[u8], second: &[u8], out: &mut [u8]) -> Answer
     ensures { λ r. ⌜ r ≡ settled (joinCall (now (table .entry)) (now (first .entry)) (now (second .entry))) (now (out .entry)) .answer ⌝ }
     ensures { λ _. ⌜ now (out .exit) ≡ settled (joinCall (now (table .entry)) (now (first .entry)) (now (second .entry))) (now (out .entry)) .output ⌝ }
 {
-    call(Walk::Join, table, first, second, out)
+    call(Operation::Join, table, first, second, out)
 }
 
 // The list turned back: there is no second form.
@@ -44,14 +43,21 @@ pub fn turn_back(table: &[u8], list: &[u8], out: &mut [u8]) -> Answer
     ensures { λ r. ⌜ r ≡ settled (turnCall (now (table .entry)) (now (list .entry))) (now (out .entry)) .answer ⌝ }
     ensures { λ _. ⌜ now (out .exit) ≡ settled (turnCall (now (table .entry)) (now (list .entry))) (now (out .entry)) .output ⌝ }
 {
-    call(Walk::Turn, table, list, list, out)
+    call(Operation::Turn, table, list, list, out)
 }
 
 // ---- the four as one: the table, the other forms, then what is written
 
-fn call(walk: Walk, table: &[u8], first: &[u8], second: &[u8], out: &mut [u8]) -> Answer
-    ensures { λ r. ⌜ r ≡ settled (walkCall walk (now (table .entry)) (now (first .entry)) (now (second .entry))) (now (out .entry)) .answer ⌝ }
-    ensures { λ _. ⌜ now (out .exit) ≡ settled (walkCall walk (now (table .entry)) (now (first .entry)) (now (second .entry))) (now (out .entry)) .output ⌝ }
+enum Operation {
+    Difference,
+    Apply,
+    Join,
+    Turn,
+}
+
+fn call(operation: Operation, table: &[u8], first: &[u8], second: &[u8], out: &mut [u8]) -> Answer
+    ensures { λ r. ⌜ r ≡ settled (operationCall operation (now (table .entry)) (now (first .entry)) (now (second .entry))) (now (out .entry)) .answer ⌝ }
+    ensures { λ _. ⌜ now (out .exit) ≡ settled (operationCall operation (now (table .entry)) (now (first .entry)) (now (second .entry))) (now (out .entry)) .output ⌝ }
 {
     let known = outline(table);
     let answer = known.answer;
@@ -62,12 +68,12 @@ fn call(walk: Walk, table: &[u8], first: &[u8], second: &[u8], out: &mut [u8]) -
     let y = known.y;
     let count = known.count;
     let kinds = known.kinds;
-    call_under(walk, x, y, &kinds[..count], first, second, out)
+    call_under(operation, x, y, &kinds[..count], first, second, out)
 }
 
 // Under what is known of the table.
 fn call_under(
-    walk: Walk,
+    operation: Operation,
     x: u8,
     y: u8,
     kinds: &[u8],
@@ -76,42 +82,42 @@ fn call_under(
     out: &mut [u8],
 ) -> Answer
     requires { ⌜ length (now kinds) ≤ 1024 ⌝ }
-    ensures { λ r. ⌜ r ≡ settled (walkUnder walk (planAs x y (now (kinds .entry))) (now (first .entry)) (now (second .entry))) (now (out .entry)) .answer ⌝ }
-    ensures { λ _. ⌜ now (out .exit) ≡ settled (walkUnder walk (planAs x y (now (kinds .entry))) (now (first .entry)) (now (second .entry))) (now (out .entry)) .output ⌝ }
+    ensures { λ r. ⌜ r ≡ settled (operationUnder operation (planAs x y (now (kinds .entry))) (now (first .entry)) (now (second .entry))) (now (out .entry)) .answer ⌝ }
+    ensures { λ _. ⌜ now (out .exit) ≡ settled (operationUnder operation (planAs x y (now (kinds .entry))) (now (first .entry)) (now (second .entry))) (now (out .entry)) .output ⌝ }
 {
-    let one = check_first(walk, x, y, kinds, first);
+    let one = check_first(operation, x, y, kinds, first);
     if one.code != 0 {
         return one;
     }
-    let other = check_second(walk, x, y, kinds, second);
+    let other = check_second(operation, x, y, kinds, second);
     if other.code != 0 {
         return other;
     }
-    accepted::write(walk, x, y, kinds, first, second, out)
+    accepted::write(operation, x, y, kinds, first, second, out)
 }
 
 // The form that is given first.
-fn check_first(walk: Walk, x: u8, y: u8, kinds: &[u8], form: &[u8]) -> Answer
+fn check_first(operation: Operation, x: u8, y: u8, kinds: &[u8], form: &[u8]) -> Answer
     requires { ⌜ length (now kinds) ≤ 1024 ⌝ }
-    ensures { λ r. ⌜ r ≡ firstTold walk (planAs x y (now (kinds .entry))) (now (form .entry)) ⌝ }
+    ensures { λ r. ⌜ r ≡ firstTold operation (planAs x y (now (kinds .entry))) (now (form .entry)) ⌝ }
 {
-    match walk {
-        Walk::Difference => check_image_under(x, y, kinds, form),
-        Walk::Apply => check_image_under(x, y, kinds, form),
-        Walk::Join => check_list_under(x, y, kinds, form),
-        Walk::Turn => check_list_under(x, y, kinds, form),
+    match operation {
+        Operation::Difference => check_image_under(x, y, kinds, form),
+        Operation::Apply => check_image_under(x, y, kinds, form),
+        Operation::Join => check_list_under(x, y, kinds, form),
+        Operation::Turn => check_list_under(x, y, kinds, form),
     }
 }
 
 // The form after it: turning back has none.
-fn check_second(walk: Walk, x: u8, y: u8, kinds: &[u8], form: &[u8]) -> Answer
+fn check_second(operation: Operation, x: u8, y: u8, kinds: &[u8], form: &[u8]) -> Answer
     requires { ⌜ length (now kinds) ≤ 1024 ⌝ }
-    ensures { λ r. ⌜ r ≡ secondTold walk (planAs x y (now (kinds .entry))) (now (form .entry)) ⌝ }
+    ensures { λ r. ⌜ r ≡ secondTold operation (planAs x y (now (kinds .entry))) (now (form .entry)) ⌝ }
 {
-    match walk {
-        Walk::Difference => check_image_under(x, y, kinds, form),
-        Walk::Apply => check_list_under(x, y, kinds, form),
-        Walk::Join => check_list_under(x, y, kinds, form),
-        Walk::Turn => tables::accepted(),
+    match operation {
+        Operation::Difference => check_image_under(x, y, kinds, form),
+        Operation::Apply => check_list_under(x, y, kinds, form),
+        Operation::Join => check_list_under(x, y, kinds, form),
+        Operation::Turn => tables::accepted(),
     }
 }

@@ -290,12 +290,12 @@ entries-read ks s low e (and {a = k} {b = swap x y} {xs = r} {ys = cs} l ls) =
     rw k-is (entries-step ks (entries cs) low _ e cs (entry-accepted ks low x y (entriesBytes (suc low) r cs) s (h .0) (rw k-is at l) _ refl) (entries-read ks s (suc low) (h .2) ls))
     ∙ ap (λ (m : ℕ). done (replicate m keep ++ (swap x y ∷ cs))) none
 
-length-entries : {ks : List Kind} {cs : List Change} (i : ℕ) → Every lawful ks cs → length (entriesBytes i ks cs) ≤ 10 * length ks
+pub length-entries : {ks : List Kind} {cs : List Change} (i : ℕ) → Every lawful ks cs → length (entriesBytes i ks cs) ≤ 10 * length ks
 length-entries i nil = omega arith
 length-entries i (and {b = keep} l ls) = omega (arith, length-entries (suc i) ls)
 length-entries i (and {a = k} {b = swap x y} l ls) = simp (length-append, length-bytes) (omega (arith, width-few k, length-entries (suc i) ls))
 
-entries-few : {ks : List Kind} {cs : List Change} → Every lawful ks cs → entries cs ≤ length ks
+pub entries-few : {ks : List Kind} {cs : List Change} → Every lawful ks cs → entries cs ≤ length ks
 entries-few nil = omega arith
 entries-few (and {b = keep} l ls) = omega (arith, entries-few ls)
 entries-few (and {b = swap x y} l ls) = omega (arith, entries-few ls)

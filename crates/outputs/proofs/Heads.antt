@@ -23,7 +23,7 @@ use Rattle.steps.specs.declared.Walk.{Walk}
 use Rattle.tables.specs.Outlines.{kindsOf}
 use Rattle.walks.specs.Walks.{walked, walkBytes, Measured, renewal}
 use Rattle.forms.proofs.KindLaws.{length-kinds}
-use Rattle.walks.proofs.Turns.{length-renewal}
+use Rattle.walks.proofs.Application.{length-renewal}
 use Rattle.outputs.specs.Outputs.{opening, listHead, walkList, imageAfter}
 
 length-opening : (n x y : ℕ) → length (opening n x y) ≡ 7
@@ -79,8 +79,12 @@ module _ (walk : Walk) (x y : ℕ) (ns : List ℕ) (from to : ℕ) (f s : List �
   length-list = ap length list-is ∙ length-append (listHead (13 + size) x y from to count) _ ∙ ap₂ _+_ (length-head (13 + size) x y from to count) (sym (m .bytes))
 
   module _ (out : List ℕ) where
-    pub list-short : {r : Answer} → length out < 17 + size → r ≡ unnamed 21 (17 + size) → Leaves (done (walkList walk x y ns from to f s)) out r out
-    list-short room e = short-leaves _ out length-list room e
+    -- without room
+    pub short-answer : {r : Answer} → length out < 17 + size → r ≡ unnamed 21 (17 + size) → r ≡ settled (done (walkList walk x y ns from to f s)) out .answer
+    short-answer room e = short-leaves _ out length-list room e .0
+
+    pub short-output : length out < 17 + size → out ≡ settled (done (walkList walk x y ns from to f s)) out .output
+    short-output room = short-leaves _ out length-list room refl .1
 
     pub list-answer : {r : Answer} → 17 + size ≤ length out → r ≡ unnamed 0 (17 + size) → r ≡ settled (done (walkList walk x y ns from to f s)) out .answer
     list-answer room e = written-leaves _ out length-list room e refl .0

@@ -14,7 +14,7 @@ use Rattle.octets.specs.Octets.{bytes, number}
 use Rattle.octets.proofs.Writing.{start, append-put, filled}
 use Rattle.history.specs.declared.Change.{Change}
 use Rattle.history.specs.declared.Change.the-variants.{Keep as keep, Swap as swap}
-use Rattle.history.specs.Operations.{differ, fits, meets, joined, back}
+use Rattle.history.specs.Operations.{differ, meets, joined, back}
 use Rattle.steps.specs.declared.Walk.{Walk}
 use Rattle.steps.specs.declared.Step.{Step}
 use Rattle.steps.specs.Steps.{span, entryBytes, changeAt, reach, stepOf, Stepped, Silent, Idle, renewed}
@@ -40,20 +40,28 @@ reach-room w b = go (leb w (length b)) refl
 
 -- ---- an entry at a cursor
 
+either : {A : Type 0} (t : Bool) (x : A) → cond t x x ≡ x
+either true x = refl
+either false x = refl
+
+-- entries of which the first names another object say nothing of this one
+pub says-nothing : (b : List ℕ) (i w : ℕ) {n : ℕ} → n ≡ number (take 2 b) → (n ≡ i → ⊥) → changeAt i w b ≡ keep
+unfolding changeAt
+says-nothing b i w {n} e g = rw (← e, ne-eqb n i g) (either (leb (2 + (w + w)) (length b)) keep)
+
 module _ (l : List ℕ) (at i w : ℕ) where
   pub entry-cut : length l - at < 2 + (w + w) → keep ≡ changeAt i w (drop at l)
   unfolding changeAt
   entry-cut h = rw (length-drop, lt-leb (2 + (w + w)) (length l - at) h)
 
-  module _ (h : 2 + (w + w) ≤ length l - at) (n : ℕ) (e : n ≡ number (take 2 (drop at l))) where
+  module _ (n : ℕ) (e : n ≡ number (take 2 (drop at l))) where
     pub entry-other : (n ≡ i → ⊥) → keep ≡ changeAt i w (drop at l)
-    unfolding changeAt
-    entry-other g = rw (length-drop, le-leb (2 + (w + w)) (length l - at) h, ← e, ne-eqb n i g)
+    entry-other g = sym (says-nothing (drop at l) i w e g)
 
-    pub entry-named : n ≡ i → (old new : ℕ) → old ≡ number (take w (drop (at + 2) l)) → new ≡ number (take w (drop (at + 2 + w) l))
+    pub entry-named : 2 + (w + w) ≤ length l - at → n ≡ i → (old new : ℕ) → old ≡ number (take w (drop (at + 2) l)) → new ≡ number (take w (drop (at + 2 + w) l))
         → swap old new ≡ changeAt i w (drop at l)
     unfolding changeAt
-    entry-named g old new o m =
+    entry-named h g old new o m =
         let s : at + (2 + w) ≡ at + 2 + w = omega arith in
         rw (length-drop, le-leb (2 + (w + w)) (length l - at) h, ← e, eq-eqb n i g, drop-drop 2 at l, drop-drop (2 + w) at l, s, ← o, ← m)
 
@@ -83,14 +91,12 @@ unfolding stepOf
 near-room Walk.Difference i w f s = reach-room w f
 near-room Walk.Join i w f s = span-room i w f
 near-room Walk.Turn i w f s = span-room i w f
-near-room Walk.Apply i w f s = span-room i w f
 
 far-room : (walk : Walk) (i w : ℕ) (f s : List ℕ) → stepOf walk i w f s .second ≤ length s
 unfolding stepOf
 far-room Walk.Difference i w f s = reach-room w s
 far-room Walk.Join i w f s = span-room i w s
 far-room Walk.Turn i w f s = omega arith
-far-room Walk.Apply i w f s = reach-room w s
 
 -- a step as defined leaves neither form
 stepped : {walk : Walk} {i w : ℕ} {f : List ℕ} {p : ℕ} {s : List ℕ} {q : ℕ} {r : Step} → p ≤ length f → q ≤ length s
@@ -119,11 +125,6 @@ module _ {walk : Walk} {i w : ℕ} {f : List ℕ} {p : ℕ} {s : List ℕ} {q : 
         → Stepped walk i w f p s q (record { change = d; agrees = true; first = m; second = 0 })
     unfolding stepOf
     turn-step t ed em = stepped h k (rw (t, ed, em, ec))
-
-    pub apply-step : walk ≡ Walk.Apply → {t : Bool} {m n a : ℕ} → n ≡ reach w (drop q s) → a ≡ number (take n (drop q s)) → t ≡ fits c a → m ≡ span w c
-        → Stepped walk i w f p s q (record { change = c; agrees = t; first = m; second = n })
-    unfolding stepOf
-    apply-step t en ea et em = stepped h k (rw (t, et, em, ea, en, ec))
 
 -- ---- an element and an entry as they are written
 
@@ -169,34 +170,21 @@ module _ (part : List ℕ) (w : ℕ) {old new : ℕ} {c : Change} (l : length pa
 
 -- ---- objects of which nothing is said
 
-either : {A : Type 0} (t : Bool) (x : A) → cond t x x ≡ x
-either true x = refl
-either false x = refl
-
 module _ (l : List ℕ) (at i n : ℕ) (h : i ≤ n) where
   -- no entry is left
   pub silent-cut : length l - at < 2 → Silent i n n (drop at l)
-  unfolding changeAt
-  silent-cut c = record {
-    on = h;
-    within = omega arith;
-    says = λ k w _ _. rw (length-drop, lt-leb (2 + (w + w)) (length l - at) (omega arith));
-  }
+  silent-cut c = record { on = h; within = omega arith; says = λ k w _ _. sym (entry-cut l at k w (omega arith)) }
 
+  -- the next entry names an object that is passed, one past the end, or one between
   module _ {m : ℕ} (e : m ≡ number (take 2 (drop at l))) where
-    other : (k w : ℕ) → (m ≡ k → ⊥) → changeAt k w (drop at l) ≡ keep
-    unfolding changeAt
-    other k w g = rw (← e, ne-eqb m k g) (either (leb (2 + (w + w)) (length (drop at l))) keep)
-
-    -- the next entry names an object that is passed, or one past the end, or one between
     pub silent-past : m < i → Silent i n n (drop at l)
-    silent-past c = record { on = h; within = omega arith; says = λ k w a b. other k w (λ q. omega arith) }
+    silent-past c = record { on = h; within = omega arith; says = λ k w a b. says-nothing (drop at l) k w e (λ q. omega arith) }
 
     pub silent-after : n < m → Silent i n n (drop at l)
-    silent-after c = record { on = h; within = omega arith; says = λ k w a b. other k w (λ q. omega arith) }
+    silent-after c = record { on = h; within = omega arith; says = λ k w a b. says-nothing (drop at l) k w e (λ q. omega arith) }
 
     pub silent-between : i ≤ m → m ≤ n → Silent i m n (drop at l)
-    silent-between c d = record { on = c; within = d; says = λ k w a b. other k w (λ q. omega arith) }
+    silent-between c d = record { on = c; within = d; says = λ k w a b. says-nothing (drop at l) k w e (λ q. omega arith) }
 
 -- where nothing is said, there is nothing to do
 pub idle-none : (walk : Walk) (i n : ℕ) (f s : List ℕ) → i ≤ n → Idle walk i i n f s

@@ -9,7 +9,7 @@ use lib.ListN.{length, take, drop}
 use Rattle.octets.specs.Octets.{bytes, number}
 use Rattle.history.specs.declared.Change.{Change}
 use Rattle.history.specs.declared.Change.the-variants.{Keep as keep, Swap as swap}
-use Rattle.history.specs.Operations.{differ, fits, meets, joined, back}
+use Rattle.history.specs.Operations.{differ, meets, joined, back}
 use Rattle.steps.specs.declared.Walk.{Walk}
 use Rattle.steps.specs.declared.Step.{Step}
 
@@ -41,7 +41,7 @@ abbrev pub renewed : Change → List ℕ → List ℕ
 renewed keep b = b
 renewed (swap old new) b = bytes (length b) new
 
--- the step at object i, of width w, where f and s are left of the two forms; of application f are entries and s elements
+-- the step at object i, of width w, where f and s are left of the two forms
 unfoldable pub stepOf : Walk → ℕ → ℕ → List ℕ → List ℕ → Step
 stepOf Walk.Difference i w f s = record { change = differ (wordAt w f) (wordAt w s); agrees = true; first = reach w f; second = reach w s }
 stepOf Walk.Join i w f s = record {
@@ -51,12 +51,6 @@ stepOf Walk.Join i w f s = record {
   second = span w (changeAt i w s);
 }
 stepOf Walk.Turn i w f s = record { change = back (changeAt i w f); agrees = true; first = span w (changeAt i w f); second = 0 }
-stepOf Walk.Apply i w f s = record {
-  change = changeAt i w f;
-  agrees = fits (changeAt i w f) (wordAt w s);
-  first = span w (changeAt i w f);
-  second = reach w s;
-}
 
 -- a step of the code, where the cursors stand at p and q: neither leaves its form
 pub record Stepped (walk : Walk) (i w : ℕ) (f : List ℕ) (p : ℕ) (s : List ℕ) (q : ℕ) (r : Step) : Type 0 where
@@ -64,13 +58,13 @@ pub record Stepped (walk : Walk) (i w : ℕ) (f : List ℕ) (p : ℕ) (s : List 
   pub near : p + r .first ≤ length f
   pub far : q + r .second ≤ length s
 
--- the entries b say nothing of the objects from i on and below j, which is at most n
+-- the entries b say nothing of the objects from i on that are below j; j is at most n
 pub record Silent (i j n : ℕ) (b : List ℕ) : Type 0 where
   pub on : i ≤ j
   pub within : j ≤ n
   pub says : (k w : ℕ) → i ≤ k → k < j → changeAt k w b ≡ keep
 
--- there is nothing to do at these objects, where f and s are left of the two forms
+-- the step where there is nothing to do; and it is that at each of these objects, where f and s are left of the two forms
 abbrev pub idle : Step
 idle = record { change = keep; agrees = true; first = 0; second = 0 }
 

@@ -1,6 +1,6 @@
-// What is done at one object, for the four operations on change lists: its change is found in two forms, and written. A difference
-// compares the elements of two images; a join, the entries of two lists; turning back takes the entry of one list; application
-// takes an entry and an element. It takes any bytes, refuses nothing and knows no form's head.
+// What is done at one object, for the four operations on change lists: its change is found, and written. A difference compares the
+// elements of two images; a join, the entries of two lists; turning back takes the entry of one list; application, an entry and an
+// element. It takes any bytes, refuses nothing and knows no form's head.
 use forms::kind_at;
 use history::Change;
 ghost use mathlib.Core.Path.{_≡_};
@@ -14,12 +14,11 @@ ghost use Rattle.history.specs.Operations.{differ, fits, meets, joined, back};
 ghost use Rattle.tables.specs.Outlines.{kindsOf};
 ghost use Rattle.steps.specs.Steps.{span, entryBytes, changeAt, reach, Stepped, Silent, Idle, renewed};
 
-// What is walked for.
+// What is walked for: the operations that make a list.
 pub enum Walk {
     Difference,
     Join,
     Turn,
-    Apply,
 }
 
 // At one object: its change, whether the two forms agree on it, and how far the cursor into each of them moves.
@@ -76,21 +75,11 @@ pub fn step_at(
                 second: 0,
             }
         }
-        Walk::Apply => {
-            let one = change_at(first, near, object, width);
-            let old = reach(second, far, width);
-            Step {
-                change: one,
-                agrees: fits(one, octets::get_at(second, far, old)),
-                first: span(width, one),
-                second: old,
-            }
-        }
     }
 }
 
-// The next object from the given one on at which there may be something to do, or the end: lists jump to the next object that they
-// name.
+// The next object from the given one on at which there may be something to do, or the end. Of images each object is compared; lists
+// jump to the next one that they name.
 pub fn next(
     walk: Walk,
     object: usize,
@@ -110,11 +99,10 @@ pub fn next(
             named(second, far, object, one)
         }
         Walk::Turn => named(first, near, object, end),
-        Walk::Apply => object,
     }
 }
 
-// The object that the entries from a place on name, or the end where they name none between.
+// The object that the entries from a place on name first, or the end if it is not between the given object and the end.
 pub fn named(entries: &[u8], at: usize, object: usize, end: usize) -> usize
     requires { ⌜ (at ≤ length (now entries)) × (object ≤ end) ⌝ }
     ensures { λ r. ⌜ Silent object r end (drop at (now (entries .entry))) ⌝ }

@@ -1,6 +1,7 @@
--- The walk finds the meaning: over the bytes of admitted words and lawful changes, each walk gives what its operation gives.
+-- The walk finds the meaning: over the bytes of admitted words and lawful changes, each walk gives what its operation gives, and
+-- application's two definitions what application does.
 -- Assumes nothing.
-use Prim.Native.Nat.{ℕ, suc, _+_, _*_, _^_, _≤_, _<_}
+use Prim.Native.Nat.{ℕ, suc, _+_, _^_, _≤_, _<_}
 use native.Mathlib.Omega.{arith}
 use mathlib.Core.Path.{_≡_, refl, sym, ap, _∙_}
 use mathlib.Core.Bool.{Bool, true, false, cond}
@@ -8,7 +9,7 @@ use mathlib.Core.List.{List, [], _∷_, _++_, map, append-assoc, zipWith}
 use lib.Dec.{leb}
 use lib.ListN.{length, drop, length-append}
 use lib.Seq.{drop-drop, drop-at}
-use borrow.Author.Tests.{eq-eqb, ne-eqb, le-leb, lt-leb}
+use borrow.Author.Tests.{eq-eqb, le-leb, lt-leb}
 use Rattle.octets.specs.Octets.{bytes}
 use Rattle.kinds.specs.Kinds.{widthOf}
 use Rattle.kinds.specs.declared.Kind.{Kind}
@@ -21,10 +22,12 @@ use Rattle.history.specs.Operations.{differ, fits, meets, joined, back, after, 
 use Rattle.history.specs.Legal.{Every, nil, and, admits, lawful}
 use Rattle.octets.proofs.NumberLaws.{length-bytes, take-bytes, drop-bytes, read-bytes}
 use Rattle.history.proofs.ChangeLaws.{lawful-swap}
-use Rattle.history.proofs.ElementLaws.{admits-fits, width-few}
+use Rattle.history.proofs.ElementLaws.{admits-fits}
+use Rattle.history.proofs.ListLaws.{length-entries, entries-few}
 use Rattle.steps.specs.declared.Walk.{Walk}
 use Rattle.steps.specs.Steps.{span, entryBytes, changeAt, reach, stepOf, renewed}
-use Rattle.walks.specs.Walks.{walked, Measured, misfit, renewal}
+use Rattle.steps.proofs.Leaves.{says-nothing}
+use Rattle.walks.specs.Walks.{walked, Measured, misfit, unfit, renewal}
 
 -- ---- one object's entry
 
@@ -38,10 +41,6 @@ pub length-entry : (i w : ℕ) (c : Change) → length (entryBytes i w c) ≡ sp
 length-entry i w keep = refl
 length-entry i w (swap old new) = simp (length-append, length-bytes)
 
-either : {A : Type 0} (t : Bool) (x : A) → cond t x x ≡ x
-either true x = refl
-either false x = refl
-
 -- later objects' entries say nothing of object i
 none-here : {ks : List Kind} {cs : List Change} (i w j : ℕ) → i < j → j + length ks ≤ 65536 → Every lawful ks cs
     → changeAt i w (entriesBytes j ks cs) ≡ keep
@@ -49,8 +48,7 @@ unfolding changeAt
 none-here i w j h s nil = rw (lt-leb (2 + (w + w)) 0 (omega arith))
 none-here i w j h s (and {b = keep} p ps) = none-here i w (suc j) (omega arith) (omega arith) ps
 none-here i w j h s (and {a = k} {b = swap old new} {xs = ks} {ys = cs} p ps) =
-    let b : List ℕ = entriesBytes j (k ∷ ks) (swap old new ∷ cs) in
-    rw (read-bytes 2 j _ (omega arith), ne-eqb j i (omega arith)) (either (leb (2 + (w + w)) (length b)) keep)
+    says-nothing (entriesBytes j (k ∷ ks) (swap old new ∷ cs)) i w (sym (read-bytes 2 j _ (omega arith))) (λ e. omega arith)
 
 -- an object's own entry, and the bytes after it
 pub record Found (i : ℕ) (k : Kind) (c : Change) (b r : List ℕ) : Type 0 where
@@ -133,14 +131,6 @@ turn-walk i b s (and {a = k} {b = c} p ps) =
     let x = found i k c s p ps in
     rw (x .change, x .rest, turn-walk (suc i) b (omega arith) ps)
 
-apply-walk : {ks : List Kind} {c : List Change} (i : ℕ) (b : List ℕ) → i + length ks ≤ 65536 → Every lawful ks c
-    → walked Walk.Apply i ks (entriesBytes i ks c) b ≡ c
-unfolding walked stepOf
-apply-walk i b s nil = refl
-apply-walk i b s (and {a = k} {b = c} p ps) =
-    let x = found i k c s p ps in
-    rw (x .change, x .rest, apply-walk (suc i) _ (omega arith) ps)
-
 -- ---- a list turned back is as long
 
 entries-back : (cs : List Change) → entries (map back cs) ≡ entries cs
@@ -154,23 +144,13 @@ length-back i (k ∷ ks) [] = refl
 length-back i (k ∷ ks) (keep ∷ cs) = length-back (suc i) ks cs
 length-back i (k ∷ ks) (swap old new ∷ cs) = simp (length-append, length-bytes, length-back (suc i) ks cs)
 
-entries-few : {ks : List Kind} {cs : List Change} → Every lawful ks cs → entries cs ≤ length ks
-entries-few nil = omega arith
-entries-few (and {b = keep} p ps) = omega (arith, entries-few ps)
-entries-few (and {b = swap old new} p ps) = omega (arith, entries-few ps)
-
-entries-short : {ks : List Kind} {cs : List Change} (i : ℕ) → Every lawful ks cs → length (entriesBytes i ks cs) ≤ 10 * length ks
-entries-short i nil = omega arith
-entries-short i (and {b = keep} p ps) = omega (arith, entries-short (suc i) ps)
-entries-short i (and {a = k} {b = swap old new} p ps) = simp (length-append, length-bytes) (omega (arith, width-few k, entries-short (suc i) ps))
-
 pub turn-measured : {ks : List Kind} {cs : List Change} (b : List ℕ) → length ks ≤ 1024 → Every lawful ks cs
     → Measured Walk.Turn ks (entriesBytes 0 ks cs) b (entries cs) (length (entriesBytes 0 ks cs))
 turn-measured {ks} {cs} b h ps = record {
   entries = rw (turn-walk 0 b (omega arith) ps) (sym (entries-back cs));
   bytes = rw (turn-walk 0 b (omega arith) ps) (sym (length-back 0 ks cs));
   few = omega (arith, entries-few ps);
-  short = omega (arith, entries-short 0 ps);
+  short = omega (arith, length-entries 0 ps);
 }
 
 -- ---- the lowest object on which the forms do not agree
@@ -201,14 +181,14 @@ module _ {C : Type 0} (code : ℕ) (value : C) where
       (found-step (meets c d) i n _ _ (omega arith) (join-misfit (suc i) n (omega arith) s ps qs))
 
   pub apply-misfit : {ks : List Kind} {c : List Change} {a : List ℕ} (i n : ℕ) → i + length ks ≡ n → n ≤ 65536 → Every lawful ks c → Every admits ks a
-      → lowest code fits i c a value ≡ foundAt n (misfit Walk.Apply i ks (entriesBytes i ks c) (wordsBytes ks a))
-  unfolding misfit stepOf
+      → lowest code fits i c a value ≡ foundAt n (unfit i ks (entriesBytes i ks c) (wordsBytes ks a))
+  unfolding unfit
   apply-misfit i n e s nil nil = rw (le-leb n i (omega arith))
   apply-misfit i n e s (and {a = k} {b = c} {xs = ks} p ps) (and {b = a} {ys = as′} q qs) =
       let x = found i k c (omega arith) p ps in
       let w : ℕ = widthOf k in
       let g : List ℕ = wordsBytes ks as′ in
-      rw (x .change, x .rest, reach-is w a g, read-bytes w a g (admits-fits k a q), drop-bytes w a g)
+      rw (x .change, x .rest, read-bytes w a g (admits-fits k a q), drop-bytes w a g)
       (found-step (fits c a) i n _ _ (omega arith) (apply-misfit (suc i) n (omega arith) s ps qs))
 
 -- ---- the elements after the entries

@@ -1,2 +1,4 @@
+pub mod Application
 pub mod Bridges
+pub mod Runs
 pub mod Turns

@@ -1,17 +1,20 @@
--- The walk over two forms, object by object, on any bytes. A device between the code and the meaning, which is history's: the laws
--- (proofs/Bridges) tie it to the meaning where the bytes are those of accepted forms.
+-- The walk over two forms, and an image's elements under a list's entries, object by object, on any bytes. A device between the code and
+-- the meaning, which is history's: the laws (proofs/Bridges) tie it to the meaning where the bytes are those of accepted forms.
 use Prim.Native.Nat.{ℕ, suc, _≤_}
 use mathlib.Core.Path.{_≡_}
 use mathlib.Core.Bool.{cond}
 use mathlib.Core.List.{List, [], _∷_, _++_}
 use lib.ListN.{length, take, drop}
+use Rattle.octets.specs.Octets.{number}
 use Rattle.kinds.specs.Kinds.{widthOf}
 use Rattle.kinds.specs.declared.Kind.{Kind}
 use Rattle.history.specs.declared.Change.{Change}
 use Rattle.history.specs.Changes.{entriesBytes, entries}
+use Rattle.history.specs.Operations.{fits}
 use Rattle.tables.specs.Outlines.{kindsOf}
 use Rattle.steps.specs.declared.Walk.{Walk}
 use Rattle.steps.specs.Steps.{span, changeAt, stepOf, renewed}
+use Rattle.walks.specs.declared.Survey.{Survey}
 
 -- the changes of the objects from i on, and the entries of these
 unfoldable pub walked : Walk → ℕ → List Kind → List ℕ → List ℕ → List Change
@@ -39,12 +42,22 @@ misfit walk i (k ∷ ks) f s =
     i
 
 -- that object, and the size where there is none
-pub record Surveyed (walk : Walk) (ns f s : List ℕ) (object count size : ℕ) : Type 0 where
-  pub found : object ≡ misfit walk 0 (kindsOf ns) f s
-  pub inside : object ≤ length ns
-  pub measured : length ns ≤ object → Measured walk (kindsOf ns) f s count size
+pub record Surveyed (walk : Walk) (ns f s : List ℕ) (r : Survey) : Type 0 where
+  pub found : r .misfit ≡ misfit walk 0 (kindsOf ns) f s
+  pub inside : r .misfit ≤ length ns
+  pub measured : length ns ≤ r .misfit → Measured walk (kindsOf ns) f s (r .size .count) (r .size .bytes)
 
--- the elements b after the entries e
+-- ---- the elements b under the entries e
+
+-- the lowest object whose element is not its entry's old one, or the first past the last
+unfoldable pub unfit : ℕ → List Kind → List ℕ → List ℕ → ℕ
+unfit i [] e b = i
+unfit i (k ∷ ks) e b =
+    cond (fits (changeAt i (widthOf k) e) (number (take (widthOf k) b)))
+    (unfit (suc i) ks (drop (span (widthOf k) (changeAt i (widthOf k) e)) e) (drop (widthOf k) b))
+    i
+
+-- the elements after the entries
 unfoldable pub renewal : ℕ → List Kind → List ℕ → List ℕ → List ℕ
 renewal i [] e b = []
 renewal i (k ∷ ks) e b =

@@ -1,26 +1,30 @@
-// One walk for the four operations on change lists: it goes object by object, with a cursor into each of two forms, and takes the
-// step at each. It takes any bytes, refuses nothing and knows no form's head; whoever calls it has checked the forms.
+// One walk for the operations that make a list: it goes from object to object, with a cursor into each of two forms, and takes the
+// step at each. Application goes along a list's entries and an image's elements. All loops jump over objects of which the lists say
+// nothing. It takes any bytes, refuses nothing and knows no form's head; whoever calls it has checked the forms.
 use steps::Walk;
 ghost use mathlib.Core.Path.{_≡_};
 ghost use Prim.Native.Nat.{_≤_};
 ghost use lib.ListN.{length};
 ghost use Rattle.history.specs.Image.{widths};
-ghost use Rattle.steps.specs.declared.Walk.{Walk};
 ghost use Rattle.tables.specs.Outlines.{kindsOf};
-ghost use Rattle.walks.specs.Walks.{walkBytes, Surveyed, misfit, renewal};
+ghost use Rattle.walks.specs.Walks.{walkBytes, Surveyed, unfit, renewal};
 
-// The lowest object on which the two forms do not agree, or the count of objects; and where they agree on all, how many entries there
-// are and how many bytes these take.
+// How many entries, and how many bytes they take.
 pub struct Size {
-    pub misfit: usize,
     pub count: usize,
     pub bytes: usize,
 }
 
-// The size of the changes' entries.
-pub fn measure(walk: Walk, kinds: &[u8], first: &[u8], second: &[u8]) -> Size
+// The lowest object on which the two forms do not agree, or else the count of objects. Only then is the size that of all entries.
+pub struct Survey {
+    pub misfit: usize,
+    pub size: Size,
+}
+
+// Looks for a misfit and measures the changes' entries in one pass.
+pub fn measure(walk: Walk, kinds: &[u8], first: &[u8], second: &[u8]) -> Survey
     requires { ⌜ length (now kinds) ≤ 1024 ⌝ }
-    ensures { λ r. ⌜ Surveyed walk (now (kinds .entry)) (now (first .entry)) (now (second .entry)) (r .misfit) (r .count) (r .bytes) ⌝ }
+    ensures { λ r. ⌜ Surveyed walk (now (kinds .entry)) (now (first .entry)) (now (second .entry)) r ⌝ }
 {
     let mut count: usize = 0;
     let mut bytes: usize = 0;
@@ -31,10 +35,9 @@ pub fn measure(walk: Walk, kinds: &[u8], first: &[u8], second: &[u8]) -> Size
         let width = steps::width_at(kinds, i);
         let step = steps::step_at(walk, i, width, first, near, second, far);
         if !step.agrees {
-            return Size {
+            return Survey {
                 misfit: i,
-                count,
-                bytes,
+                size: Size { count, bytes },
             };
         }
         let change = step.change;
@@ -44,10 +47,9 @@ pub fn measure(walk: Walk, kinds: &[u8], first: &[u8], second: &[u8]) -> Size
         far += step.second;
         i = steps::next(walk, i + 1, kinds.len(), first, near, second, far);
     }
-    Size {
+    Survey {
         misfit: i,
-        count,
-        bytes,
+        size: Size { count, bytes },
     }
 }
 
@@ -74,26 +76,26 @@ pub fn put_changes(part: &mut [u8], walk: Walk, kinds: &[u8], first: &[u8], seco
     }
 }
 
-// The lowest object whose entry does not have its element for the old one, or the count of objects.
-pub fn find_misfit(kinds: &[u8], entries: &[u8], elements: &[u8]) -> usize
+// The lowest object whose element is not its entry's old one, or the count of objects.
+pub fn find_unfit(kinds: &[u8], entries: &[u8], elements: &[u8]) -> usize
     requires { ⌜ length (now kinds) ≤ 1024 ⌝ }
     requires { ⌜ length (now elements) ≡ widths (kindsOf (now kinds)) ⌝ }
-    ensures { λ r. ⌜ (r ≡ misfit Walk.Apply 0 (kindsOf (now (kinds .entry))) (now (entries .entry)) (now (elements .entry))) × (r ≤ length (now (kinds .entry))) ⌝ }
+    ensures { λ r. ⌜ (r ≡ unfit 0 (kindsOf (now (kinds .entry))) (now (entries .entry)) (now (elements .entry))) × (r ≤ length (now (kinds .entry))) ⌝ }
 {
-    let mut near: usize = 0;
-    let mut far: usize = 0;
+    let mut at: usize = 0;
+    let mut entry_at: usize = 0;
     let mut i: usize = 0;
     while i < kinds.len() {
         let width = steps::width_at(kinds, i);
-        let change = steps::change_at(entries, near, i, width);
-        if !steps::fits(change, octets::get_at(elements, far, width)) {
+        let end = at + width;
+        let change = steps::change_at(entries, entry_at, i, width);
+        if !steps::fits(change, octets::get_at(elements, at, width)) {
             return i;
         }
-        near += steps::span(width, change);
-        far += width;
+        entry_at += steps::span(width, change);
         let after = i + 1;
-        i = steps::named(entries, near, after, kinds.len());
-        far += forms::widths_of(&kinds[after..i]);
+        i = steps::named(entries, entry_at, after, kinds.len());
+        at = end + forms::widths_of(&kinds[after..i]);
     }
     i
 }

@@ -1,7 +1,7 @@
 -- `changes::check_first` meets its contract: arm by arm.
 -- Assumes nothing.
 use borrow.Author.Needs.{needs}
-use Rattle.changes.specs.Walked.{firstTold}
+use Rattle.changes.specs.OneCall.{firstTold}
 use Rattle.changes.proofs.Calls.{first-told}
 use Rattle.changes.proofs.check_first.Statement.{statement}
 use Rattle.changes.proofs.check_first.Tie as tie

@@ -1,7 +1,7 @@
 -- `changes::check_second` meets its contract: arm by arm.
 -- Assumes nothing.
 use borrow.Author.Needs.{needs}
-use Rattle.changes.specs.Walked.{secondTold}
+use Rattle.changes.specs.OneCall.{secondTold}
 use Rattle.changes.proofs.Calls.{second-told}
 use Rattle.changes.proofs.check_second.Statement.{statement}
 use Rattle.changes.proofs.check_second.Tie as tie

@@ -1,14 +1,12 @@
 -- `outputs::write_list` meets its contract: the room is tested before the head and the entries are written.
 -- Assumes nothing.
 use borrow.Author.Needs.{needs}
-use Rattle.outputs.proofs.Heads.{list-short, list-answer, list-output}
+use Rattle.outputs.proofs.Heads.{short-answer, short-output, list-answer, list-output}
 use Rattle.outputs.proofs.write_list.Statement.{statement}
 use Rattle.outputs.proofs.write_list.Tie as tie
 
 returns : tie.Need-returns
-returns c =
-    let known = c .before .before .before .before .before .before .before in
-    list-short _ _ _ _ _ _ _ _ (known .pre .1) _ (c .before .if1 .taken) (c .short .ensures)
+returns c = search (short-answer, short-output)
 
 returns-2 : tie.Need-returns-2
 returns-2 c = search (list-answer, list-output)

@@ -1,7 +1,7 @@
 -- `steps::step_at` meets its contract: arm by arm, from what the functions of one object ensure.
 -- Assumes nothing.
 use borrow.Author.Needs.{needs}
-use Rattle.steps.proofs.Leaves.{difference-step, join-step, turn-step, apply-step}
+use Rattle.steps.proofs.Leaves.{difference-step, join-step, turn-step}
 use Rattle.steps.proofs.step_at.Statement.{statement}
 use Rattle.steps.proofs.step_at.Tie as tie
 
@@ -13,9 +13,6 @@ returns-2 c = search join-step
 
 returns-3 : tie.Need-returns-3
 returns-3 c = search turn-step
-
-returns-4 : tie.Need-returns-4
-returns-4 c = search apply-step
 
 pub step-at-spec : {M : Type 1} → statement M
 step-at-spec =
@@ -38,13 +35,6 @@ step-at-spec =
     (λ c κs. search needs)
     (λ c κs. search needs)
     (λ c κs. search needs)
-    (λ c. search needs)
-    (λ c κs. search needs)
-    (λ c κs. search needs)
-    (λ c κs. search needs)
-    (λ c κs. search needs)
-    (λ c κs. search needs)
     returns
     returns-2
-    returns-3
-    returns-4)
+    returns-3)

@@ -3,7 +3,8 @@
 use Prim.Native.Nat.{_-_}
 use lib.ListN.{length}
 use borrow.Author.Needs.{needs}
-use Rattle.walks.proofs.Turns.{Renewing, none-renewed, renew-keeps, renew-fits, renew-inside, renew-near, few-part, one-renewed, pass-fits, all-renewed}
+use Rattle.walks.proofs.Runs.{few-part}
+use Rattle.walks.proofs.Application.{Renewing, element-fits, entry-inside, run-fits, none-renewed, renew-keeps, renew-inside, one-renewed, all-renewed}
 use Rattle.walks.proofs.renew.Statement.{statement}
 use Rattle.walks.proofs.renew.Tie as tie
 
@@ -21,7 +22,7 @@ renew-spec =
     μ-loop
     (λ c. search none-renewed)
     (λ c κs. search needs)
-    (λ c. search renew-fits)
+    (λ c. search element-fits)
     (λ c κs. search needs)
     (λ c. search needs)
     (λ c. search needs)
@@ -30,12 +31,12 @@ renew-spec =
     (λ c κs. search needs)
     (λ c. search needs)
     (λ c. search needs)
-    (λ c κs. (search renew-near, search needs))
+    (λ c κs. (search entry-inside, search needs))
     (λ c. search needs)
     (λ c. search needs)
     (λ c. search needs)
     (λ c κs. search few-part)
-    (λ c. search pass-fits)
+    (λ c. search run-fits)
     (λ c. search needs)
     (λ c. search one-renewed)
     (λ c. search renew-keeps)

@@ -2,7 +2,7 @@
 -- Assumes nothing.
 use borrow.Author.Needs.{needs}
 use Rattle.history.proofs.OutputLaws.{leaves-as}
-use Rattle.changes.specs.Walked.{walkUnder, FirstAccepted, SecondAccepted}
+use Rattle.changes.specs.OneCall.{operationUnder, FirstAccepted, SecondAccepted}
 use Rattle.changes.proofs.Calls.{first-as, second-as, under-as}
 use Rattle.changes.proofs.accepted.write.Statement.{statement}
 use Rattle.changes.proofs.accepted.write.Tie as tie
@@ -24,19 +24,19 @@ unfolding FirstAccepted SecondAccepted
 write-turned-requires c κs = let is = c .before .enum-told4 .given .1 in (search, first-as _ _ is (search))
 
 returns : tie.Need-returns
-unfolding walkUnder
+unfolding operationUnder
 returns c = let wrote = c .before .before in leaves-as _ (under-as _ _ (wrote .before .before .enum-told .given .1) _) (wrote .write-difference .ensures)
 
 returns-2 : tie.Need-returns-2
-unfolding walkUnder
+unfolding operationUnder
 returns-2 c = let wrote = c .before .before in leaves-as _ (under-as _ _ (wrote .before .before .enum-told2 .given .1) _) (wrote .write-applied .ensures)
 
 returns-3 : tie.Need-returns-3
-unfolding walkUnder
+unfolding operationUnder
 returns-3 c = let wrote = c .before .before in leaves-as _ (under-as _ _ (wrote .before .before .enum-told3 .given .1) _) (wrote .write-joined .ensures)
 
 returns-4 : tie.Need-returns-4
-unfolding walkUnder
+unfolding operationUnder
 returns-4 c = let wrote = c .before .before in leaves-as _ (under-as _ _ (wrote .before .before .enum-told4 .given .1) _) (wrote .write-turned .ensures)
 
 pub write-spec : {M : Type 1} → statement M
