@@ -1,22 +1,36 @@
 // Bytes and numbers: leaves that read a part of a slice, or fill one that the caller lends.
 // The bottom floor: it uses no other crate, knows no form, and never touches a byte outside the part it is given.
 ghost use mathlib.Core.Path.{_≡_};
-ghost use Prim.Native.Nat.{_+_, _≤_, _<_, _^_};
+ghost use Prim.Native.Nat.{_+_, _*_, _≤_, _<_, _^_};
 ghost use lib.ListN.{length, take, drop};
 ghost use Rattle.octets.specs.Octets.{bytes, number, sameBytes};
 
-// The number of at most four bytes.
+// The number of at most four bytes, case by case: a loop takes longer to begin than to read them.
 pub fn get(part: &[u8]) -> u32
     requires { ⌜ length (now part) ≤ 4 ⌝ }
     ensures { λ r. ⌜ (r ≡ number (now (part .entry))) × (r < 256 ^ length (now (part .entry))) ⌝ }
 {
-    let mut value: u32 = 0;
-    let mut i = 0;
-    while i < part.len() {
-        value = value * 256 + part[i] as u32;
-        i += 1;
+    let count = part.len();
+    if count < 1 {
+        return 0;
     }
-    value
+    if count < 2 {
+        return part[0] as u32;
+    }
+    if count < 3 {
+        return pair(part[0], part[1]);
+    }
+    if count < 4 {
+        return pair(part[0], part[1]) * 256 + part[2] as u32;
+    }
+    pair(part[0], part[1]) * 65536 + pair(part[2], part[3])
+}
+
+// The number of two bytes.
+fn pair(high: u8, low: u8) -> u32
+    ensures { λ r. ⌜ (r ≡ high * 256 + low) × (r < 65536) ⌝ }
+{
+    high as u32 * 256 + low as u32
 }
 
 // The number of the bytes from a place on.
