@@ -16,7 +16,7 @@ use Rattle.text.specs.Hex.{hexDigit, hexes}
 use Rattle.text.specs.Wrote.{Wrote}
 
 -- a tenth of a number has a digit less
-tenth : (k n : ℕ) → n < 10 ^ suc (suc k) → n / 10 < 10 ^ suc k
+pub tenth : (k n : ℕ) → n < 10 ^ suc (suc k) → n / 10 < 10 ^ suc k
 tenth k n h = div-lt-iff-lt-mul (lit< tt) .1 (rw pow-suc at h)
 
 -- as many digits as the number needs, or more, give the same
