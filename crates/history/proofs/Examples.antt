@@ -165,6 +165,37 @@ pub first-named : (tableCall (set (set T 4 2) 6 1) ≡ refused 2 65535 255)
 unfolding table layouts datRule elementCheck stateOf wordOf bytes settled formBytes isWhole readForm versionGood catalogueGood labelLimit carried kindOf labelGood checkObject readTable planOf imageVersionGood element imageBytes readImage listVersion listBytes checkChange checkEntry readList difference applied join turned readPlan tableCall imageCall listCall differenceUnder differenceCall applyUnder applyCall joinUnder joinCall turnUnder turnCall readStateUnder readStateCall checkState writeStateUnder writeStateCall zipWith
 first-named = (refl, refl, refl, refl, refl, refl, refl, refl, refl, refl, refl, refl, refl, refl, refl, refl, refl)
 
+-- two faults at once in a form: each test before the one that follows it, each entry before the next and before bytes that are left over
+pub orders : (tableCall (set (T ++ (0 ∷ [])) 4 2) ≡ refused 1 65535 255)
+    × (tableCall (set (set T 7 4) 9 10) ≡ refused 4 65535 255)
+    × (tableCall (0 ∷ 0 ∷ 0 ∷ 6 ∷ 1 ∷ 1 ∷ 0 ∷ 0 ∷ 1 ∷ 10 ∷ []) ≡ refused 8 65535 255)
+    × (tableCall (0 ∷ 0 ∷ 0 ∷ 8 ∷ 1 ∷ 1 ∷ 0 ∷ 0 ∷ 1 ∷ 2 ∷ 3 ∷ 0x20 ∷ []) ≡ refused 8 65535 255)
+    × (tableCall (set (set thrice 18 0x42) 19 10) ≡ refused 7 1 255)
+    × (tableCall (set (set (T ++ (0 ∷ [])) 3 0x15) 9 10) ≡ refused 5 0 255)
+    × (imageCall T (0 ∷ 0 ∷ 0 ∷ 9 ∷ 1 ∷ 2 ∷ 0 ∷ 0 ∷ 0 ∷ 0 ∷ 7 ∷ 0 ∷ 0x01 ∷ []) ≡ refused 9 65535 255)
+    × (imageCall T (0 ∷ 0 ∷ 0 ∷ 9 ∷ 1 ∷ 1 ∷ 0 ∷ 0 ∷ 0 ∷ 0 ∷ 7 ∷ 0x14 ∷ 0x01 ∷ []) ≡ refused 8 65535 255)
+    × (listCall T (set (set AB 5 2) 18 2) ≡ refused 9 65535 255)
+    × (listCall T (0 ∷ 0 ∷ 0 ∷ 0x0E ∷ 1 ∷ 1 ∷ 0 ∷ 0 ∷ 0 ∷ 0 ∷ 7 ∷ 0 ∷ 0 ∷ 0 ∷ 8 ∷ 0 ∷ 1 ∷ 0xFF ∷ []) ≡ refused 8 65535 255)
+    × (listCall T (0 ∷ 0 ∷ 0 ∷ 0x0F ∷ 1 ∷ 1 ∷ 0 ∷ 0 ∷ 0 ∷ 0 ∷ 7 ∷ 0 ∷ 0 ∷ 0 ∷ 8 ∷ 0 ∷ 1 ∷ 0 ∷ 2 ∷ []) ≡ refused 13 2 255)
+    × (listCall T (0 ∷ 0 ∷ 0 ∷ 0x13 ∷ 1 ∷ 1 ∷ 0 ∷ 0 ∷ 0 ∷ 0 ∷ 8 ∷ 0 ∷ 0 ∷ 0 ∷ 9 ∷ 0 ∷ 2 ∷ 0 ∷ 1 ∷ 0x03 ∷ 0x05 ∷ 0 ∷ 0 ∷ []) ≡ refused 14 0 255)
+    × (listCall T (0 ∷ 0 ∷ 0 ∷ 0x11 ∷ 1 ∷ 1 ∷ 0 ∷ 0 ∷ 0 ∷ 0 ∷ 7 ∷ 0 ∷ 0 ∷ 0 ∷ 8 ∷ 0 ∷ 1 ∷ 0 ∷ 0 ∷ 0x14 ∷ 0x01 ∷ []) ≡ refused 8 65535 255)
+    × (listCall T (set (set BC 22 0x31) 24 7) ≡ refused 15 0 255)
+    × (listCall T (set (set (AB ++ (0 ∷ [])) 3 0x14) 22 0x01) ≡ refused 15 0 255)
+unfolding table layouts datRule elementCheck stateOf wordOf bytes settled formBytes isWhole readForm versionGood catalogueGood labelLimit carried kindOf labelGood checkObject readTable planOf imageVersionGood element imageBytes readImage listVersion listBytes checkChange checkEntry readList difference applied join turned readPlan tableCall imageCall listCall differenceUnder differenceCall applyUnder applyCall joinUnder joinCall turnUnder turnCall readStateUnder readStateCall checkState writeStateUnder writeStateCall zipWith
+orders = (refl, refl, refl, refl, refl, refl, refl, refl, refl, refl, refl, refl, refl, refl, refl)
+
+-- in a call: the table before all else, a form before what is asked of it, the gap before the values
+pub call-orders : (differenceCall T A (take 3 B) ≡ refused 1 65535 255)
+    × (applyCall T C (set AB 22 0x01) ≡ refused 15 0 255)
+    × (applyCall T (set X 10 6) AB ≡ refused 17 65535 255)
+    × (joinCall T AB (set AB 22 0x01) ≡ refused 15 0 255)
+    × (turnCall (set T 6 1) (take 3 AB) ≡ refused 3 65535 255)
+    × (readStateCall (set T 6 1) (take 3 A) 7 ≡ refused 3 65535 255)
+    × (writeStateCall T (set A 13 0x09) 7 fixedT 9 ≡ refused 10 1 3)
+    × (labelCall (set T 6 1) 7 ≡ refused 3 65535 255)
+unfolding table layouts datRule elementCheck stateOf wordOf bytes settled formBytes isWhole readForm versionGood catalogueGood labelLimit carried kindOf labelGood checkObject readTable planOf imageVersionGood element imageBytes readImage listVersion listBytes checkChange checkEntry readList difference applied join turned readPlan tableCall imageCall listCall differenceUnder differenceCall applyUnder applyCall joinUnder joinCall turnUnder turnCall readStateUnder readStateCall checkState writeStateUnder writeStateCall zipWith labelCall
+call-orders = (refl, refl, refl, refl, refl, refl, refl, refl)
+
 -- what the forms may hold: labels of 33 to 126 with a colon inside, 32 bytes, version 1, catalogue 1.0
 pub limits : (map labelGood ((33 ∷ 58 ∷ 126 ∷ []) ∷ (32 ∷ 58 ∷ 65 ∷ []) ∷ (65 ∷ 58 ∷ 127 ∷ []) ∷ (58 ∷ 65 ∷ []) ∷ (65 ∷ 58 ∷ []) ∷ (65 ∷ 66 ∷ 67 ∷ []) ∷ (65 ∷ 58 ∷ 58 ∷ []) ∷ []) ≡ true ∷ false ∷ false ∷ false ∷ false ∷ false ∷ true ∷ [])
     × (labelLimit 1 ≡ 32)
