@@ -65,9 +65,9 @@ module _ {T : List ℕ} {o : Outline} (k : Outlined T o) (operation : Operation)
   unfolding operationCall
   table-stops out n = table-leaves k n (λ p. operationUnder operation p A B) out
 
-  pub table-goes : o .answer .code ≡ 0 → operationUnder operation (planAs (o .x) (o .y) (take (o .count) (o .kinds))) A B ≡ operationCall operation T A B
+  pub table-goes : o .answer .code ≡ 0 → {ns : List ℕ} → ns ≡ take (o .count) (o .kinds) → operationUnder operation (planAs (o .x) (o .y) ns) A B ≡ operationCall operation T A B
   unfolding operationCall
-  table-goes z = sym (under-plan k z (λ p. operationUnder operation p A B))
+  table-goes z n = sym (under-plan k z n (λ p. operationUnder operation p A B))
 
 -- ---- the other forms
 

@@ -5,6 +5,7 @@ mod accepted;
 use forms::check_image_under;
 use forms::check_list_under;
 use history::Answer;
+use tables::first_kinds;
 use tables::outline;
 ghost use mathlib.Core.Path.{_≡_};
 ghost use Prim.Native.Nat.{_≤_};
@@ -67,8 +68,15 @@ fn call(operation: Operation, table: &[u8], first: &[u8], second: &[u8], out: &m
     let x = known.x;
     let y = known.y;
     let count = known.count;
-    let kinds = known.kinds;
-    call_under(operation, x, y, &kinds[..count], first, second, out)
+    call_under(
+        operation,
+        x,
+        y,
+        first_kinds(&known.kinds, count),
+        first,
+        second,
+        out,
+    )
 }
 
 // Under what is known of the table.

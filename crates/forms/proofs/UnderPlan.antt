@@ -5,7 +5,6 @@ use native.Mathlib.Omega.{arith}
 use mathlib.Core.Path.{_≡_, sym, ap, _∙_}
 use mathlib.Core.List.{List}
 use lib.ListN.{length, take, length-take}
-use lib.Seq.{length-take-le}
 use Rattle.history.specs.declared.Answer.{Answer}
 use Rattle.history.specs.Verdict.{Verdict, then, told}
 use Rattle.history.specs.Table.{Plan, planOf, readTable}
@@ -41,19 +40,21 @@ module _ {b : List ℕ} {r : Outline} (o : Outlined b r) where
     list-refused L = table-refused (λ p. readList p L)
 
   module _ (good : r .answer .code ≡ 0) where
-    pub under-plan : {A : Type 0} (next : Plan → Verdict A) → then (readPlan b) next ≡ next (planAs (r .x) (r .y) (take (r .count) (r .kinds)))
-    under-plan next = ap (λ (v : Verdict Plan). then v next) (o .plan good)
+    -- ns are the layout numbers that are handed on
+    module _ {ns : List ℕ} (e : ns ≡ take (r .count) (r .kinds)) where
+      pub under-plan : {A : Type 0} (next : Plan → Verdict A) → then (readPlan b) next ≡ next (planAs (r .x) (r .y) ns)
+      under-plan next = rw e (ap (λ (v : Verdict Plan). then v next) (o .plan good))
 
-    pub image-under : (A : List ℕ) → told (readImage (planAs (r .x) (r .y) (take (r .count) (r .kinds))) A) ≡ told (imageCall b A)
-    unfolding imageCall
-    image-under A = sym (ap told (under-plan (λ p. readImage p A)))
+      pub image-under : (A : List ℕ) → told (readImage (planAs (r .x) (r .y) ns) A) ≡ told (imageCall b A)
+      unfolding imageCall
+      image-under A = sym (ap told (under-plan (λ p. readImage p A)))
 
-    pub list-under : (L : List ℕ) → told (readList (planAs (r .x) (r .y) (take (r .count) (r .kinds))) L) ≡ told (listCall b L)
-    unfolding listCall
-    list-under L = sym (ap told (under-plan (λ p. readList p L)))
+      pub list-under : (L : List ℕ) → told (readList (planAs (r .x) (r .y) ns) L) ≡ told (listCall b L)
+      unfolding listCall
+      list-under L = sym (ap told (under-plan (λ p. readList p L)))
 
-  pub kinds-counted : r .count ≡ length (take (r .count) (r .kinds))
-  kinds-counted = sym (length-take-le (r .count) (r .kinds) (omega (arith, o .few, o .room)))
+  pub kinds-inside : r .count ≤ length (r .kinds)
+  kinds-inside = omega (arith, o .few, o .room)
 
-  pub few-kinds : length (take (r .count) (r .kinds)) ≤ 1024
-  few-kinds = rw length-take (omega (arith, o .few))
+  pub few-kinds : {ns : List ℕ} → ns ≡ take (r .count) (r .kinds) → length ns ≤ 1024
+  few-kinds e = rw (e, length-take) (omega (arith, o .few))

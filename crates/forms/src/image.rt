@@ -4,6 +4,7 @@ use super::objects::widths_of;
 use history::Answer;
 use rows::Finding;
 use tables::accepted;
+use tables::first_kinds;
 use tables::is_under;
 use tables::is_whole;
 use tables::outline;
@@ -29,8 +30,7 @@ pub fn check_image(table: &[u8], image: &[u8]) -> Answer
     let x = known.x;
     let y = known.y;
     let count = known.count;
-    let kinds = known.kinds;
-    check_image_under(x, y, &kinds[..count], image)
+    check_image_under(x, y, first_kinds(&known.kinds, count), image)
 }
 
 // The same, under what is known of the table.

@@ -4,6 +4,7 @@ use history::Answer;
 use kinds::Kind;
 use rows::Finding;
 use tables::accepted;
+use tables::first_kinds;
 use tables::is_under;
 use tables::is_whole;
 use tables::outline;
@@ -32,8 +33,7 @@ pub fn check_list(table: &[u8], list: &[u8]) -> Answer
     let x = known.x;
     let y = known.y;
     let count = known.count;
-    let kinds = known.kinds;
-    check_list_under(x, y, &kinds[..count], list)
+    check_list_under(x, y, first_kinds(&known.kinds, count), list)
 }
 
 // The same, under what is known of the table.

@@ -63,9 +63,10 @@ module _ {T : List ℕ} {r : Outline} (o : Outlined T r) (A : List ℕ) (i : ℕ
   unfolding readStateCall
   table-read bad = refusal-read _ (table-refused o bad (λ p. readStateUnder p A i)) bad
 
-  pub read-by-plan : r .answer .code ≡ 0 → readingOf (readStateUnder (planAs (r .x) (r .y) (take (r .count) (r .kinds))) A i) ≡ readingOf (readStateCall T A i)
+  pub read-by-plan : r .answer .code ≡ 0 → {ns : List ℕ} → ns ≡ take (r .count) (r .kinds)
+      → readingOf (readStateUnder (planAs (r .x) (r .y) ns) A i) ≡ readingOf (readStateCall T A i)
   unfolding readStateCall
-  read-by-plan good = ap readingOf (sym (under-plan o good (λ p. readStateUnder p A i)))
+  read-by-plan good n = ap readingOf (sym (under-plan o good n (λ p. readStateUnder p A i)))
 
 -- ---- the image
 

@@ -82,9 +82,10 @@ module _ {T : List ℕ} {r : Outline} (o : Outlined T r) (A : List ℕ) (i : ℕ
   unfolding writeStateCall
   table-writes bad = table-refused o bad (λ p. writeStateUnder p A i e position)
 
-  pub write-by-plan : r .answer .code ≡ 0 → writeStateUnder (planAs (r .x) (r .y) (take (r .count) (r .kinds))) A i e position ≡ writeStateCall T A i e position
+  pub write-by-plan : r .answer .code ≡ 0 → {ns : List ℕ} → ns ≡ take (r .count) (r .kinds)
+      → writeStateUnder (planAs (r .x) (r .y) ns) A i e position ≡ writeStateCall T A i e position
   unfolding writeStateCall
-  write-by-plan good = sym (under-plan o good (λ p. writeStateUnder p A i e position))
+  write-by-plan good n = sym (under-plan o good n (λ p. writeStateUnder p A i e position))
 
 -- ---- the image
 

@@ -5,6 +5,7 @@ use forms::kind_at;
 use history::Answer;
 use kinds::Element;
 use tables::accepted;
+use tables::first_kinds;
 use tables::outline;
 use tables::refused_at;
 use tables::refused_bit;
@@ -43,8 +44,7 @@ pub fn read_state(table: &[u8], image: &[u8], object: u16) -> Reading
     let x = known.x;
     let y = known.y;
     let count = known.count;
-    let kinds = known.kinds;
-    read_under(x, y, &kinds[..count], image, object)
+    read_under(x, y, first_kinds(&known.kinds, count), image, object)
 }
 
 // The same, under what is known of the table.

@@ -7,6 +7,7 @@ use kinds::Element;
 use kinds::kind_in;
 use rows::Finding;
 use tables::accepted;
+use tables::first_kinds;
 use tables::outline;
 use tables::refused_at;
 use tables::refused_bit;
@@ -41,8 +42,16 @@ pub fn write_state(
     let x = known.x;
     let y = known.y;
     let count = known.count;
-    let kinds = known.kinds;
-    write_under(x, y, &kinds[..count], image, object, state, position, out)
+    write_under(
+        x,
+        y,
+        first_kinds(&known.kinds, count),
+        image,
+        object,
+        state,
+        position,
+        out,
+    )
 }
 
 // The same, under what is known of the table.

@@ -16,6 +16,7 @@ pub use answers::short;
 pub use answers::written;
 pub use place::LabelAt;
 pub use place::label_place;
+pub use plan::first_kinds;
 pub use plan::outline;
 pub use table::check_table;
 pub use whole::is_under;

@@ -4,6 +4,8 @@ use super::table::check_table;
 use super::table::entry_size;
 use super::table::object_count;
 ghost use mathlib.Core.Path.{_≡_};
+ghost use Prim.Native.Nat.{_≤_};
+ghost use lib.ListN.{length, take};
 ghost use Rattle.history.specs.Verdict.{told};
 ghost use Rattle.kinds.specs.Kinds.{layoutNo};
 ghost use Rattle.elements.specs.Elements.{kindOf};
@@ -52,6 +54,14 @@ fn kinds_of(table: &[u8], count: usize) -> [u8; 1024]
         i += 1;
     }
     kinds
+}
+
+// The first layout numbers, so many as there are objects. They are lent from the outline's own array, so that it isn't copied.
+pub fn first_kinds(kinds: &[u8], count: usize) -> &[u8]
+    requires { ⌜ count ≤ length (now kinds) ⌝ }
+    ensures { λ r. ⌜ now r ≡ take count (now (kinds .entry)) ⌝ }
+{
+    &kinds[..count]
 }
 
 // The layout number of a type under a catalogue's X.

@@ -2,7 +2,7 @@
 -- Assumes nothing.
 use borrow.Author.Needs.{needs}
 use Rattle.history.proofs.OutputLaws.{leaves-as}
-use Rattle.forms.proofs.UnderPlan.{kinds-counted, few-kinds}
+use Rattle.forms.proofs.UnderPlan.{kinds-inside, few-kinds}
 use Rattle.changes.proofs.Calls.{table-stops, table-goes}
 use Rattle.changes.proofs.call.Statement.{statement}
 use Rattle.changes.proofs.call.Tie as tie
@@ -19,8 +19,7 @@ call-spec =
     (tie.spec
     (λ c κs. search needs)
     returns
-    (λ c. search needs)
-    (λ c. search kinds-counted)
+    (λ c κs. search kinds-inside)
     (λ c κs. search few-kinds)
     (λ c. search needs)
     returns-2)

@@ -3,7 +3,7 @@
 use native.Mathlib.Omega.{arith}
 use mathlib.Core.Path.{_∙_}
 use borrow.Author.Needs.{needs}
-use Rattle.forms.proofs.UnderPlan.{image-refused, image-under, kinds-counted, few-kinds}
+use Rattle.forms.proofs.UnderPlan.{image-refused, image-under, kinds-inside, few-kinds}
 use Rattle.forms.proofs.image.check_image.Statement.{statement}
 use Rattle.forms.proofs.image.check_image.Tie as tie
 
@@ -19,7 +19,6 @@ check-image-spec =
     (tie.spec
     (λ c κs. search needs)
     returns
-    (λ c. search needs)
-    (λ c. search kinds-counted)
+    (λ c κs. search kinds-inside)
     (λ c κs. search few-kinds)
     returns-2)

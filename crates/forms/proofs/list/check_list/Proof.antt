@@ -3,7 +3,7 @@
 use native.Mathlib.Omega.{arith}
 use mathlib.Core.Path.{_∙_}
 use borrow.Author.Needs.{needs}
-use Rattle.forms.proofs.UnderPlan.{list-refused, list-under, kinds-counted, few-kinds}
+use Rattle.forms.proofs.UnderPlan.{list-refused, list-under, kinds-inside, few-kinds}
 use Rattle.forms.proofs.list.check_list.Statement.{statement}
 use Rattle.forms.proofs.list.check_list.Tie as tie
 
@@ -19,7 +19,6 @@ check-list-spec =
     (tie.spec
     (λ c κs. search needs)
     returns
-    (λ c. search needs)
-    (λ c. search kinds-counted)
+    (λ c κs. search kinds-inside)
     (λ c κs. search few-kinds)
     returns-2)

@@ -1,7 +1,7 @@
 -- `panel::read::read_state` meets its contract: a refused table's answer is the reading, and an accepted one's plan decides.
 -- Assumes nothing.
 use mathlib.Core.Path.{_∙_}
-use Rattle.forms.proofs.UnderPlan.{kinds-counted, few-kinds}
+use Rattle.forms.proofs.UnderPlan.{kinds-inside, few-kinds}
 use Rattle.panel.proofs.ReadLaws.{table-read, read-by-plan}
 use borrow.Author.Needs.{needs}
 use Rattle.panel.proofs.read.read_state.Statement.{statement}
@@ -19,7 +19,6 @@ read-state-spec =
     (tie.spec
     (λ c κs. search needs)
     returns
-    (λ c. search needs)
-    (λ c. search kinds-counted)
+    (λ c κs. search kinds-inside)
     (λ c κs. search few-kinds)
     returns-2)

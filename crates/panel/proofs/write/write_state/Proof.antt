@@ -1,6 +1,6 @@
 -- `panel::write::write_state` meets its contract: a refused table's answer is the answer and the output stays; an accepted one's plan decides.
 -- Assumes nothing.
-use Rattle.forms.proofs.UnderPlan.{kinds-counted, few-kinds}
+use Rattle.forms.proofs.UnderPlan.{kinds-inside, few-kinds}
 use Rattle.history.proofs.OutputLaws.{leaves-as, told-leaves}
 use Rattle.panel.proofs.WriteLaws.{table-writes, write-by-plan}
 use borrow.Author.Needs.{needs}
@@ -19,8 +19,7 @@ write-state-spec =
     (tie.spec
     (λ c κs. search needs)
     returns
-    (λ c. search needs)
-    (λ c. search kinds-counted)
+    (λ c κs. search kinds-inside)
     (λ c κs. search few-kinds)
     (λ c. search needs)
     returns-2)
