@@ -45,6 +45,9 @@ class Layout:
         self.dat = struct not in WITHOUT_DAT
         self.key = low(struct)
         self.fields = [r for r in rows if not r.reserved]
+        narrow = [r for r in rows if r.top + 1 < 2 ** r.width]
+        self.add = sum((2 ** r.width - 1 - r.top) << r.low for r in narrow)
+        self.carry = sum(1 << r.low + r.width for r in narrow)
         self.named = [r for r in rows if r.named]
 
 
@@ -495,10 +498,15 @@ def kinds_source():
 // Written by catalogue/write.py from catalogue/fields.tsv. It checks nothing: whoever adds a type adds it here, and the floors
 // above go by the layout.
 use rows::Layout;
+use rows::Marks;
 {''.join(f"use states::{s};{chr(10)}" for s in sorted(STRUCTS))}
 ghost use mathlib.Core.Path.{{_≡_}};
+ghost use Prim.Native.Nat.{{_+_, _≤_}};
+ghost use lib.Dec.{{T}};
+ghost use lib.ListN.{{length}};
 ghost use Rattle.rows.specs.Fields.{{padded}};
-ghost use Rattle.kinds.specs.Kinds.{{layoutOf, sortNumbered, kindIn, elementOf, elementValues}};
+ghost use Rattle.rows.specs.Marks.{{marked}};
+ghost use Rattle.kinds.specs.Kinds.{{layoutOf, widthOf, rowsOf, Looked, sortNumbered, kindIn, elementOf, elementValues}};
 
 // The kinds of element that are carried.
 pub enum Kind {{
@@ -514,6 +522,12 @@ pub enum Sort {{
     Other,
 }}
 
+// The number of an element, and whether a glance shows that its fields have listed values.
+pub struct Look {{
+    pub word: u32,
+    pub listed: bool,
+}}
+
 // A kind's layout.
 pub fn layout(kind: Kind) -> Layout
     ensures {{ λ r. ⌜ r ≡ layoutOf kind ⌝ }}
@@ -527,6 +541,26 @@ pub fn layout(kind: Kind) -> Layout
             dat: {'true' if l.dat else 'false'},
         }}''', kind)
     text += '''
+// A kind's marks.
+pub fn marks(kind: Kind) -> Marks
+    ensures { λ r. ⌜ T (marked (r .add) (r .carry) (rowsOf kind)) ⌝ }
+{
+''' + match('kind', lambda l: f'Marks {{ add: {l.add}, carry: {l.carry} }}', kind) + '''
+// The element of a kind at a place, and what a glance shows of it.
+pub fn look_at(kind: Kind, s: &[u8], at: usize) -> Look
+    requires { ⌜ at + widthOf kind ≤ length (now s) ⌝ }
+    ensures { λ r. ⌜ Looked kind (now (s .entry)) at r ⌝ }
+{
+''' + match('kind', lambda l: f'look_by(Kind::{l.struct}, s, at, {l.struct}::WIDTH)', kind) + '''
+fn look_by(kind: Kind, s: &[u8], at: usize, width: usize) -> Look
+    requires { ⌜ (width ≡ widthOf kind) × (width ≤ 4) × (at + widthOf kind ≤ length (now s)) ⌝ }
+    ensures { λ r. ⌜ Looked kind (now (s .entry)) at r ⌝ }
+{
+    let word = octets::get_at(s, at, width);
+    let listed = rows::carries_none(word, marks(kind));
+    Look { word, listed }
+}
+
 // The kind whose layout has a number, if there is one.
 pub fn sort_numbered(number: u8) -> Sort
     ensures { λ r. ⌜ r ≡ sortNumbered number ⌝ }
@@ -559,10 +593,15 @@ def kinds_specs():
     text = '''-- An element state is one of the types, each with its own struct: the kinds, the layout of each, and the state of any kind from
 -- its fields' values.
 -- Written by catalogue/write.py.
-use mathlib.Core.Bool.{cond}
+use mathlib.Core.Path.{_≡_}
+use mathlib.Core.Bool.{true, cond}
 use mathlib.Core.List.{List, [], _∷_}
 use Prim.Native.Nat.{ℕ}
 use lib.Dec.{eqb}
+use lib.ListN.{take, drop}
+use Rattle.octets.specs.Octets.{number}
+use Rattle.rows.specs.Fields.{checkRows}
+use Rattle.rows.specs.declared.Finding.{Finding}
 use Rattle.rows.specs.Table.{Row, layoutAt}
 use Rattle.rows.specs.Covering.{layoutRows}
 use Rattle.rows.specs.declared.Layout.{Layout}
@@ -571,6 +610,7 @@ use Rattle.rows.specs.declared.Layout.{Layout}
     text += f'''use Rattle.kinds.specs.declared.Kind.{{Kind}}
 use Rattle.kinds.specs.declared.Element.{{Element}}
 use Rattle.kinds.specs.declared.Sort.{{Sort}}
+use Rattle.kinds.specs.declared.Look.{{Look}}
 
 abbrev pub kinds : List Kind
 kinds = {kinds} ∷ []
@@ -589,6 +629,11 @@ widthOf k = layoutOf k .bytes
 
 abbrev pub rowsOf : Kind → List Row
 rowsOf k = layoutRows (layoutOf k)
+
+-- of the element at a place: its number, and that each field has a listed value where a glance shows it
+pub record Looked (k : Kind) (b : List ℕ) (at : ℕ) (r : Look) : Type 0 where
+  pub read : r .word ≡ number (take (widthOf k) (drop at b))
+  pub shown : r .listed ≡ true → checkRows (r .word) (rowsOf k) ≡ Finding.Accepted
 
 -- the kind whose layout has a number
 abbrev pub sortIn : ℕ → List Kind → Sort
@@ -723,6 +768,81 @@ def values_of_answer(i, l):
             f'∙ sym (ap (λ (e : Element). padded (elementValues e)) (c .before .before .{nth("element", i)} .given .1))')
 
 
+def marks_proof():
+    n = len(LAYOUTS)
+    text = f'''-- `kinds::marks` meets its contract: each kind's marks are held against its rows.
+-- Written by catalogue/write.py. Assumes nothing.
+use mathlib.Core.Path.{{_≡_, subst⁻¹}}
+use Prim.Native.Nat.{{ℕ}}
+use lib.Dec.{{T}}
+use Rattle.rows.specs.Table.{{table, layouts}}
+use Rattle.rows.specs.Marks.{{marked}}
+use Rattle.kinds.specs.Kinds.{{rowsOf}}
+use Rattle.kinds.specs.declared.Kind.{{Kind}}
+{ties('kinds', 'marks')}
+'''
+    text += '''fits : (add carry : ℕ) {k j : Kind} → k ≡ j → T (marked add carry (rowsOf j)) → T (marked add carry (rowsOf k))
+fits add carry e t = subst⁻¹ (λ (k : Kind). T (marked add carry (rowsOf k))) e t
+
+'''
+    arms = [f'(λ c. fits _ _ (c .{nth("enum-told", i)} .given .1) tt)' for i in range(1, n + 1)]
+    return text + spec_end('marks', each(told(n), arms)).replace('statement M\n', 'statement M\nunfolding table layouts\n')
+
+
+def look_proof():
+    n = len(LAYOUTS)
+    calls = [
+        f'(λ c κs. let start = c .before .before .before in (refl, lit≤ tt, by-kind (start .args .at) (start .args .s .now) (c .{nth("enum-told", i)} .given .1) (start .pre)))'
+        for i in range(1, n + 1)]
+    arms = [f'(λ c. of-kind (c .before .{nth("enum-told", i)} .given .1) (c .{nth("look-by", i)} .ensures))' for i in range(1, n + 1)]
+    text = f'''-- `kinds::look_at` meets its contract: each kind by its own width.
+-- Written by catalogue/write.py. Assumes nothing.
+use mathlib.Core.Path.{{_≡_, refl, subst, subst⁻¹}}
+use mathlib.Core.List.{{List}}
+use Prim.Native.Nat.{{ℕ, _+_, _≤_}}
+use lib.Dec.{{lit≤}}
+use lib.ListN.{{length}}
+use Rattle.rows.specs.Table.{{layouts}}
+use Rattle.kinds.specs.Kinds.{{widthOf, Looked}}
+use Rattle.kinds.specs.declared.Kind.{{Kind}}
+use Rattle.kinds.specs.declared.Look.{{Look}}
+{ties('kinds', 'look_at')}
+by-kind : (at : ℕ) (b : List ℕ) {{k j : Kind}} → k ≡ j → at + widthOf k ≤ length b → at + widthOf j ≤ length b
+by-kind at b e h = subst (λ (k : Kind). at + widthOf k ≤ length b) e h
+
+of-kind : {{b : List ℕ}} {{at : ℕ}} {{r : Look}} {{k j : Kind}} → k ≡ j → Looked j b at r → Looked k b at r
+of-kind {{b}} {{at}} {{r}} e l = subst⁻¹ (λ (k : Kind). Looked k b at r) e l
+
+'''
+    return text + spec_end('look-at', each(told(n), calls, arms)).replace('statement M\n', 'statement M\nunfolding layouts\n')
+
+
+def look_by_proof():
+    return f'''-- `kinds::look_by` meets its contract: the number of as many bytes as the kind is wide, and its marks.
+-- Written by catalogue/write.py. Assumes nothing.
+use mathlib.Core.Path.{{_∙_, sym, ap}}
+use Prim.Native.Nat.{{ℕ}}
+use native.Mathlib.Omega.{{arith}}
+use borrow.Author.Needs.{{needs}}
+use lib.ListN.{{take, drop}}
+use Rattle.octets.specs.Octets.{{number}}
+use Rattle.rows.proofs.Glance.{{none-carried}}
+use Rattle.kinds.specs.Kinds.{{rowsOf}}
+{ties('kinds', 'look_by')}
+returns : tie.Need-returns
+returns c =
+    let marked = c .before in
+    let read = marked .before in
+    let start = read .before .before in
+    let a = start .args in
+    record {{
+      read = read .get-at .ensures .0 ∙ ap (λ (n : ℕ). number (take n (drop (a .at) (a .s .now)))) (start .pre .0);
+      shown = λ e. none-carried _ _ _ (sym (c .carries-none .ensures) ∙ e) (rowsOf (a .kind)) (marked .marks .ensures);
+    }}
+
+{spec_end('look-by', ['(λ c κs. (omega arith, omega arith))', CALL, CALL, 'returns'])}'''
+
+
 def files(source):
     """The files by their path below crates/, from the present text of those that are written in part."""
     out = {
@@ -746,6 +866,9 @@ def files(source):
         'kinds/proofs/KindLaws.antt': kinds_laws(),
         'kinds/proofs/layout/Proof.antt': by_kind_proof('layout', 'layoutOf', 'use Rattle.rows.specs.Table.{layouts}\n', 'layouts'),
         'kinds/proofs/kind_in/Proof.antt': by_kind_proof('kind_in', 'kindIn', '', ''),
+        'kinds/proofs/marks/Proof.antt': marks_proof(),
+        'kinds/proofs/look_at/Proof.antt': look_proof(),
+        'kinds/proofs/look_by/Proof.antt': look_by_proof(),
         'kinds/proofs/sort_numbered/Proof.antt': sort_proof(),
         'kinds/proofs/element_of/Proof.antt': per_kind_proof(
             'element_of',

@@ -1,23 +1,28 @@
 -- The answers of the functions over elements, from what their callees ensure.
 -- Assumes nothing.
-use mathlib.Core.Path.{_≡_, _∙_, sym, ap, ap₂}
+use mathlib.Core.Path.{_≡_, _∙_, refl, sym, ap, ap₂}
 use mathlib.Core.Bool.{Bool, true, false}
 use mathlib.Core.List.{List}
 use Prim.Native.Nat.{ℕ, _+_, _%_, _<_, _≤_}
+use native.Mathlib.Omega.{arith}
+use lib.Dec.{T}
 use lib.ListN.{replicate}
 use Rattle.rows.specs.Table.{rowTotal, rowsFrom}
 use Rattle.rows.specs.Fields.{codeAt, checkRows, valuesOf, composeOf, padded, onFinding, fieldsRead}
+use Rattle.rows.specs.Marks.{marked, carriesNone}
+use Rattle.rows.specs.declared.Marks.{Marks}
 use Rattle.rows.specs.declared.Refusal.{Refusal}
 use Rattle.rows.specs.declared.Fields.{Fields}
 use Rattle.rows.specs.declared.Finding.{Finding}
 use Rattle.rows.specs.declared.Layout.{Layout}
+use Rattle.rows.proofs.Glance.{none-carried}
 use Rattle.kinds.specs.Kinds.{layoutOf, rowsOf, elementOf, elementValues, kindIn}
 use Rattle.elements.specs.Elements.{datRule, elementCheck, stateOf, stateRead, wordOf}
 use Rattle.kinds.specs.declared.Kind.{Kind}
 use Rattle.kinds.specs.declared.Element.{Element}
 use Rattle.elements.specs.declared.State.{State}
 use Rattle.elements.proofs.Covering.{cover}
-use Rattle.elements.proofs.DatLaws.{dat-absent, dat-one, dat-none, dat-stale}
+use Rattle.elements.proofs.DatLaws.{dat-absent, dat-stale, not-stale}
 use Rattle.elements.proofs.Laws.{word-small, compose-padded}
 
 -- the rule of DAT, from what `layout` ensures
@@ -28,14 +33,16 @@ module _ (k : Kind) (w : ℕ) (l : Layout) (is : l ≡ layoutOf k) where
   pub no-dat : l .dat ≡ false → Finding.Accepted ≡ datRule k w
   no-dat e = sym (dat-absent k w (of-layout e))
 
-  pub current : l .dat ≡ true → w % 2 ≡ 1 → Finding.Accepted ≡ datRule k w
-  current e h = sym (dat-one k w (of-layout e) h)
-
-  pub without-data : l .dat ≡ true → (w % 2 ≡ 1 → ⊥) → w ≡ 0 → Finding.Accepted ≡ datRule k w
-  without-data e h z = sym (dat-none k w (of-layout e) h z)
-
   pub stale : l .dat ≡ true → (w % 2 ≡ 1 → ⊥) → (w ≡ 0 → ⊥) → Finding.Refused (codeAt 12 0) ≡ datRule k w
   stale e h z = sym (dat-stale k w (record { dat = of-layout e; silent = h; other = z }))
+
+-- of any layout
+module _ (k : Kind) (w : ℕ) where
+  pub current : w % 2 ≡ 1 → Finding.Accepted ≡ datRule k w
+  current h = sym (not-stale k w (λ s. s .silent h))
+
+  pub without-data : w ≡ 0 → Finding.Accepted ≡ datRule k w
+  without-data z = sym (not-stale k w (λ s. s .other z))
 
 -- from what is found of the fields
 module _ (k : Kind) (w : ℕ) (f : Finding) (e : f ≡ checkRows w (rowsOf k)) where
@@ -46,6 +53,17 @@ module _ (k : Kind) (w : ℕ) (f : Finding) (e : f ≡ checkRows w (rowsOf k)) w
   pub check-rest : f ≡ Finding.Accepted → datRule k w ≡ elementCheck k w
   unfolding elementCheck
   check-rest t = ap (λ (f : Finding). onFinding f (datRule k w) Finding.Refused) (sym t ∙ e)
+
+-- from what a glance shows
+module _ (k : Kind) (w : ℕ) where
+  pub check-marked : (m : Marks) → T (marked (m .add) (m .carry) (rowsOf k)) → {b : Bool} → b ≡ carriesNone (m .add) (m .carry) w → b ≡ true → checkRows w (rowsOf k) ≡ Finding.Accepted
+  check-marked m t e h = none-carried w (m .add) (m .carry) (sym e ∙ h) (rowsOf k) t
+
+  pub check-shown : checkRows w (rowsOf k) ≡ Finding.Accepted → {d : Finding} → d ≡ datRule k w → d ≡ Finding.Accepted → elementCheck k w ≡ Finding.Accepted
+  check-shown e p q = sym (check-rest k w _ (sym e) refl) ∙ sym p ∙ q
+
+pub never : {A : Type 0} → false ≡ true → A
+never e = absurd (let z : _≡_ {A = ℕ} 0 1 = cc in omega arith)
 
 -- from what `read_fields` ensures
 module _ (k : Kind) (w : ℕ) (r : Fields) (e : r ≡ fieldsRead w (rowsOf k)) where

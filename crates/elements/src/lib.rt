@@ -7,7 +7,11 @@ use rows::Fields;
 use rows::Finding;
 use rows::Refusal;
 ghost use mathlib.Core.Path.{_≡_};
-ghost use Prim.Native.Nat.{_≤_};
+ghost use mathlib.Core.Bool.{true};
+ghost use Prim.Native.Nat.{_+_, _≤_};
+ghost use lib.ListN.{length, take, drop};
+ghost use Rattle.octets.specs.Octets.{number};
+ghost use Rattle.rows.specs.declared.Finding.{Finding};
 ghost use Rattle.rows.specs.Fields.{checkRows, fieldsRead};
 ghost use Rattle.kinds.specs.Kinds.{layoutNo, widthOf, rowsOf};
 ghost use Rattle.elements.specs.Elements.{sortOf, carried, kindOf, kindNumbered, sameKind, datRule, elementCheck, stateRead, wordOf};
@@ -27,6 +31,49 @@ pub fn check_element(word: u32, kind: Kind) -> Finding
         return finding;
     };
     dat_rule(word, kind)
+}
+
+// The same, quicker for one that is accepted.
+pub fn quick_check(word: u32, kind: Kind) -> Finding
+    ensures { λ r. ⌜ r ≡ elementCheck kind word ⌝ }
+{
+    let listed = rows::carries_none(word, kinds::marks(kind));
+    check_looked(word, kind, listed)
+}
+
+// The same, of the element at a place.
+pub fn check_at(s: &[u8], at: usize, kind: Kind) -> Finding
+    requires { ⌜ at + widthOf kind ≤ length (now s) ⌝ }
+    ensures { λ r. ⌜ r ≡ elementCheck kind (number (take (widthOf kind) (drop at (now (s .entry))))) ⌝ }
+{
+    let look = kinds::look_at(kind, s, at);
+    check_looked(look.word, kind, look.listed)
+}
+
+// After a glance: the rows are gone through only where it doesn't show that the element is accepted.
+fn check_looked(word: u32, kind: Kind, listed: bool) -> Finding
+    requires { ⌜ (listed ≡ true → checkRows word (rowsOf kind) ≡ Finding.Accepted) ⌝ }
+    ensures { λ r. ⌜ r ≡ elementCheck kind word ⌝ }
+{
+    if is_shown(word, kind, listed) {
+        return Finding::Accepted;
+    }
+    check_element(word, kind)
+}
+
+// Whether the glance shows that the element is accepted: all fields have listed values, and the rule of DAT is kept.
+fn is_shown(word: u32, kind: Kind, listed: bool) -> bool
+    requires { ⌜ (listed ≡ true → checkRows word (rowsOf kind) ≡ Finding.Accepted) ⌝ }
+    ensures { λ r. ⌜ (r ≡ true → elementCheck kind word ≡ Finding.Accepted) ⌝ }
+{
+    if !listed {
+        return false;
+    }
+    let silent = dat_rule(word, kind);
+    if let Finding::Refused(_) = silent {
+        return false;
+    }
+    true
 }
 
 // The state of an element, or its refusal.
@@ -133,14 +180,14 @@ fn read_fields(word: u32, kind: Kind) -> Fields
 fn dat_rule(word: u32, kind: Kind) -> Finding
     ensures { λ r. ⌜ r ≡ datRule kind word ⌝ }
 {
-    let layout = kinds::layout(kind);
-    if !layout.dat {
-        return Finding::Accepted;
-    }
     if word % 2 == 1 {
         return Finding::Accepted;
     }
     if word == 0 {
+        return Finding::Accepted;
+    }
+    let layout = kinds::layout(kind);
+    if !layout.dat {
         return Finding::Accepted;
     }
     Finding::Refused(Refusal { code: 12, bit: 0 })

@@ -33,29 +33,35 @@ pub ended : {ns b : List ℕ} {i at : ℕ} → Left ns b i at → length ns ≤ 
 ended {ns} {b} {i} {at} l h =
     told-done (readWords i [] (drop at b)) refl refl ∙ sym (l .same ∙ ap (λ (ks : List Kind). told (readWords i ks (drop at b))) (kinds-end ns i h))
 
--- over what the code has in hand: the kind, its width, the word, what is found
+-- over what the code has in hand: the kind, its width, what is found
 module _ {ns b : List ℕ} {i at : ℕ} (l : Left ns b i at) (h : i < length ns) {kind : Kind} (kind-is : kind ≡ kindAt (kindsOf ns) i) {w : ℕ} (w-is : w ≡ widthOf kind) where
   pub has-room : at + w ≤ length b
   has-room =
       let e : w ≡ widthOf (kindAt (kindsOf ns) i) = w-is ∙ ap widthOf kind-is in
       omega (arith, l .room, ap widths (kinds-next ns i h))
 
-  module _ {word : ℕ} (word-is : word ≡ number (take w (drop at b))) {found : Finding} (found-is : found ≡ elementCheck kind word) where
+  pub room-for : at + widthOf kind ≤ length b
+  room-for = rw (sym w-is) has-room
+
+  module _ {found : Finding} (found-is : found ≡ elementCheck kind (number (take (widthOf kind) (drop at b)))) where
+    word : ℕ
+    word = number (take (widthOf kind) (drop at b))
+
     -- the rest, after this object's element
     next : Verdict (List ℕ)
     next = then (readWords (suc i) (drop (i + 1) (kindsOf ns)) (drop w (drop at b))) (λ ws. done (word ∷ ws))
 
     here : told (readWords 0 (kindsOf ns) b) ≡ told (found of i ⨾ next)
-    unfolding element next
+    unfolding element next word
     here =
         l .same ∙ ap (λ (ks : List Kind). told (readWords i ks (drop at b))) (kinds-next ns i h ∙ ap (λ (k : Kind). k ∷ drop (i + 1) (kindsOf ns)) (sym kind-is))
-        ∙ rw (← w-is, ← word-is, ← found-is)
+        ∙ rw (← found-is, w-is)
 
     pub stops : {r : Refusal} → found ≡ Finding.Refused r → numbers (r .code) i (r .bit) 0 ≡ told (readWords 0 (kindsOf ns) b)
     stops {r} e = told-refused (found of i ⨾ next) (is-bad found i next r e) refl ∙ sym here
 
     pub goes-on : found ≡ Finding.Accepted → Left ns b (i + 1) (at + w)
-    unfolding next
+    unfolding next word
     goes-on e =
         let one : suc i ≡ i + 1 = omega arith in
         let wide : w ≡ widthOf (kindAt (kindsOf ns) i) = w-is ∙ ap widthOf kind-is in

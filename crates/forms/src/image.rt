@@ -70,8 +70,7 @@ fn check_words(kinds: &[u8], words: &[u8]) -> Answer
     while i < kinds.len() {
         let kind = kind_at(kinds, i);
         let width = elements::width(kind);
-        let word = octets::get_at(words, at, width);
-        let finding = elements::check_element(word, kind);
+        let finding = elements::check_at(words, at, kind);
         if let Finding::Refused(r) = finding {
             return refused_bit(r.code, i as u16, r.bit);
         }

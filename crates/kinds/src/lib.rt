@@ -2,6 +2,7 @@
 // Written by catalogue/write.py from catalogue/fields.tsv. It checks nothing: whoever adds a type adds it here, and the floors
 // above go by the layout.
 use rows::Layout;
+use rows::Marks;
 use states::ChangerSignal;
 use states::ControlBoundary;
 use states::CrossingTrackCircuit;
@@ -14,8 +15,12 @@ use states::PointsTrackCircuit;
 use states::Signal;
 use states::VirtualBoard;
 ghost use mathlib.Core.Path.{_≡_};
+ghost use Prim.Native.Nat.{_+_, _≤_};
+ghost use lib.Dec.{T};
+ghost use lib.ListN.{length};
 ghost use Rattle.rows.specs.Fields.{padded};
-ghost use Rattle.kinds.specs.Kinds.{layoutOf, sortNumbered, kindIn, elementOf, elementValues};
+ghost use Rattle.rows.specs.Marks.{marked};
+ghost use Rattle.kinds.specs.Kinds.{layoutOf, widthOf, rowsOf, Looked, sortNumbered, kindIn, elementOf, elementValues};
 
 // The kinds of element that are carried.
 pub enum Kind {
@@ -51,6 +56,12 @@ pub enum Element {
 pub enum Sort {
     Carried(Kind),
     Other,
+}
+
+// The number of an element, and whether a glance shows that its fields have listed values.
+pub struct Look {
+    pub word: u32,
+    pub listed: bool,
 }
 
 // A kind's layout.
@@ -136,6 +147,107 @@ pub fn layout(kind: Kind) -> Layout
             dat: true,
         },
     }
+}
+
+// A kind's marks.
+pub fn marks(kind: Kind) -> Marks
+    ensures { λ r. ⌜ T (marked (r .add) (r .carry) (rowsOf kind)) ⌝ }
+{
+    match kind {
+        Kind::Signal => return Marks {
+            add: 2147483704,
+            carry: 4294967568,
+        },
+        Kind::ChangerSignal => return Marks {
+            add: 248,
+            carry: 256,
+        },
+        Kind::VirtualBoard => return Marks {
+            add: 242,
+            carry: 264,
+        },
+        Kind::LineTrackCircuit => return Marks {
+            add: 52288,
+            carry: 73984,
+        },
+        Kind::PointsTrackCircuit => return Marks {
+            add: 52452,
+            carry: 74056,
+        },
+        Kind::CrossingTrackCircuit => return Marks {
+            add: 34112,
+            carry: 70912,
+        },
+        Kind::DualDetection => return Marks {
+            add: 192,
+            carry: 256,
+        },
+        Kind::Points => return Marks {
+            add: 16266560,
+            carry: 16815360,
+        },
+        Kind::ElectricLock => return Marks {
+            add: 240,
+            carry: 256,
+        },
+        Kind::GeneralNotices => return Marks {
+            add: 65152,
+            carry: 66048,
+        },
+        Kind::ControlBoundary => return Marks {
+            add: 61508,
+            carry: 66080,
+        },
+    }
+}
+
+// The element of a kind at a place, and what a glance shows of it.
+pub fn look_at(kind: Kind, s: &[u8], at: usize) -> Look
+    requires { ⌜ at + widthOf kind ≤ length (now s) ⌝ }
+    ensures { λ r. ⌜ Looked kind (now (s .entry)) at r ⌝ }
+{
+    match kind {
+        Kind::Signal => return look_by(Kind::Signal, s, at, Signal::WIDTH),
+        Kind::ChangerSignal => return look_by(Kind::ChangerSignal, s, at, ChangerSignal::WIDTH),
+        Kind::VirtualBoard => return look_by(Kind::VirtualBoard, s, at, VirtualBoard::WIDTH),
+        Kind::LineTrackCircuit => return look_by(
+            Kind::LineTrackCircuit,
+            s,
+            at,
+            LineTrackCircuit::WIDTH,
+        ),
+        Kind::PointsTrackCircuit => return look_by(
+            Kind::PointsTrackCircuit,
+            s,
+            at,
+            PointsTrackCircuit::WIDTH,
+        ),
+        Kind::CrossingTrackCircuit => return look_by(
+            Kind::CrossingTrackCircuit,
+            s,
+            at,
+            CrossingTrackCircuit::WIDTH,
+        ),
+        Kind::DualDetection => return look_by(Kind::DualDetection, s, at, DualDetection::WIDTH),
+        Kind::Points => return look_by(Kind::Points, s, at, Points::WIDTH),
+        Kind::ElectricLock => return look_by(Kind::ElectricLock, s, at, ElectricLock::WIDTH),
+        Kind::GeneralNotices => return look_by(Kind::GeneralNotices, s, at, GeneralNotices::WIDTH),
+        Kind::ControlBoundary => return look_by(
+            Kind::ControlBoundary,
+            s,
+            at,
+            ControlBoundary::WIDTH,
+        ),
+    }
+}
+
+fn look_by(kind: Kind, s: &[u8], at: usize, width: usize) -> Look
+    requires { ⌜ (width ≡ widthOf kind) × (width ≤ 4) × (at + widthOf kind ≤ length (now s)) ⌝ }
+    ensures { λ r. ⌜ Looked kind (now (s .entry)) at r ⌝ }
+{
+    let word = octets::get_at(s, at, width);
+    let listed = rows::carries_none(word, marks(kind));
+    Look { word, listed }
 }
 
 // The kind whose layout has a number, if there is one.

@@ -141,11 +141,10 @@ four-bytes (x ∷ y ∷ z ∷ v ∷ w ∷ b) h k e f = absurd (omega arith)
 pub under : (b : List ℕ) → ((i : ℕ) → Fits w8 (getD b i 0)) → {r : ℕ} → r ≡ number b → r < 256 ^ length b
 under b h e = rw e (number-lt b (λ i. h i .fits))
 
--- what is read of the part from a place on is the number there
-pub part-number : (s : List ℕ) (at width r : ℕ) → at + width ≤ length s
-    → (r ≡ number (take (at + width - at) (drop at s))) × (r < 256 ^ length (take (at + width - at) (drop at s)))
-    → (r ≡ number (take width (drop at s))) × (r < 256 ^ width)
-part-number s at width r h e =
-    let w : at + width - at ≡ width = omega arith in
-    let long : length (take width (drop at s)) ≡ width = length-take-le width (drop at s) (rw length-drop (omega arith)) in
-    rw long at (rw w at e)
+-- from a place on, with one byte more
+pub number-after : (s : List ℕ) (at i v : ℕ) → at + i < length s → v ≡ number (take i (drop at s)) → v * 256 + getD s (at + i) 0 ≡ number (take (i + 1) (drop at s))
+number-after s at i v h e = rw (number-next (drop at s) i (rw length-drop (omega arith)), getD-drop at s i 0, e)
+
+-- of a width that is known, the number of so many bytes
+pub as-wide : (s : List ℕ) (at : ℕ) {w k r : ℕ} → (r ≡ number (take k (drop at s))) × (r < 256 ^ k) → w ≡ k → (r ≡ number (take w (drop at s))) × (r < 256 ^ w)
+as-wide s at h e = rw e h

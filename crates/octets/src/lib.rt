@@ -33,13 +33,35 @@ fn pair(high: u8, low: u8) -> u32
     high as u32 * 256 + low as u32
 }
 
-// The number of the bytes from a place on.
+// The number of the bytes from a place on, byte by byte and without a loop: a width is at most 4.
 pub fn get_at(s: &[u8], at: usize, width: usize) -> u32
     requires { ⌜ (at + width ≤ length (now s)) × (width ≤ 4) ⌝ }
     ensures { λ r. ⌜ (r ≡ number (take width (drop at (now (s .entry))))) × (r < 256 ^ width) ⌝ }
 {
-    let end = at + width;
-    get(&s[at..end])
+    if width == 0 {
+        return 0;
+    }
+    let one = get_next(s, at, 0, 0);
+    if width == 1 {
+        return one;
+    }
+    let two = get_next(s, at, 1, one);
+    if width == 2 {
+        return two;
+    }
+    let three = get_next(s, at, 2, two);
+    if width == 3 {
+        return three;
+    }
+    get_next(s, at, 3, three)
+}
+
+// The number of one byte more, from that of the first i.
+fn get_next(s: &[u8], at: usize, i: usize, value: u32) -> u32
+    requires { ⌜ (at + i < length (now s)) × (i < 4) × (value ≡ number (take i (drop at (now s)))) × (value < 256 ^ i) ⌝ }
+    ensures { λ r. ⌜ (r ≡ number (take (i + 1) (drop at (now (s .entry))))) × (r < 256 ^ (i + 1)) ⌝ }
+{
+    value * 256 + s[at + i] as u32
 }
 
 // Fills the part with the number's bytes; what is too large for it loses its highest bytes.

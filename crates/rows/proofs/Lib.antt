@@ -4,3 +4,4 @@ pub mod Words
 pub mod Loops
 pub mod Listed
 pub mod Covering
+pub mod Glance

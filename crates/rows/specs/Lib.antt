@@ -1,3 +1,4 @@
 pub mod Table
 pub mod Fields
 pub mod Covering
+pub mod Marks

@@ -5,6 +5,7 @@ ghost use mathlib.Core.Path.{_≡_};
 ghost use Prim.Native.Nat.{_<_, _≤_, _+_, _-_, _*_};
 ghost use Rattle.rows.specs.Table.{table, rowTotal, cellAt, rowAt, rowsFrom};
 ghost use Rattle.rows.specs.Fields.{fieldRead, findingOf, checkRows, fieldsRead, refusedFields, composeOf, bearing};
+ghost use Rattle.rows.specs.Marks.{carriesNone};
 
 // A row each: layout, lowest bit, width, highest admitted value (0: reserved). Written by catalogue/write.py.
 const ROWS: [u8; 428] = [
@@ -447,6 +448,13 @@ pub struct Layout {
     pub dat: bool,
 }
 
+// A layout's marks, for a glance at all fields at once: what is added to each field that doesn't admit every value, and the bits that
+// a value that isn't listed then carries into.
+pub struct Marks {
+    pub add: u32,
+    pub carry: u64,
+}
+
 // What a refused element says: the code, and the lowest bit of its field.
 pub struct Refusal {
     pub code: u8,
@@ -564,6 +572,16 @@ pub fn check_rows(word: u32, number: u8, first: usize) -> Finding
         row += 1;
     }
     Finding::Accepted
+}
+
+// Whether an element's number and what is added to its fields carry nothing into a marked bit. Then each field has a listed value.
+pub fn carries_none(word: u32, marks: Marks) -> bool
+    ensures { λ r. ⌜ r ≡ carriesNone (marks .add) (marks .carry) word ⌝ }
+{
+    let number = word as u64;
+    let more = marks.add as u64;
+    let carried = ((number + more) ^ number) ^ more;
+    carried & marks.carry == 0
 }
 
 // The number whose fields by the rows first, first + 1, .. are the values.

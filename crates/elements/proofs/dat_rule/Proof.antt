@@ -7,16 +7,16 @@ use Rattle.elements.proofs.dat_rule.Statement.{statement}
 use Rattle.elements.proofs.dat_rule.Tie as tie
 
 returns : tie.Need-returns
-returns c = search (no-dat, not-true)
+returns c = search current
 
 returns-2 : tie.Need-returns-2
-returns-2 c = search (current, not-false)
+returns-2 c = search without-data
 
 returns-3 : tie.Need-returns-3
-returns-3 c = search (without-data, not-false)
+returns-3 c = search (no-dat, not-true)
 
 returns-4 : tie.Need-returns-4
 returns-4 c = search (stale, not-false)
 
 pub dat-rule-spec : {M : Type 1} → statement M
-dat-rule-spec = tie.close (tie.spec (λ c κs. search needs) returns returns-2 returns-3 returns-4)
+dat-rule-spec = tie.close (tie.spec returns returns-2 (λ c κs. search needs) returns-3 returns-4)

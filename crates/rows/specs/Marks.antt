@@ -1,0 +1,24 @@
+-- A glance at all fields of a number at once. Of each row that doesn't admit every value of its field two marks are kept: what is
+-- added to the field, so that a value that isn't listed carries out of it, and the bit that it carries into.
+use mathlib.Core.Bool.{Bool, true, cond, _&&_}
+use mathlib.Core.List.{List, [], _∷_}
+use Prim.Native.Nat.{ℕ, suc, _+_, _/_, _%_, _^_}
+use lib.Bits.{bitAnd, bitXor}
+use lib.Dec.{eqb}
+use Rattle.rows.specs.Table.{Row}
+
+-- the row admits every value that its field can hold
+abbrev pub full : Row → Bool
+full r = eqb (suc (r .top)) (2 ^ r .width)
+
+-- a row's marks: the highest listed value and what is added fill the field, and the bit above it is marked
+abbrev pub marks : ℕ → ℕ → Row → Bool
+marks add carry r = eqb (suc (add / 2 ^ r .low % 2 ^ r .width + r .top)) (2 ^ r .width) && eqb (carry / 2 ^ (r .width + r .low) % 2) 1
+
+abbrev pub marked : ℕ → ℕ → List Row → Bool
+marked add carry [] = true
+marked add carry (r ∷ rs) = cond (full r) true (marks add carry r) && marked add carry rs
+
+-- nothing is carried into a marked bit
+unfoldable pub carriesNone : ℕ → ℕ → ℕ → Bool
+carriesNone add carry w = eqb (bitAnd (bitXor (bitXor (w + add) w) add) carry) 0
