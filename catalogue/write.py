@@ -45,10 +45,10 @@ class Layout:
         self.dat = struct not in WITHOUT_DAT
         self.key = low(struct)
         self.fields = [r for r in rows if not r.reserved]
+        self.named = [r for r in rows if r.named]
         narrow = [r for r in rows if r.top + 1 < 2 ** r.width]
         self.add = sum((2 ** r.width - 1 - r.top) << r.low for r in narrow)
         self.carry = sum(1 << r.low + r.width for r in narrow)
-        self.named = [r for r in rows if r.named]
 
 
 def low(name):
@@ -495,7 +495,7 @@ def kinds_source():
 
     kind = lambda l: f'Kind::{l.struct}'
     text = f'''// The floor of kinds: the kinds of element, one for each layout, the state of any kind, and every function that goes by the kind.
-// Written by catalogue/write.py from catalogue/fields.tsv. It checks nothing: whoever adds a type adds it here, and the floors
+// Written by catalogue/write.py from catalogue/fields.tsv. It refuses nothing: whoever adds a type adds it here, and the floors
 // above go by the layout.
 use rows::Layout;
 use rows::Marks;
@@ -505,8 +505,9 @@ ghost use Prim.Native.Nat.{{_+_, _≤_}};
 ghost use lib.Dec.{{T}};
 ghost use lib.ListN.{{length}};
 ghost use Rattle.rows.specs.Fields.{{padded}};
-ghost use Rattle.rows.specs.Marks.{{marked}};
-ghost use Rattle.kinds.specs.Kinds.{{layoutOf, widthOf, rowsOf, Looked, sortNumbered, kindIn, elementOf, elementValues}};
+ghost use Rattle.rows.specs.Marks.{{marked, Shows}};
+ghost use Rattle.kinds.specs.Kinds.{{layoutOf, widthOf, rowsOf, sortNumbered, kindIn, elementOf, elementValues}};
+ghost use Rattle.kinds.specs.Glances.{{Glanced}};
 
 // The kinds of element that are carried.
 pub enum Kind {{
@@ -522,8 +523,8 @@ pub enum Sort {{
     Other,
 }}
 
-// The number of an element, and whether a glance shows that its fields have listed values.
-pub struct Look {{
+// What a glance at an element gives: its number, and whether each field is shown to have a listed value.
+pub struct Glance {{
     pub word: u32,
     pub listed: bool,
 }}
@@ -542,23 +543,31 @@ pub fn layout(kind: Kind) -> Layout
         }}''', kind)
     text += '''
 // A kind's marks.
-pub fn marks(kind: Kind) -> Marks
+fn marks(kind: Kind) -> Marks
     ensures { λ r. ⌜ T (marked (r .add) (r .carry) (rowsOf kind)) ⌝ }
 {
-''' + match('kind', lambda l: f'Marks {{ add: {l.add}, carry: {l.carry} }}', kind) + '''
-// The element of a kind at a place, and what a glance shows of it.
-pub fn look_at(kind: Kind, s: &[u8], at: usize) -> Look
-    requires { ⌜ at + widthOf kind ≤ length (now s) ⌝ }
-    ensures { λ r. ⌜ Looked kind (now (s .entry)) at r ⌝ }
+''' + match('kind', lambda l: f'Marks {{ add: {l.add:#x}, carry: {l.carry:#x} }}', kind) + '''
+// Whether a glance shows that each field of an element's number has a listed value. Where it doesn't, the rows tell.
+pub fn shows_listed(word: u32, kind: Kind) -> bool
+    ensures { λ r. ⌜ Shows (rowsOf kind) word r ⌝ }
 {
-''' + match('kind', lambda l: f'look_by(Kind::{l.struct}, s, at, {l.struct}::WIDTH)', kind) + '''
-fn look_by(kind: Kind, s: &[u8], at: usize, width: usize) -> Look
+    rows::carries_none(word, marks(kind))
+}
+
+// A glance at the element at a place. Each kind has its own arm, in which its width and its marks are known to the compiler.
+pub fn glance_at(s: &[u8], at: usize, kind: Kind) -> Glance
+    requires { ⌜ at + widthOf kind ≤ length (now s) ⌝ }
+    ensures { λ r. ⌜ Glanced kind (now (s .entry)) at r ⌝ }
+{
+''' + match('kind', lambda l: f'glance_by(s, at, kind, {l.struct}::WIDTH)', kind) + '''
+// The same, by the kind's width.
+fn glance_by(s: &[u8], at: usize, kind: Kind, width: usize) -> Glance
     requires { ⌜ (width ≡ widthOf kind) × (width ≤ 4) × (at + widthOf kind ≤ length (now s)) ⌝ }
-    ensures { λ r. ⌜ Looked kind (now (s .entry)) at r ⌝ }
+    ensures { λ r. ⌜ Glanced kind (now (s .entry)) at r ⌝ }
 {
     let word = octets::get_at(s, at, width);
-    let listed = rows::carries_none(word, marks(kind));
-    Look { word, listed }
+    let listed = shows_listed(word, kind);
+    Glance { word, listed }
 }
 
 // The kind whose layout has a number, if there is one.
@@ -593,15 +602,10 @@ def kinds_specs():
     text = '''-- An element state is one of the types, each with its own struct: the kinds, the layout of each, and the state of any kind from
 -- its fields' values.
 -- Written by catalogue/write.py.
-use mathlib.Core.Path.{_≡_}
-use mathlib.Core.Bool.{true, cond}
+use mathlib.Core.Bool.{cond}
 use mathlib.Core.List.{List, [], _∷_}
 use Prim.Native.Nat.{ℕ}
 use lib.Dec.{eqb}
-use lib.ListN.{take, drop}
-use Rattle.octets.specs.Octets.{number}
-use Rattle.rows.specs.Fields.{checkRows}
-use Rattle.rows.specs.declared.Finding.{Finding}
 use Rattle.rows.specs.Table.{Row, layoutAt}
 use Rattle.rows.specs.Covering.{layoutRows}
 use Rattle.rows.specs.declared.Layout.{Layout}
@@ -610,7 +614,6 @@ use Rattle.rows.specs.declared.Layout.{Layout}
     text += f'''use Rattle.kinds.specs.declared.Kind.{{Kind}}
 use Rattle.kinds.specs.declared.Element.{{Element}}
 use Rattle.kinds.specs.declared.Sort.{{Sort}}
-use Rattle.kinds.specs.declared.Look.{{Look}}
 
 abbrev pub kinds : List Kind
 kinds = {kinds} ∷ []
@@ -630,11 +633,6 @@ widthOf k = layoutOf k .bytes
 abbrev pub rowsOf : Kind → List Row
 rowsOf k = layoutRows (layoutOf k)
 
--- of the element at a place: its number, and that each field has a listed value where a glance shows it
-pub record Looked (k : Kind) (b : List ℕ) (at : ℕ) (r : Look) : Type 0 where
-  pub read : r .word ≡ number (take (widthOf k) (drop at b))
-  pub shown : r .listed ≡ true → checkRows (r .word) (rowsOf k) ≡ Finding.Accepted
-
 -- the kind whose layout has a number
 abbrev pub sortIn : ℕ → List Kind → Sort
 sortIn n [] = Sort.Other
@@ -650,6 +648,26 @@ abbrev pub elementValues : Element → List ℕ
 abbrev pub kindIn : Element → Kind
 {''.join(f"kindIn (Element.{s} s) = Kind.{s}{chr(10)}" for s in STRUCTS)}'''
     return text
+
+
+def glance_specs():
+    return '''-- A glance at the element at a place: a device of the code, nothing to believe.
+-- Written by catalogue/write.py.
+use mathlib.Core.Path.{_≡_}
+use mathlib.Core.List.{List}
+use Prim.Native.Nat.{ℕ}
+use lib.ListN.{take, drop}
+use Rattle.octets.specs.Octets.{number}
+use Rattle.rows.specs.Marks.{Shows}
+use Rattle.kinds.specs.Kinds.{widthOf, rowsOf}
+use Rattle.kinds.specs.declared.Kind.{Kind}
+use Rattle.kinds.specs.declared.Glance.{Glance}
+
+-- the element's number, and what a glance says of its fields
+pub record Glanced (k : Kind) (b : List ℕ) (at : ℕ) (r : Glance) : Type 0 where
+  pub read : r .word ≡ number (take (widthOf k) (drop at b))
+  pub shown : Shows (rowsOf k) (r .word) (r .listed)
+'''
 
 
 def lookup_law():
@@ -789,58 +807,52 @@ fits add carry e t = subst⁻¹ (λ (k : Kind). T (marked add carry (rowsOf k)))
     return text + spec_end('marks', each(told(n), arms)).replace('statement M\n', 'statement M\nunfolding table layouts\n')
 
 
-def look_proof():
+def shows_listed_proof():
+    return f'''-- `kinds::shows_listed` meets its contract: the marks are those of the kind's rows.
+-- Written by catalogue/write.py. Assumes nothing.
+use Rattle.rows.proofs.Glance.{{shows}}
+{ties('kinds', 'shows_listed')}
+returns : tie.Need-returns
+returns c = shows _ _ (c .before .marks .ensures) (c .carries-none .ensures)
+
+{spec_end('shows-listed', [CALL, CALL, 'returns'])}'''
+
+
+def glance_at_proof():
     n = len(LAYOUTS)
-    calls = [
-        f'(λ c κs. let start = c .before .before .before in (refl, lit≤ tt, by-kind (start .args .at) (start .args .s .now) (c .{nth("enum-told", i)} .given .1) (start .pre)))'
-        for i in range(1, n + 1)]
-    arms = [f'(λ c. of-kind (c .before .{nth("enum-told", i)} .given .1) (c .{nth("look-by", i)} .ensures))' for i in range(1, n + 1)]
-    text = f'''-- `kinds::look_at` meets its contract: each kind by its own width.
+    calls = [f'(λ c κs. (sym (ap widthOf (c .{nth("enum-told", i)} .given .1)), lit≤ tt, c .before .before .before .pre))' for i in range(1, n + 1)]
+    arms = [f'(λ c. c .{nth("glance-by", i)} .ensures)' for i in range(1, n + 1)]
+    text = f'''-- `kinds::glance_at` meets its contract: each kind by its own width.
 -- Written by catalogue/write.py. Assumes nothing.
-use mathlib.Core.Path.{{_≡_, refl, subst, subst⁻¹}}
-use mathlib.Core.List.{{List}}
-use Prim.Native.Nat.{{ℕ, _+_, _≤_}}
+use mathlib.Core.Path.{{sym, ap}}
 use lib.Dec.{{lit≤}}
-use lib.ListN.{{length}}
 use Rattle.rows.specs.Table.{{layouts}}
-use Rattle.kinds.specs.Kinds.{{widthOf, Looked}}
-use Rattle.kinds.specs.declared.Kind.{{Kind}}
-use Rattle.kinds.specs.declared.Look.{{Look}}
-{ties('kinds', 'look_at')}
-by-kind : (at : ℕ) (b : List ℕ) {{k j : Kind}} → k ≡ j → at + widthOf k ≤ length b → at + widthOf j ≤ length b
-by-kind at b e h = subst (λ (k : Kind). at + widthOf k ≤ length b) e h
-
-of-kind : {{b : List ℕ}} {{at : ℕ}} {{r : Look}} {{k j : Kind}} → k ≡ j → Looked j b at r → Looked k b at r
-of-kind {{b}} {{at}} {{r}} e l = subst⁻¹ (λ (k : Kind). Looked k b at r) e l
-
+use Rattle.kinds.specs.Kinds.{{widthOf}}
+{ties('kinds', 'glance_at')}
 '''
-    return text + spec_end('look-at', each(told(n), calls, arms)).replace('statement M\n', 'statement M\nunfolding layouts\n')
+    return text + spec_end('glance-at', each(told(n), calls, arms)).replace('statement M\n', 'statement M\nunfolding layouts\n')
 
 
-def look_by_proof():
-    return f'''-- `kinds::look_by` meets its contract: the number of as many bytes as the kind is wide, and its marks.
+def glance_by_proof():
+    return f'''-- `kinds::glance_by` meets its contract: the number of as many bytes as the kind is wide, and what is shown of it.
 -- Written by catalogue/write.py. Assumes nothing.
-use mathlib.Core.Path.{{_∙_, sym, ap}}
+use mathlib.Core.Path.{{_∙_, ap}}
 use Prim.Native.Nat.{{ℕ}}
 use native.Mathlib.Omega.{{arith}}
-use borrow.Author.Needs.{{needs}}
 use lib.ListN.{{take, drop}}
 use Rattle.octets.specs.Octets.{{number}}
-use Rattle.rows.proofs.Glance.{{none-carried}}
-use Rattle.kinds.specs.Kinds.{{rowsOf}}
-{ties('kinds', 'look_by')}
+{ties('kinds', 'glance_by')}
 returns : tie.Need-returns
 returns c =
-    let marked = c .before in
-    let read = marked .before in
+    let read = c .before in
     let start = read .before .before in
     let a = start .args in
     record {{
       read = read .get-at .ensures .0 ∙ ap (λ (n : ℕ). number (take n (drop (a .at) (a .s .now)))) (start .pre .0);
-      shown = λ e. none-carried _ _ _ (sym (c .carries-none .ensures) ∙ e) (rowsOf (a .kind)) (marked .marks .ensures);
+      shown = c .shows-listed .ensures;
     }}
 
-{spec_end('look-by', ['(λ c κs. (omega arith, omega arith))', CALL, CALL, 'returns'])}'''
+{spec_end('glance-by', ['(λ c κs. (omega arith, omega arith))', CALL, 'returns'])}'''
 
 
 def files(source):
@@ -859,16 +871,18 @@ def files(source):
         'states/proofs/Lib.antt': 'pub mod StateLaws\n',
         'states/proofs/StateLaws.antt': states_laws(),
         'kinds/src/lib.rt': kinds_source(),
-        'kinds/specs/Lib.antt': 'pub mod Kinds\n',
+        'kinds/specs/Lib.antt': 'pub mod Kinds\npub mod Glances\n',
         'kinds/specs/Kinds.antt': kinds_specs(),
+        'kinds/specs/Glances.antt': glance_specs(),
         'kinds/proofs/Lib.antt': 'pub mod Lookup\npub mod KindLaws\n',
         'kinds/proofs/Lookup.antt': lookup_law(),
         'kinds/proofs/KindLaws.antt': kinds_laws(),
         'kinds/proofs/layout/Proof.antt': by_kind_proof('layout', 'layoutOf', 'use Rattle.rows.specs.Table.{layouts}\n', 'layouts'),
         'kinds/proofs/kind_in/Proof.antt': by_kind_proof('kind_in', 'kindIn', '', ''),
         'kinds/proofs/marks/Proof.antt': marks_proof(),
-        'kinds/proofs/look_at/Proof.antt': look_proof(),
-        'kinds/proofs/look_by/Proof.antt': look_by_proof(),
+        'kinds/proofs/shows_listed/Proof.antt': shows_listed_proof(),
+        'kinds/proofs/glance_at/Proof.antt': glance_at_proof(),
+        'kinds/proofs/glance_by/Proof.antt': glance_by_proof(),
         'kinds/proofs/sort_numbered/Proof.antt': sort_proof(),
         'kinds/proofs/element_of/Proof.antt': per_kind_proof(
             'element_of',

@@ -1,48 +1,41 @@
 -- The answers of the functions over elements, from what their callees ensure.
 -- Assumes nothing.
-use mathlib.Core.Path.{_≡_, _∙_, refl, sym, ap, ap₂}
-use mathlib.Core.Bool.{Bool, true, false}
+use mathlib.Core.Path.{_≡_, _∙_, sym, ap, ap₂}
+use mathlib.Core.Bool.{Bool, true, false, cond}
 use mathlib.Core.List.{List}
 use Prim.Native.Nat.{ℕ, _+_, _%_, _<_, _≤_}
-use native.Mathlib.Omega.{arith}
-use lib.Dec.{T}
-use lib.ListN.{replicate}
+use borrow.Author.Tests.{ne-eqb}
+use lib.ListN.{take, drop, replicate}
+use Rattle.octets.specs.Octets.{number}
 use Rattle.rows.specs.Table.{rowTotal, rowsFrom}
 use Rattle.rows.specs.Fields.{codeAt, checkRows, valuesOf, composeOf, padded, onFinding, fieldsRead}
-use Rattle.rows.specs.Marks.{marked, carriesNone}
-use Rattle.rows.specs.declared.Marks.{Marks}
+use Rattle.rows.specs.Marks.{Shows}
 use Rattle.rows.specs.declared.Refusal.{Refusal}
 use Rattle.rows.specs.declared.Fields.{Fields}
 use Rattle.rows.specs.declared.Finding.{Finding}
 use Rattle.rows.specs.declared.Layout.{Layout}
-use Rattle.rows.proofs.Glance.{none-carried}
-use Rattle.kinds.specs.Kinds.{layoutOf, rowsOf, elementOf, elementValues, kindIn}
+use Rattle.kinds.specs.Kinds.{layoutOf, widthOf, rowsOf, elementOf, elementValues, kindIn}
+use Rattle.kinds.specs.Glances.{Glanced}
 use Rattle.elements.specs.Elements.{datRule, elementCheck, stateOf, stateRead, wordOf}
 use Rattle.kinds.specs.declared.Kind.{Kind}
 use Rattle.kinds.specs.declared.Element.{Element}
+use Rattle.kinds.specs.declared.Glance.{Glance}
 use Rattle.elements.specs.declared.State.{State}
 use Rattle.elements.proofs.Covering.{cover}
-use Rattle.elements.proofs.DatLaws.{dat-absent, dat-stale, not-stale}
+use Rattle.elements.proofs.DatLaws.{not-stale}
 use Rattle.elements.proofs.Laws.{word-small, compose-padded}
 
--- the rule of DAT, from what `layout` ensures
-module _ (k : Kind) (w : ℕ) (l : Layout) (is : l ≡ layoutOf k) where
-  of-layout : {has : Bool} → l .dat ≡ has → layoutOf k .dat ≡ has
-  of-layout e = ap (λ (m : Layout). m .dat) (sym is) ∙ e
-
-  pub no-dat : l .dat ≡ false → Finding.Accepted ≡ datRule k w
-  no-dat e = sym (dat-absent k w (of-layout e))
-
-  pub stale : l .dat ≡ true → (w % 2 ≡ 1 → ⊥) → (w ≡ 0 → ⊥) → Finding.Refused (codeAt 12 0) ≡ datRule k w
-  stale e h z = sym (dat-stale k w (record { dat = of-layout e; silent = h; other = z }))
-
--- of any layout
+-- the rule of DAT, test by test
 module _ (k : Kind) (w : ℕ) where
-  pub current : w % 2 ≡ 1 → Finding.Accepted ≡ datRule k w
-  current h = sym (not-stale k w (λ s. s .silent h))
+  pub current : w % 2 ≡ 1 → datRule k w ≡ Finding.Accepted
+  current h = not-stale k w (λ s. s .silent h)
 
-  pub without-data : w ≡ 0 → Finding.Accepted ≡ datRule k w
-  without-data z = sym (not-stale k w (λ s. s .other z))
+  pub without-data : w ≡ 0 → datRule k w ≡ Finding.Accepted
+  without-data z = not-stale k w (λ s. s .other z)
+
+  pub by-layout : {l : Layout} → l ≡ layoutOf k → (w % 2 ≡ 1 → ⊥) → (w ≡ 0 → ⊥) → datRule k w ≡ cond (l .dat) (Finding.Refused (codeAt 12 0)) Finding.Accepted
+  unfolding datRule
+  by-layout e h z = rw (ne-eqb _ _ h, ne-eqb _ _ z, e)
 
 -- from what is found of the fields
 module _ (k : Kind) (w : ℕ) (f : Finding) (e : f ≡ checkRows w (rowsOf k)) where
@@ -54,16 +47,15 @@ module _ (k : Kind) (w : ℕ) (f : Finding) (e : f ≡ checkRows w (rowsOf k)) w
   unfolding elementCheck
   check-rest t = ap (λ (f : Finding). onFinding f (datRule k w) Finding.Refused) (sym t ∙ e)
 
--- from what a glance shows
-module _ (k : Kind) (w : ℕ) where
-  pub check-marked : (m : Marks) → T (marked (m .add) (m .carry) (rowsOf k)) → {b : Bool} → b ≡ carriesNone (m .add) (m .carry) w → b ≡ true → checkRows w (rowsOf k) ≡ Finding.Accepted
-  check-marked m t e h = none-carried w (m .add) (m .carry) (sym e ∙ h) (rowsOf k) t
+-- from what a glance shows, and the rule of DAT
+pub shown : (k : Kind) {w : ℕ} {listed stale : Bool} → Shows (rowsOf k) w listed → listed ≡ true
+    → datRule k w ≡ cond stale (Finding.Refused (codeAt 12 0)) Finding.Accepted → stale ≡ false → Finding.Accepted ≡ elementCheck k w
+unfolding elementCheck
+shown k s on e off = rw (s .accepted on, e, off)
 
-  pub check-shown : checkRows w (rowsOf k) ≡ Finding.Accepted → {d : Finding} → d ≡ datRule k w → d ≡ Finding.Accepted → elementCheck k w ≡ Finding.Accepted
-  check-shown e p q = sym (check-rest k w _ (sym e) refl) ∙ sym p ∙ q
-
-pub never : {A : Type 0} → false ≡ true → A
-never e = absurd (let z : _≡_ {A = ℕ} 0 1 = cc in omega arith)
+-- .. of the number that was read at a place
+pub number-at : (k : Kind) {b : List ℕ} {at : ℕ} {g : Glance} {f : Finding} → Glanced k b at g → f ≡ elementCheck k (g .word) → f ≡ elementCheck k (number (take (widthOf k) (drop at b)))
+number-at k s e = e ∙ ap (elementCheck k) (s .read)
 
 -- from what `read_fields` ensures
 module _ (k : Kind) (w : ℕ) (r : Fields) (e : r ≡ fieldsRead w (rowsOf k)) where

@@ -28,15 +28,15 @@ pub record Stale (k : Kind) (w : ℕ) : Type 0 where
 module _ (k : Kind) (w : ℕ) where
   -- ---- the rule by its cases
 
-  pub dat-absent : layoutOf k .dat ≡ false → datRule k w ≡ Finding.Accepted
+  dat-absent : layoutOf k .dat ≡ false → datRule k w ≡ Finding.Accepted
   unfolding datRule
   dat-absent e = rw e
 
-  pub dat-one : layoutOf k .dat ≡ true → w % 2 ≡ 1 → datRule k w ≡ Finding.Accepted
+  dat-one : layoutOf k .dat ≡ true → w % 2 ≡ 1 → datRule k w ≡ Finding.Accepted
   unfolding datRule
   dat-one e h = rw (e, eq-eqb _ _ h)
 
-  pub dat-none : layoutOf k .dat ≡ true → (w % 2 ≡ 1 → ⊥) → w ≡ 0 → datRule k w ≡ Finding.Accepted
+  dat-none : layoutOf k .dat ≡ true → (w % 2 ≡ 1 → ⊥) → w ≡ 0 → datRule k w ≡ Finding.Accepted
   unfolding datRule
   dat-none e h z = rw (e, ne-eqb _ _ h, eq-eqb _ _ z)
 

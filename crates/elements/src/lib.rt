@@ -1,5 +1,5 @@
-// The floor of elements: which types are carried, the check of an element's number, and a state as a number and back. It goes by
-// the rows of a kind's layout and names no kind but the one that stands for none. It knows no image and writes nothing.
+// The floor of elements: which types are carried, the check of an element, and a state as a number and back. It goes by the rows of a
+// kind's layout and names no kind but the one that stands for none. It knows no image and writes nothing.
 use kinds::Element;
 use kinds::Kind;
 use kinds::Sort;
@@ -7,12 +7,12 @@ use rows::Fields;
 use rows::Finding;
 use rows::Refusal;
 ghost use mathlib.Core.Path.{_≡_};
-ghost use mathlib.Core.Bool.{true};
+ghost use mathlib.Core.Bool.{cond};
 ghost use Prim.Native.Nat.{_+_, _≤_};
 ghost use lib.ListN.{length, take, drop};
 ghost use Rattle.octets.specs.Octets.{number};
 ghost use Rattle.rows.specs.declared.Finding.{Finding};
-ghost use Rattle.rows.specs.Fields.{checkRows, fieldsRead};
+ghost use Rattle.rows.specs.Fields.{codeAt, checkRows, fieldsRead};
 ghost use Rattle.kinds.specs.Kinds.{layoutNo, widthOf, rowsOf};
 ghost use Rattle.elements.specs.Elements.{sortOf, carried, kindOf, kindNumbered, sameKind, datRule, elementCheck, stateRead, wordOf};
 
@@ -22,58 +22,26 @@ pub enum State {
     Refused(Refusal),
 }
 
-// Fields from bit 0 up, then the rule of DAT.
+// Fields from bit 0 up, then the rule of DAT. Only where a glance doesn't show that it is accepted are its rows gone through.
 pub fn check_element(word: u32, kind: Kind) -> Finding
     ensures { λ r. ⌜ r ≡ elementCheck kind word ⌝ }
 {
-    let finding = check_fields(word, kind);
-    let Finding::Accepted = finding else {
-        return finding;
-    };
-    dat_rule(word, kind)
+    if kinds::shows_listed(word, kind) && !is_stale(word, kind) {
+        return Finding::Accepted;
+    }
+    check_by_rows(word, kind)
 }
 
-// The same, quicker for one that is accepted.
-pub fn quick_check(word: u32, kind: Kind) -> Finding
-    ensures { λ r. ⌜ r ≡ elementCheck kind word ⌝ }
-{
-    let listed = rows::carries_none(word, kinds::marks(kind));
-    check_looked(word, kind, listed)
-}
-
-// The same, of the element at a place.
+// The same of the element at a place.
 pub fn check_at(s: &[u8], at: usize, kind: Kind) -> Finding
     requires { ⌜ at + widthOf kind ≤ length (now s) ⌝ }
     ensures { λ r. ⌜ r ≡ elementCheck kind (number (take (widthOf kind) (drop at (now (s .entry))))) ⌝ }
 {
-    let look = kinds::look_at(kind, s, at);
-    check_looked(look.word, kind, look.listed)
-}
-
-// After a glance: the rows are gone through only where it doesn't show that the element is accepted.
-fn check_looked(word: u32, kind: Kind, listed: bool) -> Finding
-    requires { ⌜ (listed ≡ true → checkRows word (rowsOf kind) ≡ Finding.Accepted) ⌝ }
-    ensures { λ r. ⌜ r ≡ elementCheck kind word ⌝ }
-{
-    if is_shown(word, kind, listed) {
+    let glance = kinds::glance_at(s, at, kind);
+    if glance.listed && !is_stale(glance.word, kind) {
         return Finding::Accepted;
     }
-    check_element(word, kind)
-}
-
-// Whether the glance shows that the element is accepted: all fields have listed values, and the rule of DAT is kept.
-fn is_shown(word: u32, kind: Kind, listed: bool) -> bool
-    requires { ⌜ (listed ≡ true → checkRows word (rowsOf kind) ≡ Finding.Accepted) ⌝ }
-    ensures { λ r. ⌜ (r ≡ true → elementCheck kind word ≡ Finding.Accepted) ⌝ }
-{
-    if !listed {
-        return false;
-    }
-    let silent = dat_rule(word, kind);
-    if let Finding::Refused(_) = silent {
-        return false;
-    }
-    true
+    check_by_rows(glance.word, kind)
 }
 
 // The state of an element, or its refusal.
@@ -158,6 +126,17 @@ pub fn width(kind: Kind) -> usize
     kinds::layout(kind).bytes
 }
 
+// The same by the rows, which tell what is refused.
+fn check_by_rows(word: u32, kind: Kind) -> Finding
+    ensures { λ r. ⌜ r ≡ elementCheck kind word ⌝ }
+{
+    let finding = check_fields(word, kind);
+    let Finding::Accepted = finding else {
+        return finding;
+    };
+    dat_rule(word, kind)
+}
+
 // What is found of the fields of an element's number.
 fn check_fields(word: u32, kind: Kind) -> Finding
     ensures { λ r. ⌜ r ≡ checkRows word (rowsOf kind) ⌝ }
@@ -180,17 +159,23 @@ fn read_fields(word: u32, kind: Kind) -> Fields
 fn dat_rule(word: u32, kind: Kind) -> Finding
     ensures { λ r. ⌜ r ≡ datRule kind word ⌝ }
 {
+    if is_stale(word, kind) {
+        return Finding::Refused(Refusal { code: 12, bit: 0 });
+    }
+    Finding::Accepted
+}
+
+// Whether that rule is broken.
+fn is_stale(word: u32, kind: Kind) -> bool
+    ensures { λ r. ⌜ datRule kind word ≡ cond r (Finding.Refused (codeAt 12 0)) Finding.Accepted ⌝ }
+{
     if word % 2 == 1 {
-        return Finding::Accepted;
+        return false;
     }
     if word == 0 {
-        return Finding::Accepted;
+        return false;
     }
-    let layout = kinds::layout(kind);
-    if !layout.dat {
-        return Finding::Accepted;
-    }
-    Finding::Refused(Refusal { code: 12, bit: 0 })
+    kinds::layout(kind).dat
 }
 
 fn sort_of(x: u8, ty: u8) -> Sort

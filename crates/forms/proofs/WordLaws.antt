@@ -33,15 +33,10 @@ pub ended : {ns b : List ℕ} {i at : ℕ} → Left ns b i at → length ns ≤ 
 ended {ns} {b} {i} {at} l h =
     told-done (readWords i [] (drop at b)) refl refl ∙ sym (l .same ∙ ap (λ (ks : List Kind). told (readWords i ks (drop at b))) (kinds-end ns i h))
 
--- over what the code has in hand: the kind, its width, what is found
-module _ {ns b : List ℕ} {i at : ℕ} (l : Left ns b i at) (h : i < length ns) {kind : Kind} (kind-is : kind ≡ kindAt (kindsOf ns) i) {w : ℕ} (w-is : w ≡ widthOf kind) where
-  pub has-room : at + w ≤ length b
-  has-room =
-      let e : w ≡ widthOf (kindAt (kindsOf ns) i) = w-is ∙ ap widthOf kind-is in
-      omega (arith, l .room, ap widths (kinds-next ns i h))
-
-  pub room-for : at + widthOf kind ≤ length b
-  room-for = rw (sym w-is) has-room
+-- over what the code has in hand: the kind, what is found, and the width
+module _ {ns b : List ℕ} {i at : ℕ} (l : Left ns b i at) (h : i < length ns) {kind : Kind} (kind-is : kind ≡ kindAt (kindsOf ns) i) where
+  pub has-room : at + widthOf kind ≤ length b
+  has-room = omega (arith, l .room, ap widths (kinds-next ns i h), ap widthOf kind-is)
 
   module _ {found : Finding} (found-is : found ≡ elementCheck kind (number (take (widthOf kind) (drop at b)))) where
     word : ℕ
@@ -49,25 +44,24 @@ module _ {ns b : List ℕ} {i at : ℕ} (l : Left ns b i at) (h : i < length ns)
 
     -- the rest, after this object's element
     next : Verdict (List ℕ)
-    next = then (readWords (suc i) (drop (i + 1) (kindsOf ns)) (drop w (drop at b))) (λ ws. done (word ∷ ws))
+    next = then (readWords (suc i) (drop (i + 1) (kindsOf ns)) (drop (widthOf kind) (drop at b))) (λ ws. done (word ∷ ws))
 
     here : told (readWords 0 (kindsOf ns) b) ≡ told (found of i ⨾ next)
     unfolding element next word
     here =
         l .same ∙ ap (λ (ks : List Kind). told (readWords i ks (drop at b))) (kinds-next ns i h ∙ ap (λ (k : Kind). k ∷ drop (i + 1) (kindsOf ns)) (sym kind-is))
-        ∙ rw (← found-is, w-is)
+        ∙ rw (← found-is)
 
     pub stops : {r : Refusal} → found ≡ Finding.Refused r → numbers (r .code) i (r .bit) 0 ≡ told (readWords 0 (kindsOf ns) b)
     stops {r} e = told-refused (found of i ⨾ next) (is-bad found i next r e) refl ∙ sym here
 
-    pub goes-on : found ≡ Finding.Accepted → Left ns b (i + 1) (at + w)
+    pub goes-on : found ≡ Finding.Accepted → {w : ℕ} → w ≡ widthOf kind → Left ns b (i + 1) (at + w)
     unfolding next word
-    goes-on e =
+    goes-on e {w} wide =
         let one : suc i ≡ i + 1 = omega arith in
-        let wide : w ≡ widthOf (kindAt (kindsOf ns) i) = w-is ∙ ap widthOf kind-is in
         record {
           inside = omega arith;
-          room = omega (arith, l .room, ap widths (kinds-next ns i h));
-          same = here ∙ ap told (is-good found i next e) ∙ told-then (readWords (suc i) (drop (i + 1) (kindsOf ns)) (drop w (drop at b))) (λ ws. word ∷ ws)
-              ∙ ap₂ (λ (n : ℕ) (c : List ℕ). told (readWords n (drop (i + 1) (kindsOf ns)) c)) one (drop-drop w at b);
+          room = omega (arith, l .room, ap widths (kinds-next ns i h), ap widthOf kind-is);
+          same = here ∙ ap told (is-good found i next e) ∙ told-then (readWords (suc i) (drop (i + 1) (kindsOf ns)) (drop (widthOf kind) (drop at b))) (λ ws. word ∷ ws)
+              ∙ ap₂ (λ (n : ℕ) (c : List ℕ). told (readWords n (drop (i + 1) (kindsOf ns)) c)) one (ap (λ (n : ℕ). drop n (drop at b)) (sym wide) ∙ drop-drop w at b);
         }

@@ -121,11 +121,11 @@ fn check_change(kind: Kind, object: u16, entries: &[u8], at: usize) -> Passed
     let middle = at + width;
     let old = octets::get_at(entries, at, width);
     let new = octets::get_at(entries, middle, width);
-    let before = elements::quick_check(old, kind);
+    let before = elements::check_element(old, kind);
     if let Finding::Refused(r) = before {
         return Passed::Refused(refused_bit(r.code, object, r.bit));
     }
-    let after = elements::quick_check(new, kind);
+    let after = elements::check_element(new, kind);
     if let Finding::Refused(r) = after {
         return Passed::Refused(refused_bit(r.code, object, r.bit));
     }

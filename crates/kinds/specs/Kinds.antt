@@ -1,15 +1,10 @@
 -- An element state is one of the types, each with its own struct: the kinds, the layout of each, and the state of any kind from
 -- its fields' values.
 -- Written by catalogue/write.py.
-use mathlib.Core.Path.{_≡_}
-use mathlib.Core.Bool.{true, cond}
+use mathlib.Core.Bool.{cond}
 use mathlib.Core.List.{List, [], _∷_}
 use Prim.Native.Nat.{ℕ}
 use lib.Dec.{eqb}
-use lib.ListN.{take, drop}
-use Rattle.octets.specs.Octets.{number}
-use Rattle.rows.specs.Fields.{checkRows}
-use Rattle.rows.specs.declared.Finding.{Finding}
 use Rattle.rows.specs.Table.{Row, layoutAt}
 use Rattle.rows.specs.Covering.{layoutRows}
 use Rattle.rows.specs.declared.Layout.{Layout}
@@ -17,7 +12,6 @@ use Rattle.states.specs.States.{signalOf, signalValues, changerSignalOf, change
 use Rattle.kinds.specs.declared.Kind.{Kind}
 use Rattle.kinds.specs.declared.Element.{Element}
 use Rattle.kinds.specs.declared.Sort.{Sort}
-use Rattle.kinds.specs.declared.Look.{Look}
 
 abbrev pub kinds : List Kind
 kinds = Kind.Signal ∷ Kind.ChangerSignal ∷ Kind.VirtualBoard ∷ Kind.LineTrackCircuit ∷ Kind.PointsTrackCircuit ∷ Kind.CrossingTrackCircuit ∷ Kind.DualDetection ∷ Kind.Points ∷ Kind.ElectricLock ∷ Kind.GeneralNotices ∷ Kind.ControlBoundary ∷ []
@@ -47,11 +41,6 @@ widthOf k = layoutOf k .bytes
 
 abbrev pub rowsOf : Kind → List Row
 rowsOf k = layoutRows (layoutOf k)
-
--- of the element at a place: its number, and that each field has a listed value where a glance shows it
-pub record Looked (k : Kind) (b : List ℕ) (at : ℕ) (r : Look) : Type 0 where
-  pub read : r .word ≡ number (take (widthOf k) (drop at b))
-  pub shown : r .listed ≡ true → checkRows (r .word) (rowsOf k) ≡ Finding.Accepted
 
 -- the kind whose layout has a number
 abbrev pub sortIn : ℕ → List Kind → Sort

@@ -1,5 +1,5 @@
 // The floor of kinds: the kinds of element, one for each layout, the state of any kind, and every function that goes by the kind.
-// Written by catalogue/write.py from catalogue/fields.tsv. It checks nothing: whoever adds a type adds it here, and the floors
+// Written by catalogue/write.py from catalogue/fields.tsv. It refuses nothing: whoever adds a type adds it here, and the floors
 // above go by the layout.
 use rows::Layout;
 use rows::Marks;
@@ -19,8 +19,9 @@ ghost use Prim.Native.Nat.{_+_, _≤_};
 ghost use lib.Dec.{T};
 ghost use lib.ListN.{length};
 ghost use Rattle.rows.specs.Fields.{padded};
-ghost use Rattle.rows.specs.Marks.{marked};
-ghost use Rattle.kinds.specs.Kinds.{layoutOf, widthOf, rowsOf, Looked, sortNumbered, kindIn, elementOf, elementValues};
+ghost use Rattle.rows.specs.Marks.{marked, Shows};
+ghost use Rattle.kinds.specs.Kinds.{layoutOf, widthOf, rowsOf, sortNumbered, kindIn, elementOf, elementValues};
+ghost use Rattle.kinds.specs.Glances.{Glanced};
 
 // The kinds of element that are carried.
 pub enum Kind {
@@ -58,8 +59,8 @@ pub enum Sort {
     Other,
 }
 
-// The number of an element, and whether a glance shows that its fields have listed values.
-pub struct Look {
+// What a glance at an element gives: its number, and whether each field is shown to have a listed value.
+pub struct Glance {
     pub word: u32,
     pub listed: bool,
 }
@@ -150,104 +151,92 @@ pub fn layout(kind: Kind) -> Layout
 }
 
 // A kind's marks.
-pub fn marks(kind: Kind) -> Marks
+fn marks(kind: Kind) -> Marks
     ensures { λ r. ⌜ T (marked (r .add) (r .carry) (rowsOf kind)) ⌝ }
 {
     match kind {
         Kind::Signal => return Marks {
-            add: 2147483704,
-            carry: 4294967568,
+            add: 0x80000038,
+            carry: 0x100000110,
         },
         Kind::ChangerSignal => return Marks {
-            add: 248,
-            carry: 256,
+            add: 0xf8,
+            carry: 0x100,
         },
         Kind::VirtualBoard => return Marks {
-            add: 242,
-            carry: 264,
+            add: 0xf2,
+            carry: 0x108,
         },
         Kind::LineTrackCircuit => return Marks {
-            add: 52288,
-            carry: 73984,
+            add: 0xcc40,
+            carry: 0x12100,
         },
         Kind::PointsTrackCircuit => return Marks {
-            add: 52452,
-            carry: 74056,
+            add: 0xcce4,
+            carry: 0x12148,
         },
         Kind::CrossingTrackCircuit => return Marks {
-            add: 34112,
-            carry: 70912,
+            add: 0x8540,
+            carry: 0x11500,
         },
         Kind::DualDetection => return Marks {
-            add: 192,
-            carry: 256,
+            add: 0xc0,
+            carry: 0x100,
         },
         Kind::Points => return Marks {
-            add: 16266560,
-            carry: 16815360,
+            add: 0xf83540,
+            carry: 0x1009500,
         },
         Kind::ElectricLock => return Marks {
-            add: 240,
-            carry: 256,
+            add: 0xf0,
+            carry: 0x100,
         },
         Kind::GeneralNotices => return Marks {
-            add: 65152,
-            carry: 66048,
+            add: 0xfe80,
+            carry: 0x10200,
         },
         Kind::ControlBoundary => return Marks {
-            add: 61508,
-            carry: 66080,
+            add: 0xf044,
+            carry: 0x10220,
         },
     }
 }
 
-// The element of a kind at a place, and what a glance shows of it.
-pub fn look_at(kind: Kind, s: &[u8], at: usize) -> Look
+// Whether a glance shows that each field of an element's number has a listed value. Where it doesn't, the rows tell.
+pub fn shows_listed(word: u32, kind: Kind) -> bool
+    ensures { λ r. ⌜ Shows (rowsOf kind) word r ⌝ }
+{
+    rows::carries_none(word, marks(kind))
+}
+
+// A glance at the element at a place. Each kind has its own arm, in which its width and its marks are known to the compiler.
+pub fn glance_at(s: &[u8], at: usize, kind: Kind) -> Glance
     requires { ⌜ at + widthOf kind ≤ length (now s) ⌝ }
-    ensures { λ r. ⌜ Looked kind (now (s .entry)) at r ⌝ }
+    ensures { λ r. ⌜ Glanced kind (now (s .entry)) at r ⌝ }
 {
     match kind {
-        Kind::Signal => return look_by(Kind::Signal, s, at, Signal::WIDTH),
-        Kind::ChangerSignal => return look_by(Kind::ChangerSignal, s, at, ChangerSignal::WIDTH),
-        Kind::VirtualBoard => return look_by(Kind::VirtualBoard, s, at, VirtualBoard::WIDTH),
-        Kind::LineTrackCircuit => return look_by(
-            Kind::LineTrackCircuit,
-            s,
-            at,
-            LineTrackCircuit::WIDTH,
-        ),
-        Kind::PointsTrackCircuit => return look_by(
-            Kind::PointsTrackCircuit,
-            s,
-            at,
-            PointsTrackCircuit::WIDTH,
-        ),
-        Kind::CrossingTrackCircuit => return look_by(
-            Kind::CrossingTrackCircuit,
-            s,
-            at,
-            CrossingTrackCircuit::WIDTH,
-        ),
-        Kind::DualDetection => return look_by(Kind::DualDetection, s, at, DualDetection::WIDTH),
-        Kind::Points => return look_by(Kind::Points, s, at, Points::WIDTH),
-        Kind::ElectricLock => return look_by(Kind::ElectricLock, s, at, ElectricLock::WIDTH),
-        Kind::GeneralNotices => return look_by(Kind::GeneralNotices, s, at, GeneralNotices::WIDTH),
-        Kind::ControlBoundary => return look_by(
-            Kind::ControlBoundary,
-            s,
-            at,
-            ControlBoundary::WIDTH,
-        ),
+        Kind::Signal => return glance_by(s, at, kind, Signal::WIDTH),
+        Kind::ChangerSignal => return glance_by(s, at, kind, ChangerSignal::WIDTH),
+        Kind::VirtualBoard => return glance_by(s, at, kind, VirtualBoard::WIDTH),
+        Kind::LineTrackCircuit => return glance_by(s, at, kind, LineTrackCircuit::WIDTH),
+        Kind::PointsTrackCircuit => return glance_by(s, at, kind, PointsTrackCircuit::WIDTH),
+        Kind::CrossingTrackCircuit => return glance_by(s, at, kind, CrossingTrackCircuit::WIDTH),
+        Kind::DualDetection => return glance_by(s, at, kind, DualDetection::WIDTH),
+        Kind::Points => return glance_by(s, at, kind, Points::WIDTH),
+        Kind::ElectricLock => return glance_by(s, at, kind, ElectricLock::WIDTH),
+        Kind::GeneralNotices => return glance_by(s, at, kind, GeneralNotices::WIDTH),
+        Kind::ControlBoundary => return glance_by(s, at, kind, ControlBoundary::WIDTH),
     }
 }
 
-fn look_by(kind: Kind, s: &[u8], at: usize, width: usize) -> Look
+// The same, by the kind's width.
+fn glance_by(s: &[u8], at: usize, kind: Kind, width: usize) -> Glance
     requires { ⌜ (width ≡ widthOf kind) × (width ≤ 4) × (at + widthOf kind ≤ length (now s)) ⌝ }
-    ensures { λ r. ⌜ Looked kind (now (s .entry)) at r ⌝ }
+    ensures { λ r. ⌜ Glanced kind (now (s .entry)) at r ⌝ }
 {
     let word = octets::get_at(s, at, width);
-    let listed = rows::carries_none(word, marks(kind));
-    Look { word, listed }
+    let listed = shows_listed(word, kind);
+    Glance { word, listed }
 }
 
 // The kind whose layout has a number, if there is one.

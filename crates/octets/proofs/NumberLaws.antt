@@ -2,13 +2,12 @@
 -- Assumes nothing.
 use Prim.Native.Nat.{ℕ, zero, suc, _+_, _-_, _*_, _/_, _%_, _^_, _≤_, _<_}
 use native.Mathlib.Omega.{arith}
-use native.Mathlib.Nat.{pow-zero, pow-suc, pow-succ', mul-assoc, div-add-mod', mod-lt, mod-eq-of-lt, div-one, div-div-eq-div-mul, div-lt-iff-lt-mul, mul-add-div-right, mul-add-mod-self-right, div-eq-of-lt, add-zero, mul-le-mul-right}
+use native.Mathlib.Numerals.{add-one}
+use native.Mathlib.Nat.{pow-zero, pow-suc, pow-succ', mul-assoc, div-add-mod', mod-lt, mod-eq-of-lt, div-one, div-div-eq-div-mul, div-lt-iff-lt-mul, mul-add-div-right, mul-add-mod-self-right, div-eq-of-lt, add-zero, mul-le-mul-right, pow-le-pow-right}
 use mathlib.Core.Path.{_≡_, refl, sym, ap, ap₂, _∙_}
 use mathlib.Core.List.{List, [], _∷_, _++_}
-use mir.Syntax.{w8}
-use mir.Val.{Fits}
 use lib.ListN.{length, take, drop, getD, length-append, length-drop, take-append-drop}
-use lib.Seq.{take-at, drop-at, length-take-le, getD-drop}
+use lib.Seq.{take-at, drop-at, length-take-le, getD-drop, take-suc}
 use Rattle.octets.specs.Octets.{bytes, number, Bytes}
 
 pub length-bytes : (n x : ℕ) → length (bytes n x) ≡ n
@@ -104,47 +103,18 @@ module _ (n : ℕ) (b : List ℕ) (s : n ≤ length b) (h : Bytes b) where
       let e : bytes n (number (take n b)) ≡ take n b = rw (length-take-le n b s) at (bytes-number (take n b) (take-is n b h)) in
       rw e (sym (take-append-drop n b))
 
--- ---- at most four bytes, read one by one
+-- ---- one byte more is read
 
-pub no-bytes : (b : List ℕ) → length b < 1 → 0 ≡ number b
-no-bytes [] h = refl
-no-bytes (x ∷ b) h = absurd (omega arith)
+pub number-next : (s : List ℕ) (at i v : ℕ) → at + i < length s → v ≡ number (take i (drop at s)) → v * 256 + getD s (at + i) 0 ≡ number (take (i + 1) (drop at s))
+number-next s at i v h e =
+    rw (add-one, take-suc (drop at s) i 0 (rw length-drop (omega arith)), number-snoc (take i (drop at s)), getD-drop at s i 0, e)
 
-pub one-byte : (b : List ℕ) → 1 ≤ length b → length b < 2 → getD b 0 0 ≡ number b
-one-byte [] h k = absurd (omega arith)
-one-byte (x ∷ []) h k = omega arith
-one-byte (x ∷ y ∷ b) h k = absurd (omega arith)
+pub small-next : (i v x : ℕ) → v < 256 ^ i → x < 256 → v * 256 + x < 256 ^ (i + 1)
+small-next i v x h k = rw (add-one, pow-suc) (omega arith)
 
-pub two-bytes : (b : List ℕ) → 2 ≤ length b → length b < 3 → {m : ℕ} → m ≡ getD b 0 0 * 256 + getD b 1 0 → m ≡ number b
-two-bytes [] h k e = absurd (omega arith)
-two-bytes (x ∷ []) h k e = absurd (omega arith)
-two-bytes (x ∷ y ∷ []) h k e = omega arith
-two-bytes (x ∷ y ∷ z ∷ b) h k e = absurd (omega arith)
-
-pub three-bytes : (b : List ℕ) → 3 ≤ length b → length b < 4 → {m : ℕ} → m ≡ getD b 0 0 * 256 + getD b 1 0 → m * 256 + getD b 2 0 ≡ number b
-three-bytes [] h k e = absurd (omega arith)
-three-bytes (x ∷ []) h k e = absurd (omega arith)
-three-bytes (x ∷ y ∷ []) h k e = absurd (omega arith)
-three-bytes (x ∷ y ∷ z ∷ []) h k e = omega arith
-three-bytes (x ∷ y ∷ z ∷ v ∷ b) h k e = absurd (omega arith)
-
-pub four-bytes : (b : List ℕ) → 4 ≤ length b → length b ≤ 4 → {m n : ℕ} → m ≡ getD b 0 0 * 256 + getD b 1 0 → n ≡ getD b 2 0 * 256 + getD b 3 0
-    → m * 65536 + n ≡ number b
-four-bytes [] h k e f = absurd (omega arith)
-four-bytes (x ∷ []) h k e f = absurd (omega arith)
-four-bytes (x ∷ y ∷ []) h k e f = absurd (omega arith)
-four-bytes (x ∷ y ∷ z ∷ []) h k e f = absurd (omega arith)
-four-bytes (x ∷ y ∷ z ∷ v ∷ []) h k e f = omega arith
-four-bytes (x ∷ y ∷ z ∷ v ∷ w ∷ b) h k e f = absurd (omega arith)
-
--- .. and it is no larger than they can hold
-pub under : (b : List ℕ) → ((i : ℕ) → Fits w8 (getD b i 0)) → {r : ℕ} → r ≡ number b → r < 256 ^ length b
-under b h e = rw e (number-lt b (λ i. h i .fits))
-
--- from a place on, with one byte more
-pub number-after : (s : List ℕ) (at i v : ℕ) → at + i < length s → v ≡ number (take i (drop at s)) → v * 256 + getD s (at + i) 0 ≡ number (take (i + 1) (drop at s))
-number-after s at i v h e = rw (number-next (drop at s) i (rw length-drop (omega arith)), getD-drop at s i 0, e)
-
--- of a width that is known, the number of so many bytes
-pub as-wide : (s : List ℕ) (at : ℕ) {w k r : ℕ} → (r ≡ number (take k (drop at s))) × (r < 256 ^ k) → w ≡ k → (r ≡ number (take w (drop at s))) × (r < 256 ^ w)
-as-wide s at h e = rw e h
+-- below four bytes there is room for one more
+pub fits-next : (i v x : ℕ) → i < 4 → v < 256 ^ i → x < 256 → v * 256 + x < 2 ^ 32
+fits-next i v x l h k =
+    let n : i + 1 ≤ 4 = omega arith in
+    let m : 256 ^ (i + 1) ≤ 256 ^ 4 = pow-le-pow-right (omega arith) n in
+    omega (arith, small-next i v x h k)

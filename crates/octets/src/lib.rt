@@ -1,39 +1,19 @@
 // Bytes and numbers: leaves that read a part of a slice, or fill one that the caller lends.
 // The bottom floor: it uses no other crate, knows no form, and never touches a byte outside the part it is given.
 ghost use mathlib.Core.Path.{_≡_};
-ghost use Prim.Native.Nat.{_+_, _*_, _≤_, _<_, _^_};
+ghost use Prim.Native.Nat.{_+_, _≤_, _<_, _^_};
 ghost use lib.ListN.{length, take, drop};
 ghost use Rattle.octets.specs.Octets.{bytes, number, sameBytes};
 
-// The number of at most four bytes, case by case: a loop takes longer to begin than to read them.
+// The number of at most four bytes.
 pub fn get(part: &[u8]) -> u32
     requires { ⌜ length (now part) ≤ 4 ⌝ }
     ensures { λ r. ⌜ (r ≡ number (now (part .entry))) × (r < 256 ^ length (now (part .entry))) ⌝ }
 {
-    let count = part.len();
-    if count < 1 {
-        return 0;
-    }
-    if count < 2 {
-        return part[0] as u32;
-    }
-    if count < 3 {
-        return pair(part[0], part[1]);
-    }
-    if count < 4 {
-        return pair(part[0], part[1]) * 256 + part[2] as u32;
-    }
-    pair(part[0], part[1]) * 65536 + pair(part[2], part[3])
+    get_at(part, 0, part.len())
 }
 
-// The number of two bytes.
-fn pair(high: u8, low: u8) -> u32
-    ensures { λ r. ⌜ (r ≡ high * 256 + low) × (r < 65536) ⌝ }
-{
-    high as u32 * 256 + low as u32
-}
-
-// The number of the bytes from a place on, byte by byte and without a loop: a width is at most 4.
+// The number of at most four bytes from a place on. The four steps are spelled out, since a loop takes more instructions.
 pub fn get_at(s: &[u8], at: usize, width: usize) -> u32
     requires { ⌜ (at + width ≤ length (now s)) × (width ≤ 4) ⌝ }
     ensures { λ r. ⌜ (r ≡ number (take width (drop at (now (s .entry))))) × (r < 256 ^ width) ⌝ }
@@ -56,7 +36,7 @@ pub fn get_at(s: &[u8], at: usize, width: usize) -> u32
     get_next(s, at, 3, three)
 }
 
-// The number of one byte more, from that of the first i.
+// The number of i + 1 bytes, from that of the first i.
 fn get_next(s: &[u8], at: usize, i: usize, value: u32) -> u32
     requires { ⌜ (at + i < length (now s)) × (i < 4) × (value ≡ number (take i (drop at (now s)))) × (value < 256 ^ i) ⌝ }
     ensures { λ r. ⌜ (r ≡ number (take (i + 1) (drop at (now (s .entry))))) × (r < 256 ^ (i + 1)) ⌝ }

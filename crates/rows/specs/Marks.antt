@@ -1,11 +1,15 @@
 -- A glance at all fields of a number at once. Of each row that doesn't admit every value of its field two marks are kept: what is
 -- added to the field, so that a value that isn't listed carries out of it, and the bit that it carries into.
-use mathlib.Core.Bool.{Bool, true, cond, _&&_}
+-- A device of the code, nothing to believe.
+use mathlib.Core.Path.{_≡_}
+use mathlib.Core.Bool.{Bool, true, _&&_, _||_}
 use mathlib.Core.List.{List, [], _∷_}
 use Prim.Native.Nat.{ℕ, suc, _+_, _/_, _%_, _^_}
 use lib.Bits.{bitAnd, bitXor}
 use lib.Dec.{eqb}
 use Rattle.rows.specs.Table.{Row}
+use Rattle.rows.specs.Fields.{checkRows}
+use Rattle.rows.specs.declared.Finding.{Finding}
 
 -- the row admits every value that its field can hold
 abbrev pub full : Row → Bool
@@ -17,8 +21,13 @@ marks add carry r = eqb (suc (add / 2 ^ r .low % 2 ^ r .width + r .top)) (2 ^ r 
 
 abbrev pub marked : ℕ → ℕ → List Row → Bool
 marked add carry [] = true
-marked add carry (r ∷ rs) = cond (full r) true (marks add carry r) && marked add carry rs
+marked add carry (r ∷ rs) = (full r || marks add carry r) && marked add carry rs
 
 -- nothing is carried into a marked bit
 unfoldable pub carriesNone : ℕ → ℕ → ℕ → Bool
 carriesNone add carry w = eqb (bitAnd (bitXor (bitXor (w + add) w) add) carry) 0
+
+-- what a glance says: that each field has a listed value, or nothing. One direction is enough: where it says nothing, the rows are
+-- gone through.
+pub record Shows (rs : List Row) (w : ℕ) (listed : Bool) : Type 0 where
+  pub accepted : listed ≡ true → checkRows w rs ≡ Finding.Accepted

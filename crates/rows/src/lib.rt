@@ -574,7 +574,8 @@ pub fn check_rows(word: u32, number: u8, first: usize) -> Finding
     Finding::Accepted
 }
 
-// Whether an element's number and what is added to its fields carry nothing into a marked bit. Then each field has a listed value.
+// Whether an element's number and what is added to its fields carry nothing into a marked bit. By the marks of its rows, each field
+// then has a listed value.
 pub fn carries_none(word: u32, marks: Marks) -> bool
     ensures { λ r. ⌜ r ≡ carriesNone (marks .add) (marks .carry) word ⌝ }
 {

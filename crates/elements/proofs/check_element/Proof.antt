@@ -1,16 +1,13 @@
--- `elements::check_element` meets its contract: a refused field is passed up, and then the rule of DAT decides.
+-- `elements::check_element` meets its contract: what a glance shows, or what the rows tell.
 -- Assumes nothing.
-use mathlib.Core.Path.{_∙_}
 use borrow.Author.Needs.{needs}
-use Rattle.elements.proofs.Answers.{check-refused, check-rest}
+use borrow.Author.Tests.{not-true}
+use Rattle.elements.proofs.Answers.{shown}
 use Rattle.elements.proofs.check_element.Statement.{statement}
 use Rattle.elements.proofs.check_element.Tie as tie
 
 returns : tie.Need-returns
-returns c = search check-refused
-
-returns-2 : tie.Need-returns-2
-returns-2 c = c .dat-rule .ensures ∙ search check-rest
+returns c = search (shown, not-true)
 
 pub check-element-spec : {M : Type 1} → statement M
-check-element-spec = tie.close (tie.spec (λ c κs. search needs) (λ c. search needs) (λ c. search needs) returns (λ c κs. search needs) returns-2)
+check-element-spec = tie.close (tie.spec (λ c κs. search needs) (λ c κs. search needs) returns (λ c κs. search needs) (λ c. search needs))

@@ -1,61 +1,19 @@
--- `octets::get` meets its contract: case by case, by how many bytes there are.
+-- `octets::get` meets its contract: all bytes are read, from the first on.
 -- Assumes nothing.
-use native.Mathlib.Omega.{arith}
 use borrow.Author.Needs.{needs}
-use Rattle.octets.proofs.NumberLaws.{no-bytes, one-byte, two-bytes, three-bytes, four-bytes, under}
+use native.Mathlib.Omega.{arith}
+use mathlib.Core.Path.{ap, _∙_}
+use lib.ListN.{length}
+use lib.Seq.{take-all}
+use Rattle.octets.specs.Octets.{number}
 use Rattle.octets.proofs.get.Statement.{statement}
 use Rattle.octets.proofs.get.Tie as tie
 
 returns : tie.Need-returns
-returns c = search (no-bytes, under)
-
-cast-result : tie.Need-cast-result
-cast-result c = omega (arith, c .shared-slice-known2 .given 0)
-
-returns-2 : tie.Need-returns-2
-returns-2 c = search (one-byte, under)
-
-returns-3 : tie.Need-returns-3
-returns-3 c = search (two-bytes, under)
-
-cast-result-2 : tie.Need-cast-result-2
-cast-result-2 c = omega (arith, c .shared-slice-known7 .given 2)
-
-add-result : tie.Need-add-result
-add-result c = omega (arith, c .shared-slice-known7 .given 2)
-
-returns-4 : tie.Need-returns-4
-returns-4 c = search (three-bytes, under)
-
-returns-5 : tie.Need-returns-5
-returns-5 c = search (four-bytes, under)
+returns c =
+    let read = c .get-at .ensures in
+    let part = c .before .before .args .part .now in
+    (read .0 ∙ ap number (take-all (length part) part (omega arith)), read .1)
 
 pub get-spec : {M : Type 1} → statement M
-get-spec =
-    tie.close
-    (tie.spec
-    returns
-    (λ c. search needs)
-    cast-result
-    returns-2
-    (λ c. search needs)
-    (λ c. search needs)
-    (λ c κs. search needs)
-    returns-3
-    (λ c. search needs)
-    (λ c. search needs)
-    (λ c κs. search needs)
-    (λ c. search needs)
-    (λ c. search needs)
-    cast-result-2
-    add-result
-    returns-4
-    (λ c. search needs)
-    (λ c. search needs)
-    (λ c κs. search needs)
-    (λ c. search needs)
-    (λ c. search needs)
-    (λ c. search needs)
-    (λ c κs. search needs)
-    (λ c. search needs)
-    returns-5)
+get-spec = tie.close (tie.spec (λ c κs. search needs) returns)

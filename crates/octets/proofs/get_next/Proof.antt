@@ -3,7 +3,7 @@
 use borrow.Author.Needs.{needs}
 use Prim.Native.Nat.{_+_}
 use native.Mathlib.Omega.{arith}
-use Rattle.octets.proofs.NumberLaws.{number-after, small-next, fits-next}
+use Rattle.octets.proofs.NumberLaws.{number-next, small-next, fits-next}
 use Rattle.octets.proofs.get_next.Statement.{statement}
 use Rattle.octets.proofs.get_next.Tie as tie
 
@@ -23,7 +23,7 @@ add-result-2 c =
 returns : tie.Need-returns
 returns c =
     let a = c .before .args in
-    (number-after (a .s .now) (a .at) (a .i) _ (omega arith) (c .before .pre .2), small-next (a .i) (a .value) _ (c .before .pre .3) (c .shared-slice-known .given _ .fits))
+    (number-next (a .s .now) (a .at) (a .i) _ (omega arith) (c .before .pre .2), small-next (a .i) (a .value) _ (c .before .pre .3) (c .shared-slice-known .given _ .fits))
 
 pub get-next-spec : {M : Type 1} → statement M
 get-next-spec = tie.close (tie.spec mul-result (λ c. search needs) (λ c. search needs) cast-result add-result-2 returns)

@@ -1,4 +1,4 @@
--- `rows::carries_none` meets its contract: the machine's sum of 32 bits and 32 bits is in 64.
+-- `rows::carries_none` meets its contract: the sum of two numbers of 32 bits fits in 64.
 -- Assumes nothing.
 use mathlib.Core.Path.{refl}
 use borrow.Author.Needs.{needs}

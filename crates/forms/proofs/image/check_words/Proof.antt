@@ -5,7 +5,7 @@ use native.Mathlib.Omega.{arith}
 use mathlib.Core.Path.{_∙_}
 use lib.ListN.{length}
 use borrow.Author.Needs.{needs}
-use Rattle.forms.proofs.WordLaws.{Left, begin, room-for, stops, goes-on, ended}
+use Rattle.forms.proofs.WordLaws.{Left, begin, has-room, stops, goes-on, ended}
 use Rattle.forms.proofs.image.check_words.Statement.{statement}
 use Rattle.forms.proofs.image.check_words.Tie as tie
 
@@ -33,7 +33,7 @@ check-words-spec =
     (λ c. search begin)
     (λ c κs. omega arith)
     (λ c κs. search needs)
-    (λ c κs. search room-for)
+    (λ c κs. search has-room)
     (λ c. search needs)
     (λ c. omega arith)
     (λ c κs. search needs)
