@@ -7,6 +7,7 @@
 fields.tsv has a line for each row of each layout: layout number, mnemonic of the annex, struct, field of the annex,
 lowest bit, width, highest admitted value, English name, type (bool, an enum of cases.tsv, or - where reserved).
 cases.tsv has a line for each named case of each enum: enum, value, case, meaning.
+The names are held to the annex by law files that are kept by hand: proofs/Annex.antt of cases and states is left as it is.
 """
 import os
 import re
@@ -19,6 +20,7 @@ HERE = os.path.dirname(os.path.abspath(__file__))
 ROOT = os.path.dirname(HERE)
 WITHOUT_DAT = {'GeneralNotices'}  # type 22 has no DAT
 CRATES = ['rows', 'cases', 'states', 'kinds']
+BY_HAND = 'Annex.antt'
 
 
 def table(name):
@@ -863,12 +865,12 @@ def files(source):
         'cases/src/lib.rt': cases_source(),
         'cases/specs/Lib.antt': 'pub mod Cases\n',
         'cases/specs/Cases.antt': cases_specs(),
-        'cases/proofs/Lib.antt': 'pub mod CaseLaws\n',
+        'cases/proofs/Lib.antt': 'pub mod CaseLaws\npub mod Annex\n',
         'cases/proofs/CaseLaws.antt': cases_laws(),
         'states/src/lib.rt': states_source(),
         'states/specs/Lib.antt': 'pub mod States\n',
         'states/specs/States.antt': states_specs(),
-        'states/proofs/Lib.antt': 'pub mod StateLaws\n',
+        'states/proofs/Lib.antt': 'pub mod StateLaws\npub mod Annex\n',
         'states/proofs/StateLaws.antt': states_laws(),
         'kinds/src/lib.rt': kinds_source(),
         'kinds/specs/Lib.antt': 'pub mod Kinds\npub mod Glances\n',
@@ -902,6 +904,15 @@ def files(source):
     return out
 
 
+def clear(folder):
+    """Removes what was written there before."""
+    for entry in os.scandir(folder):
+        if entry.is_dir():
+            shutil.rmtree(entry.path)
+        elif entry.name != BY_HAND:
+            os.remove(entry.path)
+
+
 def write(root):
     def source(path):
         with open(os.path.join(root, 'crates', path)) as f:
@@ -909,7 +920,7 @@ def write(root):
 
     paths = files(source)
     for crate in ('cases', 'states', 'kinds'):
-        shutil.rmtree(os.path.join(root, 'crates', crate, 'proofs'), ignore_errors=True)
+        clear(os.path.join(root, 'crates', crate, 'proofs'))
     for path, text in paths.items():
         full = os.path.join(root, 'crates', path)
         os.makedirs(os.path.dirname(full), exist_ok=True)

@@ -5,3 +5,4 @@ pub mod Findings
 pub mod Answers
 pub mod Bearing
 pub mod Known
+pub mod Annex
