@@ -1,5 +1,6 @@
 // The floor of elements: which types are carried, the check of an element, and a state as a number and back. It goes by the rows of a
-// kind's layout and names no kind but the one that stands for none. It knows no image and writes nothing.
+// kind's layout, at a glance where that is enough, and names no kind but the one that stands for none. It knows no image and writes
+// nothing.
 use kinds::Element;
 use kinds::Kind;
 use kinds::Sort;
@@ -126,7 +127,7 @@ pub fn width(kind: Kind) -> usize
     kinds::layout(kind).bytes
 }
 
-// The same by the rows, which tell what is refused.
+// The check of an element's number by its rows, which tell what is refused.
 fn check_by_rows(word: u32, kind: Kind) -> Finding
     ensures { λ r. ⌜ r ≡ elementCheck kind word ⌝ }
 {

@@ -1,6 +1,6 @@
-// What is done at one object, for the four operations on change lists: its change is found, and written. A difference compares the
-// elements of two images; a join, the entries of two lists; turning back takes the entry of one list; application, an entry and an
-// element. It takes any bytes, refuses nothing and knows no form's head.
+// What is done at one object, for the four operations on change lists: its change is found, and written; and which object is next. A
+// difference compares the elements of two images; a join, the entries of two lists; turning back takes the entry of one list;
+// application, an entry and an element. It takes any bytes, refuses nothing and knows no form's head.
 use forms::kind_at;
 use history::Change;
 ghost use mathlib.Core.Path.{_≡_};

@@ -1,4 +1,4 @@
--- The digits of a number say it: read in decimal they give it back, each is 0 to 9, and the first is 0 only where the number is.
+-- The digits of a number say it: read in decimal they give it back, each is 0 to 9, and the first is 0 only where it is the number's one digit.
 -- Assumes nothing.
 use mathlib.Core.Path.{_≡_, refl, sym, _∙_}
 use mathlib.Core.Bool.{Bool, true, false, cond, _&&_}
@@ -25,7 +25,7 @@ pub record Says (n : ℕ) (ds : List ℕ) : Type 0 where
   pub value : readFrom 0 ds ≡ n
   pub each : digits ds ≡ true
   pub some : 0 < length ds
-  pub first : getD ds 0 0 ≡ 48 → n ≡ 0
+  pub first : getD ds 0 0 ≡ 48 → (n ≡ 0) × (length ds ≡ 1)
 
 -- ---- one digit behind others
 
@@ -48,7 +48,7 @@ says-at : (b : Bool) (k n : ℕ) → ltb n 10 ≡ b → (10 ≤ n → Says (n / 
     → Says n (cond b ((48 + n) ∷ []) (decimalIn k (n / 10) ++ ((48 + n % 10) ∷ [])))
 says-at true k n e tens =
     let few : n < 10 = ltb-true n 10 e in
-    record { value = omega arith; each = simp (le-leb 48 (48 + n) (omega arith), le-leb (48 + n) 57 (omega arith)); some = omega arith; first = λ z. omega arith }
+    record { value = omega arith; each = simp (le-leb 48 (48 + n) (omega arith), le-leb (48 + n) 57 (omega arith)); some = omega arith; first = λ z. (omega arith, refl) }
 says-at false k n e tens =
     let ten : 10 ≤ n = ltb-false n 10 e in
     let t = tens ten in
@@ -58,7 +58,7 @@ says-at false k n e tens =
       value = read-last 0 ds d ∙ omega (arith, t .value);
       each = digits-last ds d (omega arith) (omega arith) (t .each);
       some = omega (arith, length-append ds (d ∷ []));
-      first = λ z. absurd (omega (arith, t .first (sym (List·getD-append ds (d ∷ []) 0 0 (t .some)) ∙ z)));
+      first = λ z. absurd (omega (arith, t .first (sym (List·getD-append ds (d ∷ []) 0 0 (t .some)) ∙ z) .0));
     }
 
 says : (k n : ℕ) → n < 10 ^ suc k → Says n (decimalIn (suc k) n)

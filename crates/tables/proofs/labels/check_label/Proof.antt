@@ -13,6 +13,6 @@ check-label-spec =
     (λ c κs. search needs)
     (λ c. label-not _ _ (search colon-first))
     (λ c. omega arith)
-    (λ c. label-not _ _ (search colon-last))
+    (λ c. label-not _ _ (colon-last _ _ (c .before .before .first-colon .ensures .0) (omega arith) (omega arith)))
     (λ c κs. search needs)
     (λ c. search colon-inside))
