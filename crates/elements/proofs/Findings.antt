@@ -1,51 +1,44 @@
--- What the check of an element can find: nothing, or one of the codes 10, 11 and 12; of 0 nothing.
+-- What the check of an element can find, and with which bit: nothing, 10, 11 or 12; of 0 nothing.
 -- Assumes nothing.
 use mathlib.Core.Path.{_≡_, refl}
 use mathlib.Core.Bool.{Bool, true, false, cond}
-use mathlib.Core.List.{List, [], _∷_}
+use mathlib.Core.List.{List, _∷_, _++_}
 use mathlib.Core.Logic.{_⊎_, inl, inr}
-use Prim.Native.Nat.{ℕ, _≤_}
-use native.Mathlib.Omega.{arith}
-use lib.Dec.{eqb, leb}
+use Prim.Native.Nat.{ℕ}
+use lib.Dec.{eqb}
+use borrow.Author.Tests.{eqb-true, eqb-false}
 use Rattle.rows.specs.Table.{Row}
-use Rattle.rows.specs.Fields.{codeAt, fieldOf, onField, checkRows, onFinding}
-use Rattle.rows.specs.declared.Field.{Field}
+use Rattle.rows.specs.Fields.{codeAt, checkRows}
+use Rattle.rows.specs.declared.Refusal.{Refusal}
 use Rattle.rows.specs.declared.Finding.{Finding}
-use Rattle.rows.proofs.Listed.{zero-accepted}
-use Rattle.kinds.specs.Kinds.{rowsOf}
+use Rattle.rows.proofs.Listed.{FirstUnlisted, zero-accepted}
+use Rattle.kinds.specs.Kinds.{layoutOf, rowsOf}
 use Rattle.kinds.specs.declared.Kind.{Kind}
-use Rattle.elements.specs.Elements.{datRule, elementCheck}
-use Rattle.elements.proofs.DatLaws.{Stale, dat-stale, dat-either, not-stale}
+use Rattle.elements.specs.Elements.{elementCheck}
+use Rattle.elements.proofs.DatLaws.{Stale, element-names, not-stale}
 
--- the code is 10, 11 or 12
-abbrev pub Found : Finding → Type 0
-Found Finding.Accepted = Unit {0}
-Found (Finding.Refused r) = (10 ≤ r .code) × (r .code ≤ 12)
+-- a row of a kind's layout
+pub record RowOf (k : Kind) (r : Row) : Type 0 where
+  pub below : List Row
+  pub above : List Row
+  pub parts : rowsOf k ≡ below ++ (r ∷ above)
 
-field-found : (listed reserved : Bool) (v low : ℕ) (rest : Finding) → Found rest
-    → Found (onField (cond listed (Field.Value v) (Field.Refused (codeAt (cond reserved 10 11) low))) rest)
-field-found true reserved v low rest h = h
-field-found false true v low rest h = (omega arith, omega arith)
-field-found false false v low rest h = (omega arith, omega arith)
+-- how an element of a kind may be refused: with the lowest bit of a reserved field, with that of another field, with bit 0, which is DAT
+pub data Refuses (k : Kind) : (code bit : ℕ) → Type 0 where
+  reserved : {r : Row} → RowOf k r → r .top ≡ 0 → Refuses k 10 (r .low)
+  unlisted : {r : Row} → RowOf k r → (r .top ≡ 0 → ⊥) → Refuses k 11 (r .low)
+  silent : layoutOf k .dat ≡ true → Refuses k 12 0
 
-fields-found : (w : ℕ) (rs : List Row) → Found (checkRows w rs)
-fields-found w [] = tt
-fields-found w (r ∷ rs) = field-found (leb (fieldOf w r) (r .top)) (eqb (r .top) 0) (fieldOf w r) (r .low) (checkRows w rs) (fields-found w rs)
-
-dat-found : (k : Kind) (w : ℕ) → Found (datRule k w)
-dat-found k w = go (dat-either k w)
+pub element-refuses : (k : Kind) (w : ℕ) {x : Refusal} → elementCheck k w ≡ Finding.Refused x → Refuses k (x .code) (x .bit)
+element-refuses k w {x} e = go (element-names k w e)
   where
-    go : ((Stale k w → ⊥) × (datRule k w ≡ Finding.Accepted)) ⊎ Stale k w → Found (datRule k w)
-    go (inl q) = rw (q .1) tt
-    go (inr s) = rw (dat-stale k w s) (omega arith, omega arith)
+    field : (r : Row) → RowOf k r → (b : Bool) → eqb (r .top) 0 ≡ b → Refuses k (cond b 10 11) (r .low)
+    field r m true q = reserved m (eqb-true _ _ q)
+    field r m false q = unlisted m (eqb-false _ _ q)
 
-both-found : (f rest : Finding) → Found f → Found rest → Found (onFinding f rest Finding.Refused)
-both-found Finding.Accepted rest h k = k
-both-found (Finding.Refused r) rest h k = h
-
-pub element-found : (k : Kind) (w : ℕ) → Found (elementCheck k w)
-unfolding elementCheck
-element-found k w = both-found (checkRows w (rowsOf k)) (datRule k w) (fields-found w (rowsOf k)) (dat-found k w)
+    go : FirstUnlisted w (rowsOf k) x ⊎ ((checkRows w (rowsOf k) ≡ Finding.Accepted) × Stale k w × (x ≡ codeAt 12 0)) → Refuses k (x .code) (x .bit)
+    go (inl q) = rw (q .told) (field (q .row) (record { below = q .below; above = q .above; parts = q .parts }) (eqb (q .row .top) 0) refl)
+    go (inr q) = rw (q .2) (silent (q .1 .dat))
 
 -- 0 is an element of every kind
 pub zero-found : (k : Kind) → elementCheck k 0 ≡ Finding.Accepted

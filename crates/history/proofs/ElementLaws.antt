@@ -10,6 +10,7 @@ use lib.Pow.{pow-add, pow-pos}
 use borrow.Author.Tests.{eq-eqb, lt-ltb, ltb-true, eqb-true}
 use Rattle.rows.specs.Fields.{codeAt}
 use Rattle.rows.specs.declared.Finding.{Finding}
+use Rattle.rows.specs.declared.Refusal.{Refusal}
 use Rattle.kinds.specs.Kinds.{layoutNo, widthOf, kindIn}
 use Rattle.elements.specs.Elements.{sameKind, elementCheck, stateOf, wordOf}
 use Rattle.kinds.specs.declared.Kind.{Kind}
@@ -17,7 +18,7 @@ use Rattle.kinds.specs.declared.Element.{Element}
 use Rattle.elements.proofs.Covering.{cover, kind-same}
 use Rattle.elements.proofs.Laws.{word-fits, state-word-state, word-state-word}
 use Rattle.elements.proofs.DatLaws.{Stale, state-accepted, state-stale}
-use Rattle.elements.proofs.Findings.{Found, element-found, zero-found}
+use Rattle.elements.proofs.Findings.{Refuses, element-refuses, zero-found}
 use Rattle.history.specs.Verdict.{Verdict, done}
 use Rattle.history.specs.Image.{element, _of_⨾_}
 use Rattle.history.specs.Legal.{isAccepted, admits}
@@ -96,7 +97,7 @@ module _ (k : Kind) (e : Element) (s : kindIn e ≡ k) where
   unfolding element
   state-twelve h = rw (← s) (state-stale e h)
 
--- a refused element's code is 10, 11 or 12
-pub code-found : (k : Kind) (w : ℕ) → Found (element k w)
+-- what a refused element of a kind is told with
+pub refuses-as : (k : Kind) (w : ℕ) {x : Refusal} → element k w ≡ Finding.Refused x → Refuses k (x .code) (x .bit)
 unfolding element
-code-found k w = element-found k w
+refuses-as k w e = element-refuses k w e

@@ -69,6 +69,10 @@ form-version least good b {f} e =
     let v : f .version ≡ getD b 4 0 = cc (p₂ .1) in
     rw v (p₂ .0)
 
+pub form-contents : (least : ℕ) (good : ℕ → Bool) (b : List ℕ) {f : Form} → readForm least good b ≡ done f → f .contents ≡ drop 7 b
+unfolding readForm
+form-contents least good b e = cc (held (good (getD b 4 0)) _ _ _ _ (held (isWhole least b) _ _ _ _ e .1) .1)
+
 -- no form is refused with a code above 2
 pub form-other : (least : ℕ) (good : ℕ → Bool) (b : List ℕ) {code object bit : ℕ} → 2 < code → readForm least good b ≡ refused code object bit → ⊥
 unfolding readForm

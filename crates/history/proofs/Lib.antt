@@ -17,6 +17,7 @@ pub mod AcceptedLaws
 pub mod Demands
 pub mod HistoryLaws
 pub mod StandingLaws
+pub mod NameLaws
 pub mod CodeLaws
 pub mod ReceiverLaws
 pub mod Examples

@@ -267,7 +267,7 @@ entries-lower ks (suc n) low b cs h q =
     ∙ ap (λ (ds : List Change). done (keep ∷ ds)) (sym cs-is)
 
 -- ks from low on is k and then r
-head-at : (ks : List Kind) (low : ℕ) (k : Kind) (r : List Kind) → drop low ks ≡ k ∷ r → (low < length ks) × (kindAt ks low ≡ k) × (drop (suc low) ks ≡ r)
+pub head-at : (ks : List Kind) (low : ℕ) (k : Kind) (r : List Kind) → drop low ks ≡ k ∷ r → (low < length ks) × (kindAt ks low ≡ k) × (drop (suc low) ks ≡ r)
 head-at [] zero k r e = absurd (let z : _≡_ {A = ℕ} 0 1 = cc in omega arith)
 head-at [] (suc low) k r e = absurd (let z : _≡_ {A = ℕ} 0 1 = cc in omega arith)
 head-at (x ∷ xs) zero k r e = (omega arith, cc, cc)

@@ -21,7 +21,7 @@ use Rattle.history.specs.Calls.{readPlan}
 use Rattle.history.specs.Legal.{LegalObject, LegalTable}
 use Rattle.octets.proofs.NumberLaws.{length-bytes, read-bytes, drop-bytes, cut}
 use Rattle.history.proofs.VerdictLaws.{all, left, right, kept, held, used}
-use Rattle.history.proofs.FormLaws.{form-version, form-is, form-reads}
+use Rattle.history.proofs.FormLaws.{form-version, form-contents, form-is, form-reads}
 use Rattle.history.proofs.ImageLaws.{Fair}
 
 abbrev pub nobody : Object
@@ -256,6 +256,7 @@ length-objects version x earlier (o ∷ os) h =
 -- what a read table is, whatever its numbers
 pub record TableIs (b : List ℕ) (t : Table) : Type 0 where
   pub legal : LegalTable t
+  pub count : length (t .objects) ≡ number (take 2 (drop 7 b))
   pub same : Bytes b → b ≡ tableBytes t
 
 contents-are : (b : List ℕ) (f : Form) (t : Table) → readForm 5 versionGood b ≡ done f → catalogueGood (f .x) (f .y) ≡ true → number (take 2 (f .contents)) ≤ 1024
@@ -273,6 +274,7 @@ contents-are b f t e c few r v x y g =
         each = rw (objects, v, x) (legal-each (f .version) (f .x) [] (r .more) legal);
         distinct = rw objects (legal-distinct (f .version) (f .x) [] (r .more) legal);
       };
+      count = ap length objects ∙ r .count ∙ ap (λ (c : List ℕ). number (take 2 c)) (form-contents 5 versionGood b e);
       same = λ h.
           let o = form-is 5 versionGood b (omega arith) h e in
           let two : 2 ≤ length (f .contents) = omega (arith, o .enough) in

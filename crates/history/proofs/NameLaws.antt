@@ -1,0 +1,418 @@
+-- What a refusal names, for every call: the paper's table of codes with its column "names", and that each call keeps to it.
+-- Assumes nothing.
+use Prim.Native.Nat.{ℕ, zero, suc, _+_, _-_, _≤_, _<_}
+use native.Mathlib.Omega.{arith}
+use mathlib.Core.Path.{_≡_, refl, sym, ap, _∙_}
+use mathlib.Core.Bool.{Bool, true, false, cond, not, _&&_, _||_}
+use mathlib.Core.List.{List, [], _∷_, _++_, map}
+use mathlib.Core.Logic.{_⊎_, inl, inr}
+use lib.Dec.{eqb, leb, ltb}
+use lib.ListN.{length, take, drop, getD, replicate, length-append, length-drop, length-map, length-replicate}
+use lib.Seq.{drop-drop}
+use borrow.Author.Tests.{leb-true, ltb-true, ltb-false}
+use Rattle.rows.specs.declared.Finding.{Finding}
+use Rattle.rows.specs.declared.Refusal.{Refusal}
+use Rattle.kinds.specs.Kinds.{widthOf, kindIn}
+use Rattle.kinds.specs.declared.Kind.{Kind}
+use Rattle.kinds.specs.declared.Element.{Element}
+use Rattle.elements.specs.Elements.{carried, kindOf, sameKind, wordOf}
+use Rattle.elements.proofs.Findings.{Refuses}
+use Rattle.elements.proofs.Laws.{state-kind}
+use Rattle.octets.specs.Octets.{number}
+use Rattle.history.specs.declared.Answer.{Answer}
+use Rattle.history.specs.Verdict.{Verdict, refused, done, then, _unless_⨾_, Outcome, numbers, unnamed, told, settled}
+use Rattle.history.specs.Form.{isWhole, readForm}
+use Rattle.history.specs.Table.{Object, Plan, versionGood, catalogueGood, labelLimit, labelGood, repeats, ObjectEntry, objectAt, checkObject, readObjects, readTable, planOf, kindAt, sameCatalogue}
+use Rattle.history.specs.Image.{Image, imageVersionGood, element, _of_⨾_, widths, readWords, readImage}
+use Rattle.history.specs.declared.Change.{Change}
+use Rattle.history.specs.declared.Change.the-variants.{Keep as keep, Swap as swap}
+use Rattle.history.specs.Changes.{Changes, listVersion, Entry, entryAt, checkChange, checkEntry, readEntries, readList}
+use Rattle.history.specs.Operations.{fits, meets, lowest, applied, join}
+use Rattle.history.specs.Calls.{readPlan, tableCall, imageCall, listCall, differenceUnder, differenceCall, applyUnder, applyCall, joinUnder, joinCall, turnUnder, turnCall, stateAt, readStateUnder, readStateCall, checkState, writeStateUnder, writeStateCall, labelCall}
+use Rattle.history.proofs.VerdictLaws.{held, used}
+use Rattle.history.proofs.FormLaws.{form-contents}
+use Rattle.history.proofs.TableLaws.{table-is}
+use Rattle.history.proofs.ElementLaws.{was-accepted, refuses-as}
+use Rattle.history.proofs.ListLaws.{was-checked, head-at}
+
+-- ---- the paper's table
+
+-- the codes that name nothing; an object; a number that was handed in, which is an object's. Beside these, 13 and those of elements
+abbrev pub nothings : List ℕ
+nothings = 1 ∷ 2 ∷ 3 ∷ 4 ∷ 8 ∷ 9 ∷ 16 ∷ 17 ∷ 19 ∷ []
+
+abbrev pub objects : List ℕ
+objects = 5 ∷ 6 ∷ 7 ∷ 18 ∷ 20 ∷ []
+
+abbrev pub itsNumbers : List ℕ
+itsNumbers = 14 ∷ 15 ∷ 22 ∷ []
+
+abbrev pub oneOf : List ℕ → ℕ → Bool
+oneOf [] code = false
+oneOf (c ∷ cs) code = eqb code c || oneOf cs code
+
+-- what a refusal names, under a table of n objects, of these kinds if it is accepted; `given` are the numbers that were handed in
+pub data Names (n : ℕ) (ks : List Kind) (given : ℕ → Type 0) : (code object bit : ℕ) → Type 0 where
+  nothing : {code : ℕ} → oneOf nothings code ≡ true → Names n ks given code 65535 255
+  an-object : {code i : ℕ} → oneOf objects code ≡ true → i < n → Names n ks given code i 255
+  its-number : {code i : ℕ} → oneOf itsNumbers code ≡ true → given i → i < n → Names n ks given code i 255
+  no-object : {i : ℕ} → given i → n ≤ i → Names n ks given 13 i 255
+  its-field : {code i bit : ℕ} → i < length ks → Refuses (kindAt ks i) code bit → Names n ks given code i bit
+
+-- a verdict that is a refusal names what it may
+pub record Named (P : ℕ → ℕ → ℕ → Type 0) {A : Type 0} (v : Verdict A) : Type 0 where
+  pub names : {code object bit : ℕ} → v ≡ refused code object bit → P code object bit
+
+-- ---- the ways to refuse
+
+module _ {P : ℕ → ℕ → ℕ → Type 0} {A : Type 0} where
+  pub accepts : {a : A} → Named P (done a)
+  accepts = record { names = λ e. absurd (let z : _≡_ {A = ℕ} 0 1 = cc in omega arith) }
+
+  pub refuses : {code object bit : ℕ} → P code object bit → Named P {A = A} (refused code object bit)
+  refuses {code} {object} {bit} h = record { names = go }
+    where
+      go : {code′ object′ bit′ : ℕ} → _≡_ {A = Verdict A} (refused code object bit) (refused code′ object′ bit′) → P code′ object′ bit′
+      go {code′} {object′} {bit′} e =
+          let c : code ≡ code′ = cc in
+          let o : object ≡ object′ = cc in
+          let b : bit ≡ bit′ = cc in
+          rw (← c, ← o, ← b) h
+
+  pub named-unless : (t : Bool) (x r : Verdict A) → (t ≡ false → Named P x) → (t ≡ true → Named P r) → Named P (x unless t ⨾ r)
+  named-unless true x r h k = k refl
+  named-unless false x r h k = h refl
+
+  pub named-of : (v : Finding) (i : ℕ) (r : Verdict A) → ((x : Refusal) → v ≡ Finding.Refused x → P (x .code) i (x .bit)) → Named P r → Named P (v of i ⨾ r)
+  named-of Finding.Accepted i r h k = k
+  named-of (Finding.Refused x) i r h k = refuses (h x refl)
+
+  pub named-then : {B : Type 0} (x : Verdict B) (f : B → Verdict A) → Named P x → ((b : B) → x ≡ done b → Named P (f b)) → Named P (then x f)
+  named-then (refused code object bit) f h k = refuses (h .names refl)
+  named-then (done b) f h k = k b refl
+
+module _ {n : ℕ} {ks : List Kind} {given : ℕ → Type 0} where
+  -- a test whose refusal names nothing
+  named-test : {A : Type 0} (t : Bool) (code : ℕ) (r : Verdict A) → oneOf nothings code ≡ true → (t ≡ true → Named (Names n ks given) r)
+      → Named (Names n ks given) (refused code 65535 255 unless t ⨾ r)
+  named-test t code r h k = named-unless t _ r (λ e. refuses (nothing h)) k
+
+  -- .. or an object
+  named-at : {A : Type 0} (t : Bool) (code i : ℕ) (r : Verdict A) → oneOf objects code ≡ true → i < n → (t ≡ true → Named (Names n ks given) r)
+      → Named (Names n ks given) (refused code i 255 unless t ⨾ r)
+  named-at t code i r h l k = named-unless t _ r (λ e. refuses (an-object h l)) k
+
+  named-element : {A : Type 0} (k : Kind) (w i : ℕ) (r : Verdict A) → i < length ks → kindAt ks i ≡ k → Named (Names n ks given) r → Named (Names n ks given) (element k w of i ⨾ r)
+  named-element k w i r l e h = named-of (element k w) i r (λ x q. its-field l (rw e (refuses-as k w q))) h
+
+  -- ---- forms
+
+  form-named : (least : ℕ) (good : ℕ → Bool) (b : List ℕ) → Named (Names n ks given) (readForm least good b)
+  unfolding readForm
+  form-named least good b = named-test (isWhole least b) _ _ refl λ t. named-test (good (getD b 4 0)) _ _ refl λ t. accepts
+
+  object-named : (version x : ℕ) (earlier : List Object) (b : List ℕ) (e : ObjectEntry) → length earlier < n → Named (Names n ks given) (checkObject version x earlier b e)
+  unfolding checkObject
+  object-named version x earlier b e l =
+      named-test (leb 2 (length b)) _ _ refl λ t.
+      named-at (carried x (e .object .type)) _ _ _ refl l λ t.
+      named-at (leb 1 (e .size) && leb (e .size) (labelLimit version)) _ _ _ refl l λ t.
+      named-test (leb (2 + e .size) (length b)) _ _ refl λ t.
+      named-at (labelGood (e .object .label)) _ _ _ refl l λ t.
+      named-at (not (repeats (e .object) earlier)) _ _ _ refl l λ t.
+      accepts
+
+  objects-named : (version x : ℕ) (earlier : List Object) (m : ℕ) (b : List ℕ) → length earlier + m ≤ n → Named (Names n ks given) (readObjects version x earlier m b)
+  objects-named version x earlier zero b l = named-test (eqb (length b) 0) _ _ refl λ t. accepts
+  objects-named version x earlier (suc m) b l =
+      named-then (checkObject version x earlier b (objectAt b)) _ (object-named version x earlier b (objectAt b) (omega arith))
+      λ e q. objects-named version x (earlier ++ (e .object ∷ [])) m (e .rest) (omega (arith, length-append earlier (e .object ∷ [])))
+
+-- how many objects a table's bytes say that it has
+abbrev pub countIn : List ℕ → ℕ
+countIn T = number (take 2 (drop 7 T))
+
+table-named : (b : List ℕ) {ks : List Kind} {given : ℕ → Type 0} → Named (Names (countIn b) ks given) (readTable b)
+unfolding readTable
+table-named b =
+    named-then (readForm 5 versionGood b) _ (form-named 5 versionGood b) λ f e.
+    named-test (catalogueGood (f .x) (f .y)) _ _ refl λ t.
+    named-test (leb (number (take 2 (f .contents))) 1024) _ _ refl λ t.
+    named-then (readObjects (f .version) (f .x) [] (number (take 2 (f .contents))) (drop 2 (f .contents))) _
+    (objects-named (f .version) (f .x) [] (number (take 2 (f .contents))) (drop 2 (f .contents)) (omega (arith, ap (λ (c : List ℕ). number (take 2 c)) (form-contents 5 versionGood b e))))
+    λ os e. accepts
+
+-- ---- under a plan
+
+abbrev pub NamesUnder : List Kind → (ℕ → Type 0) → ℕ → ℕ → ℕ → Type 0
+NamesUnder ks given = Names (length ks) ks given
+
+module _ (all : List Kind) {given : ℕ → Type 0} where
+  words-named : (i : ℕ) (ks : List Kind) (b : List ℕ) → drop i all ≡ ks → Named (NamesUnder all given) (readWords i ks b)
+  words-named i [] b e = accepts
+  words-named i (k ∷ ks) b e =
+      let h = head-at all i k ks e in
+      named-element k (number (take (widthOf k) b)) i _ (h .0) (h .1)
+      (named-then (readWords (suc i) ks (drop (widthOf k) b)) _ (words-named (suc i) ks (drop (widthOf k) b) (h .2)) λ ws q. accepts)
+
+pub image-named : (p : Plan) (b : List ℕ) {given : ℕ → Type 0} → Named (NamesUnder (p .kinds) given) (readImage p b)
+unfolding readImage
+image-named p b =
+    named-then (readForm 7 imageVersionGood b) _ (form-named 7 imageVersionGood b) λ f e.
+    named-test (sameCatalogue f p) _ _ refl λ t.
+    named-test (eqb (length (f .contents)) (4 + widths (p .kinds))) _ _ refl λ t.
+    named-then (readWords 0 (p .kinds) (drop 4 (f .contents))) _ (words-named (p .kinds) 0 (p .kinds) _ refl) λ ws e. accepts
+
+-- the two bytes of a number stand in a list
+pub record Stands (L : List ℕ) (i : ℕ) : Type 0 where
+  pub at : ℕ
+  pub inside : at + 2 ≤ length L
+  pub is : number (take 2 (drop at L)) ≡ i
+
+stands-behind : (k : ℕ) (b : List ℕ) {i : ℕ} → Stands (drop k b) i → Stands b i
+stands-behind k b s = record {
+  at = k + s .at;
+  inside = omega (arith, s .inside, length-drop k b);
+  is = ap (λ (c : List ℕ). number (take 2 c)) (sym (drop-drop (s .at) k b)) ∙ s .is;
+}
+
+module _ (ks : List Kind) {given : ℕ → Type 0} where
+  entry-named : (low : ℕ) (b : List ℕ) → ((i : ℕ) → Stands b i → given i) → Named (NamesUnder ks given) (checkEntry ks low b (entryAt ks b))
+  unfolding checkEntry checkChange
+  entry-named low b g =
+      let e : Entry = entryAt ks b in
+      named-test (leb 2 (length b)) _ _ refl λ t.
+      let its : given (e .object) = g (e .object) (record { at = 0; inside = leb-true _ _ t; is = refl }) in
+      named-unless (ltb (e .object) (length ks)) _ _ (λ f. refuses (no-object its (ltb-false _ _ f))) λ t.
+      let l : e .object < length ks = ltb-true _ _ t in
+      named-unless (leb low (e .object)) _ _ (λ f. refuses (its-number refl its l)) λ t.
+      named-test (leb (2 + (widthOf (e .kind) + widthOf (e .kind))) (length b)) _ _ refl λ t.
+      named-element (e .kind) (e .old) (e .object) _ l refl
+      (named-element (e .kind) (e .new) (e .object) _ l refl
+      (named-unless (not (eqb (e .old) (e .new))) _ _ (λ f. refuses (its-number refl its l)) λ t. accepts))
+
+  entries-named : (low m : ℕ) (b : List ℕ) → ((i : ℕ) → Stands b i → given i) → Named (NamesUnder ks given) (readEntries ks low m b)
+  entries-named low zero b g = named-test (eqb (length b) 0) _ _ refl λ t. accepts
+  entries-named low (suc m) b g =
+      named-then (checkEntry ks low b (entryAt ks b)) _ (entry-named low b g) λ e q.
+      let w : ℕ = widthOf (entryAt ks b .kind) in
+      let rest : e .rest ≡ drop w (drop w (drop 2 b)) = ap (λ (e : Entry). e .rest) (sym (was-checked ks low b (entryAt ks b) q .0)) in
+      let behind : (i : ℕ) → Stands (e .rest) i → given i = λ i s. g i (stands-behind 2 b (stands-behind w (drop 2 b) (stands-behind w (drop w (drop 2 b)) (rw rest at s)))) in
+      named-then (readEntries ks (suc (e .object)) m (e .rest)) _ (entries-named (suc (e .object)) m (e .rest) behind) λ cs q. accepts
+
+pub list-named : (p : Plan) (b : List ℕ) {given : ℕ → Type 0} → ((i : ℕ) → Stands b i → given i) → Named (NamesUnder (p .kinds) given) (readList p b)
+unfolding readList
+list-named p b {given} g =
+    named-then (readForm 13 (eqb listVersion) b) _ (form-named 13 (eqb listVersion) b) λ f e.
+    named-test (sameCatalogue f p) _ _ refl λ t.
+    let c = form-contents 13 (eqb listVersion) b e in
+    let behind : (i : ℕ) → Stands (drop 10 (f .contents)) i → given i = λ i s. g i (stands-behind 7 b (stands-behind 10 (drop 7 b) (rw c at s))) in
+    named-then (readEntries (p .kinds) 0 (number (take 2 (drop 8 (f .contents)))) (drop 10 (f .contents))) _ (entries-named (p .kinds) 0 (number (take 2 (drop 8 (f .contents)))) (drop 10 (f .contents)) behind) λ cs q. accepts
+
+-- ---- operations
+
+module _ {n : ℕ} {ks : List Kind} {given : ℕ → Type 0} where
+  lowest-named : {A B C : Type 0} (code : ℕ) → oneOf objects code ≡ true → (test : A → B → Bool) (i : ℕ) (xs : List A) (ys : List B) (c : C) → i + length ys ≤ n
+      → Named (Names n ks given) (lowest code test i xs ys c)
+  lowest-named code h test i [] ys c l = accepts
+  lowest-named code h test i (x ∷ xs) [] c l = accepts
+  lowest-named code h test i (x ∷ xs) (y ∷ ys) c l = named-at (test x y) code i _ h (omega arith) λ t. lowest-named code h test (suc i) xs ys c (omega arith)
+
+  pub applied-named : (l : Changes) (a : Image) → length (a .words) ≤ n → Named (Names n ks given) (applied l a)
+  unfolding applied
+  applied-named l a h =
+      named-test (leb (a .position) (l .from)) _ _ refl λ t.
+      named-test (leb (l .from) (a .position)) _ _ refl λ t.
+      lowest-named _ refl fits 0 (l .each) (a .words) _ (omega arith)
+
+  pub join-named : (l m : Changes) → length (m .each) ≤ n → Named (Names n ks given) (join l m)
+  unfolding join
+  join-named l m h = named-test (eqb (l .to) (m .from)) _ _ refl λ t. lowest-named _ refl meets 0 (l .each) (m .each) _ (omega arith)
+
+-- an accepted image has a word for each object
+words-long : (i : ℕ) (ks : List Kind) (b : List ℕ) {ws : List ℕ} → readWords i ks b ≡ done ws → length ws ≡ length ks
+words-long i [] b {ws} e = let ws-is : ws ≡ [] = cc in ap length ws-is
+words-long i (k ∷ ks) b {ws} e =
+    let w : ℕ = number (take (widthOf k) b) in
+    let q = used (readWords (suc i) ks (drop (widthOf k) b)) _ (was-accepted (element k w) i _ e .1) in
+    let ws-is : ws ≡ w ∷ q .0 = cc (q .2) in
+    ap length ws-is ∙ ap suc (words-long (suc i) ks (drop (widthOf k) b) (q .1))
+
+image-long : (p : Plan) (b : List ℕ) {a : Image} → readImage p b ≡ done a → length (a .words) ≡ length (p .kinds)
+unfolding readImage
+image-long p b {a} e =
+    let q = used (readForm 7 imageVersionGood b) _ e in
+    let f = q .0 in
+    let q₁ = held (sameCatalogue f p) _ _ _ _ (q .2) in
+    let q₂ = held (eqb (length (f .contents)) (4 + widths (p .kinds))) _ _ _ _ (q₁ .1) in
+    let q₃ = used (readWords 0 (p .kinds) (drop 4 (f .contents))) _ (q₂ .1) in
+    let ws-is : a .words ≡ q₃ .0 = cc (q₃ .2) in
+    ap length ws-is ∙ words-long 0 (p .kinds) (drop 4 (f .contents)) (q₃ .1)
+
+-- .. and an accepted list something to say of each
+entries-long : (ks : List Kind) (m low : ℕ) (b : List ℕ) {cs : List Change} → low ≤ length ks → readEntries ks low m b ≡ done cs → low + length cs ≡ length ks
+entries-long ks zero low b {cs} l q =
+    let cs-is : cs ≡ replicate (length ks - low) keep = cc (held (eqb (length b) 0) _ _ _ _ q .1) in
+    omega (arith, ap length cs-is, length-replicate (length ks - low) keep)
+entries-long ks (suc m) low b {cs} l q =
+    let p = used (checkEntry ks low b (entryAt ks b)) _ q in
+    let e : Entry = p .0 in
+    let c = was-checked ks low b (entryAt ks b) (p .1) in
+    let i : e .object ≡ entryAt ks b .object = ap (λ (e : Entry). e .object) (sym (c .0)) in
+    let r = used (readEntries ks (suc (e .object)) m (e .rest)) _ (p .2) in
+    let more = entries-long ks m (suc (e .object)) (e .rest) (omega (arith, c .1 .inside)) (r .1) in
+    let cs-is : cs ≡ replicate (e .object - low) keep ++ (swap (e .old) (e .new) ∷ r .0) = cc (r .2) in
+    omega (arith, ap length cs-is, length-append (replicate (e .object - low) keep) (swap (e .old) (e .new) ∷ r .0), length-replicate (e .object - low) keep, more, c .1 .up)
+
+list-long : (p : Plan) (b : List ℕ) {l : Changes} → readList p b ≡ done l → length (l .each) ≡ length (p .kinds)
+unfolding readList
+list-long p b {l} e =
+    let q = used (readForm 13 (eqb listVersion) b) _ e in
+    let f = q .0 in
+    let m : ℕ = number (take 2 (drop 8 (f .contents))) in
+    let r = used (readEntries (p .kinds) 0 m (drop 10 (f .contents))) _ (held (sameCatalogue f p) _ _ _ _ (q .2) .1) in
+    let each-is : l .each ≡ r .0 = cc (r .2) in
+    omega (arith, ap length each-is, entries-long (p .kinds) m 0 (drop 10 (f .contents)) (omega arith) (r .1))
+
+-- ---- states
+
+pub state-named : (ks : List Kind) (i : ℕ) (state : Element) → Named (NamesUnder ks (λ j. j ≡ i)) (checkState ks i state)
+unfolding checkState
+state-named ks i state =
+    named-unless (ltb i (length ks)) _ _ (λ f. refuses (no-object refl (ltb-false _ _ f))) λ t.
+    let l : i < length ks = ltb-true _ _ t in
+    named-unless (sameKind (kindIn state) (kindAt ks i)) _ _ (λ f. refuses (its-number refl refl l)) λ t.
+    named-element (kindAt ks i) (wordOf state) i _ l refl accepts
+
+-- ---- the calls, by the table's bytes: the count is what they say, the kinds are those of an accepted table's objects
+
+abbrev kindsOf : Verdict Plan → List Kind
+kindsOf (refused code object bit) = []
+kindsOf (done p) = p .kinds
+
+abbrev pub kindsIn : List ℕ → List Kind
+kindsIn T = kindsOf (readPlan T)
+
+abbrev pub NamesIn : List ℕ → (ℕ → Type 0) → ℕ → ℕ → ℕ → Type 0
+NamesIn T given = Names (countIn T) (kindsIn T) given
+
+pub plan-count : (T : List ℕ) {p : Plan} → readPlan T ≡ done p → length (p .kinds) ≡ countIn T
+unfolding readPlan planOf
+plan-count T {p} e =
+    let q = used (readTable T) _ e in
+    let t = q .0 in
+    let kinds-are : p .kinds ≡ map (λ (o : Object). kindOf (t .x) (o .type)) (t .objects) = cc (q .2) in
+    ap length kinds-are ∙ length-map (t .objects) (λ (o : Object). kindOf (t .x) (o .type)) ∙ table-is T (q .1) .count
+
+module _ (T : List ℕ) {given : ℕ → Type 0} where
+  plan-named : Named (NamesIn T given) (readPlan T)
+  unfolding readPlan
+  plan-named = named-then (readTable T) _ (table-named T) λ t e. accepts
+
+  -- what a call names under the plan, it names by the table's bytes
+  by-bytes : {A : Type 0} {v : Verdict A} {p : Plan} → readPlan T ≡ done p → Named (NamesUnder (p .kinds) given) v → Named (NamesIn T given) v
+  by-bytes e h = rw (e, ← plan-count T e) h
+
+  under : {A : Type 0} (f : Plan → Verdict A) → ((p : Plan) → Named (NamesUnder (p .kinds) given) (f p)) → Named (NamesIn T given) (then (readPlan T) f)
+  under f h = named-then (readPlan T) f plan-named λ p e. by-bytes e (h p)
+
+-- no number is handed in; this one; those in a list
+abbrev pub NoNumber : ℕ → Type 0
+NoNumber i = ⊥
+
+abbrev pub TheNumber : ℕ → ℕ → Type 0
+TheNumber i j = j ≡ i
+
+module _ (T : List ℕ) where
+  pub table-call-named : Named (NamesIn T NoNumber) (tableCall T)
+  unfolding tableCall
+  table-call-named = table-named T
+
+  pub image-call-named : (A : List ℕ) → Named (NamesIn T NoNumber) (imageCall T A)
+  unfolding imageCall
+  image-call-named A = under T _ λ p. image-named p A
+
+  pub list-call-named : (L : List ℕ) → Named (NamesIn T (Stands L)) (listCall T L)
+  unfolding listCall
+  list-call-named L = under T _ λ p. list-named p L λ i s. s
+
+  pub difference-call-named : (A B : List ℕ) → Named (NamesIn T NoNumber) (differenceCall T A B)
+  unfolding differenceCall differenceUnder
+  difference-call-named A B =
+      under T _ λ p.
+      named-then (readImage p A) _ (image-named p A) λ a e.
+      named-then (readImage p B) _ (image-named p B) λ b e. accepts
+
+  pub apply-call-named : (A L : List ℕ) → Named (NamesIn T (Stands L)) (applyCall T A L)
+  unfolding applyCall applyUnder
+  apply-call-named A L =
+      under T _ λ p.
+      named-then (readImage p A) _ (image-named p A) λ a e.
+      named-then (readList p L) _ (list-named p L (λ i s. s)) λ l f.
+      named-then (applied l a) _ (applied-named l a (omega (arith, image-long p A e))) λ b e. accepts
+
+  pub join-call-named : (L M : List ℕ) → Named (NamesIn T (λ i. Stands L i ⊎ Stands M i)) (joinCall T L M)
+  unfolding joinCall joinUnder
+  join-call-named L M =
+      under T _ λ p.
+      named-then (readList p L) _ (list-named p L (λ i s. inl s)) λ l e.
+      named-then (readList p M) _ (list-named p M (λ i s. inr s)) λ m f.
+      named-then (join l m) _ (join-named l m (omega (arith, list-long p M f))) λ k e. accepts
+
+  pub turn-call-named : (L : List ℕ) → Named (NamesIn T (Stands L)) (turnCall T L)
+  unfolding turnCall turnUnder
+  turn-call-named L = under T _ λ p. named-then (readList p L) _ (list-named p L (λ i s. s)) λ l e. accepts
+
+  pub read-call-named : (A : List ℕ) (i : ℕ) → Named (NamesIn T (TheNumber i)) (readStateCall T A i)
+  unfolding readStateCall readStateUnder
+  read-call-named A i =
+      under T _ λ p.
+      named-then (readImage p A) _ (image-named p A) λ a e.
+      named-unless (ltb i (length (p .kinds))) _ _ (λ f. refuses (no-object refl (ltb-false _ _ f))) λ t. accepts
+
+  pub write-call-named : (A : List ℕ) (i : ℕ) (state : Element) (position : ℕ) → Named (NamesIn T (TheNumber i)) (writeStateCall T A i state position)
+  unfolding writeStateCall writeStateUnder
+  write-call-named A i state position =
+      under T _ λ p.
+      named-then (readImage p A) _ (image-named p A) λ a e.
+      named-then (checkState (p .kinds) i state) _ (state-named (p .kinds) i state) λ w e. accepts
+
+  pub label-call-named : (i : ℕ) → Named (NamesIn T (TheNumber i)) (labelCall T i)
+  unfolding labelCall
+  label-call-named i =
+      named-then (readTable T) _ (table-named T) λ t e.
+      named-unless (ltb i (length (t .objects))) _ _ (λ f. refuses (no-object refl (omega (arith, ltb-false i (length (t .objects)) f, table-is T e .count)))) λ t. accepts
+
+  -- a state that is read is an object's
+  pub read-object : (A : List ℕ) {i : ℕ} {s : Element} → readStateCall T A i ≡ done s → (i < countIn T) × (i < length (kindsIn T)) × (kindIn s ≡ kindAt (kindsIn T) i)
+  unfolding readStateCall readStateUnder
+  read-object A {i} {s} e =
+      let q = used (readPlan T) _ e in
+      let p = q .0 in
+      let q₁ = used (readImage p A) _ (q .2) in
+      let q₂ = held (ltb i (length (p .kinds))) _ _ _ _ (q₁ .2) in
+      let l : i < length (p .kinds) = ltb-true _ _ (q₂ .0) in
+      let s-is : s ≡ stateAt p (q₁ .0) i = cc (q₂ .1) in
+      rw (q .1, ← plan-count T (q .1)) (l, l, ap kindIn s-is ∙ state-kind (kindAt (p .kinds) i) _)
+
+-- ---- the numbers given back: success and 21 name nothing
+
+pub data Tells (P : ℕ → ℕ → ℕ → Type 0) : Answer → Type 0 where
+  success : {n : ℕ} → Tells P (unnamed 0 n)
+  short : {n : ℕ} → Tells P (unnamed 21 n)
+  refusal : {code object bit : ℕ} → P code object bit → Tells P (numbers code object bit 0)
+
+module _ {P : ℕ → ℕ → ℕ → Type 0} where
+  pub told-names : {A : Type 0} (v : Verdict A) → Named P v → Tells P (told v)
+  unfolding told
+  told-names (refused code object bit) h = refusal (h .names refl)
+  told-names (done a) h = success
+
+  pub settled-names : (v : Verdict (List ℕ)) (out : List ℕ) → Named P v → Tells P (settled v out .answer)
+  unfolding settled
+  settled-names (refused code object bit) out h = refusal (h .names refl)
+  settled-names (done b) out h = go (leb (length b) (length out))
+    where
+      go : (u : Bool) → Tells P (cond {A = Outcome} u (record { answer = unnamed 0 (length b); output = b ++ drop (length b) out }) (record { answer = unnamed 21 (length b); output = out }) .answer)
+      go true = success
+      go false = short
