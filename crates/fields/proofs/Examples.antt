@@ -2,7 +2,7 @@
 -- Assumes nothing.
 use mathlib.Core.Path.{_≡_, refl}
 use mathlib.Core.List.{_∷_}
-use lib.ListN.{replicate}
+use lib.ListN.{take, set, replicate}
 use Rattle.octets.specs.Octets.{bytes}
 use Rattle.rows.specs.Table.{table, layouts}
 use Rattle.kinds.specs.declared.Kind.{Kind}
@@ -32,3 +32,15 @@ pub taken-in : (writeFieldsCall T A 1 2 (1 ∷ 2 ∷ replicate 30 0) 9 ≡ done 
     × (writeFieldsCall T A 1 2 (0 ∷ 1 ∷ replicate 30 0) 9 ≡ refused 12 1 0)
 unfolding table layouts datRule elementCheck stateOf wordOf bytes formBytes isWhole readForm versionGood catalogueGood labelLimit carried kindOf labelGood checkObject readTable planOf imageVersionGood element imageBytes readImage readPlan readStateUnder readStateCall checkState writeStateUnder writeStateCall writeFieldsCall
 taken-in = (refl, refl, refl, refl, refl)
+
+-- two faults at once: table, image and 13 before 22, 22 before 11, the lowest value before another, 11 before 12; a value of one bit; a number that
+-- no kind has; what stands behind the kind's own fields
+pub taken-orders : (writeFieldsCall (set T 6 1) (take 3 A) 7 4 (1 ∷ 4 ∷ replicate 30 0) 9 ≡ refused 3 65535 255)
+    × (writeFieldsCall T (set A 13 0x09) 7 4 (1 ∷ 4 ∷ replicate 30 0) 9 ≡ refused 10 1 3)
+    × (writeFieldsCall T A 0 4 (1 ∷ 0 ∷ 0 ∷ 0 ∷ 0 ∷ 3 ∷ 0 ∷ 0 ∷ 5 ∷ replicate 23 0) 9 ≡ refused 11 0 6)
+    × (writeFieldsCall T A 0 4 (0 ∷ 0 ∷ 0 ∷ 0 ∷ 0 ∷ 0 ∷ 0 ∷ 0 ∷ 5 ∷ replicate 23 0) 9 ≡ refused 11 0 10)
+    × (writeFieldsCall T A 0 4 (1 ∷ 0 ∷ 0 ∷ 2 ∷ replicate 28 0) 9 ≡ refused 11 0 3)
+    × (writeFieldsCall T A 1 10 (1 ∷ 2 ∷ replicate 30 0) 9 ≡ refused 22 1 255)
+    × (writeFieldsCall T A 1 2 (1 ∷ 2 ∷ replicate 30 9) 9 ≡ done C)
+unfolding table layouts datRule elementCheck stateOf wordOf bytes formBytes isWhole readForm versionGood catalogueGood labelLimit carried kindOf labelGood checkObject readTable planOf imageVersionGood element imageBytes readImage readPlan readStateUnder readStateCall checkState writeStateUnder writeStateCall writeFieldsCall
+taken-orders = (refl, refl, refl, refl, refl, refl, refl)

@@ -1,5 +1,6 @@
 pub mod Loops
 pub mod CallLaws
+pub mod NameLaws
 pub mod OneOutcome
 pub mod RoundTrip
 pub mod Examples

@@ -19,12 +19,15 @@ pub places : (answerSlots (numbers 11 4 10 3) ≡ 11 ∷ 4 ∷ 10 ∷ 3 ∷ 0 �
 unfolding answerSlots readSlots labelSlots
 places = (refl, refl, refl, refl, refl)
 
--- IC 03, AVG 01 00, SIG 00 00 01 D5; a type that is not carried, and a length that is not the type's
+-- IC 03, AVG 01 00, SIG 00 00 01 D5; a type that is not carried, whatever the length; a length that is not the type's, whatever the bits
 pub elements : (elementCall 2 (0x03 ∷ []) ≡ done 0x03)
     × (elementCall 22 (0x01 ∷ 0x00 ∷ []) ≡ done 0x0100)
     × (elementCall 1 (0x00 ∷ 0x00 ∷ 0x01 ∷ 0xD5 ∷ []) ≡ refused 11 65535 4)
     × (elementCall 2 (0x02 ∷ []) ≡ refused 12 65535 0)
     × (elementCall 10 (0x03 ∷ []) ≡ refused 5 65535 255)
     × (elementCall 2 (0x00 ∷ 0x03 ∷ []) ≡ refused 8 65535 255)
+    × (elementCall 2 (0x00 ∷ 0x09 ∷ []) ≡ refused 8 65535 255)
+    × (elementCall 2 [] ≡ refused 8 65535 255)
+    × (elementCall 2 (0x09 ∷ []) ≡ refused 10 65535 3)
 unfolding table layouts carried kindOf datRule elementCheck element elementCall
-elements = (refl, refl, refl, refl, refl, refl)
+elements = (refl, refl, refl, refl, refl, refl, refl, refl, refl)

@@ -1,3 +1,4 @@
 pub mod CallLaws
+pub mod NameLaws
 pub mod OneOutcome
 pub mod Examples

@@ -31,7 +31,7 @@ Coded (done a) = Unit {0}
 
 -- ---- what names as the paper says has one of its codes
 
-abbrev isCode : ℕ → Bool
+abbrev pub isCode : ℕ → Bool
 isCode code = leb 1 code && (leb code 22 && not (eqb code 21))
 
 is-code : (code : ℕ) → isCode code ≡ true → IsCode code
@@ -39,11 +39,11 @@ is-code code h =
     let r = right (leb 1 code) _ h in
     (leb-true _ _ (left (leb 1 code) _ h), leb-true _ _ (left (leb code 22) _ r), eqb-false _ _ (not-true (eqb code 21) (right (leb code 22) _ r)))
 
-abbrev all : List ℕ → Bool
+abbrev pub all : List ℕ → Bool
 all [] = true
 all (c ∷ cs) = isCode c && all cs
 
-one-of : (cs : List ℕ) (code : ℕ) → all cs ≡ true → oneOf cs code ≡ true → IsCode code
+pub one-of : (cs : List ℕ) (code : ℕ) → all cs ≡ true → oneOf cs code ≡ true → IsCode code
 one-of [] code h e = absurd (let z : _≡_ {A = ℕ} 0 1 = cc in omega arith)
 one-of (c ∷ cs) code h e = go (eqb code c) refl (one-of cs code (right (isCode c) _ h)) e
   where
@@ -51,10 +51,14 @@ one-of (c ∷ cs) code h e = go (eqb code c) refl (one-of cs code (right (isCode
     go true q later e = is-code code (ap isCode (eqb-true code c q) ∙ left (isCode c) _ h)
     go false q later e = later e
 
-field-code : {k : Kind} {code bit : ℕ} → Refuses k code bit → IsCode code
+pub field-code : {k : Kind} {code bit : ℕ} → Refuses k code bit → IsCode code
 field-code (reserved r e) = (omega arith, omega arith, (λ e. omega arith))
 field-code (unlisted r e) = (omega arith, omega arith, (λ e. omega arith))
 field-code (silent e) = (omega arith, omega arith, (λ e. omega arith))
+
+pub coded-by : {P : ℕ → ℕ → ℕ → Type 0} {A : Type 0} {v : Verdict A} → ((code object bit : ℕ) → P code object bit → IsCode code) → Named P v → Coded v
+coded-by {v = refused code object bit} f h = f code object bit (h .names refl)
+coded-by {v = done a} f h = tt
 
 module _ {n : ℕ} {ks : List Kind} {given : ℕ → Type 0} where
   code-of : {code object bit : ℕ} → Names n ks given code object bit → IsCode code
@@ -65,8 +69,7 @@ module _ {n : ℕ} {ks : List Kind} {given : ℕ → Type 0} where
   code-of (its-field l r) = field-code r
 
   pub coded : {A : Type 0} {v : Verdict A} → Named (Names n ks given) v → Coded v
-  coded {v = refused code object bit} h = code-of (h .names refl)
-  coded {v = done a} h = tt
+  coded h = coded-by (λ code object bit. code-of) h
 
 -- ---- forms and operations under any plan
 

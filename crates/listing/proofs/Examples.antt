@@ -1,9 +1,9 @@
--- The paper's listing of its table and image A, and its refusal line, where object 1's element is 09.
+-- The paper's listing of its table and image A, and its refusal line, where object 1's element is 09; input that is too short, and two faults.
 -- Assumes nothing.
 use Prim.Native.Nat.{ℕ}
 use mathlib.Core.Path.{_≡_, refl}
 use mathlib.Core.List.{List, [], _∷_, _++_}
-use lib.ListN.{set}
+use lib.ListN.{take, set}
 use Rattle.octets.specs.Octets.{bytes}
 use Rattle.rows.specs.Table.{table, layouts}
 use Rattle.elements.specs.Elements.{carried, kindOf, datRule, elementCheck}
@@ -29,3 +29,18 @@ refusal = 0x72 ∷ 0x65 ∷ 0x66 ∷ 0x75 ∷ 0x73 ∷ 0x65 ∷ 0x64 ∷ 0x20 �
 pub listings : (listingOf (T ++ A) ≡ printed) × (listingOf (T ++ set A 13 9) ≡ refusal)
 unfolding bytes table layouts carried kindOf datRule elementCheck isWhole readForm versionGood catalogueGood labelLimit labelGood checkObject readTable planOf imageVersionGood element readImage decimalIn decimal hexDigit readBoth readPanel firstLine objectLine refusedLine textOf listingOf
 listings = (refl, refl)
+
+-- "refused 1 65535 255" and "refused 3 65535 255", each with its newline
+abbrev unnamed : ℕ → List ℕ
+unnamed digit =
+    0x72 ∷ 0x65 ∷ 0x66 ∷ 0x75 ∷ 0x73 ∷ 0x65 ∷ 0x64 ∷ 0x20 ∷ digit
+    ∷ 0x20 ∷ 0x36 ∷ 0x35 ∷ 0x35 ∷ 0x33 ∷ 0x35 ∷ 0x20 ∷ 0x32 ∷ 0x35 ∷ 0x35 ∷ 0x0A ∷ []
+
+-- three bytes, all but the table's last, the table alone; a table of catalogue 1.1 before an image that is cut; no object
+pub short-listings : (listingOf (take 3 T) ≡ unnamed 0x31)
+    × (listingOf (take 23 T) ≡ unnamed 0x31)
+    × (listingOf T ≡ unnamed 0x31)
+    × (listingOf (set T 6 1 ++ take 3 A) ≡ unnamed 0x33)
+    × (listingOf (0 ∷ 0 ∷ 0 ∷ 5 ∷ 1 ∷ 1 ∷ 0 ∷ 0 ∷ 0 ∷ 0 ∷ 0 ∷ 0 ∷ 7 ∷ 1 ∷ 1 ∷ 0 ∷ 0 ∷ 0 ∷ 1 ∷ 0 ∷ []) ≡ 0x31 ∷ 0x2E ∷ 0x30 ∷ 0x20 ∷ 0x32 ∷ 0x35 ∷ 0x36 ∷ 0x20 ∷ 0x30 ∷ 0x0A ∷ [])
+unfolding bytes table layouts carried kindOf datRule elementCheck isWhole readForm versionGood catalogueGood labelLimit labelGood checkObject readTable planOf imageVersionGood element readImage decimalIn decimal hexDigit readBoth readPanel firstLine objectLine refusedLine textOf listingOf
+short-listings = (refl, refl, refl, refl, refl)
