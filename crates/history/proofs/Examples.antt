@@ -13,7 +13,7 @@ use Rattle.cases.specs.declared.ChangerAspect.{ChangerAspect}
 use Rattle.cases.specs.declared.BoardAspect.{BoardAspect}
 use Rattle.history.specs.declared.Standing.{Standing}
 use Rattle.octets.specs.Octets.{bytes}
-use Rattle.history.specs.Verdict.{refused, done, settled, numbers, unnamed}
+use Rattle.history.specs.Verdict.{refused, done, told, settled, numbers, unnamed}
 use Rattle.history.specs.Form.{formBytes, isWhole, readForm}
 use Rattle.history.specs.Table.{versionGood, catalogueGood, labelLimit, labelGood, checkObject, readTable, planOf}
 use Rattle.history.specs.Image.{imageVersionGood, element, imageBytes, readImage}
@@ -80,8 +80,10 @@ pub printed : (tableCall T ≡ done (record { version = 1; x = 1; y = 0; objects
     × (writeStateCall T A 1 (Element.ChangerSignal (record { current = true; aspect = ChangerAspect.FixedC })) 9 ≡ done C)
     × (labelCall T 1 ≡ done (record { offset = 19; size = 5 }))
     × (settled (differenceCall T A B) (replicate 23 0 ++ (5 ∷ [])) ≡ record { answer = unnamed 0 23; output = AB ++ (5 ∷ []) })
-unfolding table layouts datRule elementCheck stateOf wordOf bytes settled formBytes isWhole readForm versionGood catalogueGood labelLimit carried kindOf labelGood checkObject readTable planOf imageVersionGood element imageBytes readImage listVersion listBytes checkChange checkEntry readList difference applied join turned readPlan tableCall imageCall listCall differenceUnder differenceCall applyUnder applyCall joinUnder joinCall turnUnder turnCall readStateUnder readStateCall checkState writeStateUnder writeStateCall labelCall zipWith
-printed = (refl, refl, refl, refl, refl, refl, refl, refl, refl, refl, refl, refl, refl, refl)
+    × (told (imageCall T A) ≡ unnamed 0 0)
+    × (told (imageCall T (set A 13 0x09)) ≡ numbers 10 1 3 0)
+unfolding table layouts datRule elementCheck stateOf wordOf bytes told settled formBytes isWhole readForm versionGood catalogueGood labelLimit carried kindOf labelGood checkObject readTable planOf imageVersionGood element imageBytes readImage listVersion listBytes checkChange checkEntry readList difference applied join turned readPlan tableCall imageCall listCall differenceUnder differenceCall applyUnder applyCall joinUnder joinCall turnUnder turnCall readStateUnder readStateCall checkState writeStateUnder writeStateCall labelCall zipWith
+printed = (refl, refl, refl, refl, refl, refl, refl, refl, refl, refl, refl, refl, refl, refl, refl, refl)
 
 pub each-code : (tableCall (take 3 T) ≡ refused 1 65535 255)
     × (tableCall (set T 4 2) ≡ refused 2 65535 255)
@@ -99,6 +101,7 @@ pub each-code : (tableCall (take 3 T) ≡ refused 1 65535 255)
     × (imageCall T (set A 13 0x02) ≡ refused 12 1 0)
     × (listCall T (set AB 18 2) ≡ refused 13 2 255)
     × (readStateCall T A 2 ≡ refused 13 2 255)
+    × (writeStateCall T A 2 fixedT 9 ≡ refused 13 2 255)
     × (listCall T (set BC 24 0) ≡ refused 14 0 255)
     × (listCall T (set AB 22 1) ≡ refused 15 0 255)
     × (applyCall T C AB ≡ refused 16 65535 255)
@@ -110,7 +113,7 @@ pub each-code : (tableCall (take 3 T) ≡ refused 1 65535 255)
     × (writeStateCall T A 0 (Element.ChangerSignal (record { current = true; aspect = ChangerAspect.FixedT })) 9 ≡ refused 22 0 255)
     × (writeStateCall T A 1 (Element.ChangerSignal (record { current = false; aspect = ChangerAspect.FixedT })) 9 ≡ refused 12 1 0)
 unfolding table layouts datRule elementCheck stateOf wordOf bytes settled formBytes isWhole readForm versionGood catalogueGood labelLimit carried kindOf labelGood checkObject readTable planOf imageVersionGood element imageBytes readImage listVersion listBytes checkChange checkEntry readList difference applied join turned readPlan tableCall imageCall listCall differenceUnder differenceCall applyUnder applyCall joinUnder joinCall turnUnder turnCall readStateUnder readStateCall checkState writeStateUnder writeStateCall zipWith
-each-code = (refl, refl, refl, refl, refl, refl, refl, refl, refl, refl, refl, refl, refl, refl, refl, refl, refl, refl, refl, refl, refl, refl, refl, refl, refl, refl)
+each-code = (refl, refl, refl, refl, refl, refl, refl, refl, refl, refl, refl, refl, refl, refl, refl, refl, refl, refl, refl, refl, refl, refl, refl, refl, refl, refl, refl)
 
 -- what is named: the object's own number, wherever it stands
 pub names-each : (tableCall (set T 17 10) ≡ refused 5 1 255)
@@ -122,6 +125,7 @@ pub names-each : (tableCall (set T 17 10) ≡ refused 5 1 255)
     × (writeStateCall T A 7 fixedT 9 ≡ refused 13 7 255)
     × (labelCall T 7 ≡ refused 13 7 255)
     × (listCall T falling ≡ refused 14 0 255)
+    × (listCall T (0 ∷ 0 ∷ 0 ∷ 0x15 ∷ 1 ∷ 1 ∷ 0 ∷ 0 ∷ 0 ∷ 0 ∷ 8 ∷ 0 ∷ 0 ∷ 0 ∷ 9 ∷ 0 ∷ 2 ∷ 0 ∷ 1 ∷ 0x03 ∷ 0x05 ∷ 0 ∷ 1 ∷ 0x05 ∷ 0x03 ∷ []) ≡ refused 14 1 255)
     × (listCall T (set AC 20 0x03) ≡ refused 15 1 255)
     × (listCall T (set AC 19 0x09) ≡ refused 10 1 3)
     × (listCall T (set AC 20 0x0D) ≡ refused 10 1 3)
@@ -131,7 +135,7 @@ pub names-each : (tableCall (set T 17 10) ≡ refused 5 1 255)
     × (joinCall T AC (set (set AC 10 9) 19 0x07) ≡ refused 20 1 255)
     × (writeStateCall T A 1 (Element.VirtualBoard (record { current = true; aspect = BoardAspect.Red; «closing_commanded» = false })) 9 ≡ refused 22 1 255)
 unfolding table layouts datRule elementCheck stateOf wordOf bytes settled formBytes isWhole readForm versionGood catalogueGood labelLimit carried kindOf labelGood checkObject readTable planOf imageVersionGood element imageBytes readImage listVersion listBytes checkChange checkEntry readList difference applied join turned readPlan tableCall imageCall listCall differenceUnder differenceCall applyUnder applyCall joinUnder joinCall turnUnder turnCall readStateUnder readStateCall checkState writeStateUnder writeStateCall zipWith labelCall
-names-each = (refl, refl, refl, refl, refl, refl, refl, refl, refl, refl, refl, refl, refl, refl, refl, refl, refl)
+names-each = (refl, refl, refl, refl, refl, refl, refl, refl, refl, refl, refl, refl, refl, refl, refl, refl, refl, refl)
 
 -- 8, by where bytes are lacking or left over
 pub eights : (tableCall (0 ∷ 0 ∷ 0 ∷ 6 ∷ 1 ∷ 1 ∷ 0 ∷ 0 ∷ 1 ∷ 2 ∷ []) ≡ refused 8 65535 255)

@@ -59,6 +59,13 @@ pub data Names (n : ℕ) (ks : List Kind) (given : ℕ → Type 0) : (code objec
   no-object : {i : ℕ} → given i → n ≤ i → Names n ks given 13 i 255
   its-field : {code i bit : ℕ} → i < length ks → Refuses (kindAt ks i) code bit → Names n ks given code i bit
 
+-- no number is handed in; this one; below, those whose bytes stand in a list
+abbrev pub NoNumber : ℕ → Type 0
+NoNumber i = ⊥
+
+abbrev pub TheNumber : ℕ → ℕ → Type 0
+TheNumber i j = j ≡ i
+
 -- a verdict that is a refusal names what it may
 pub record Named (P : ℕ → ℕ → ℕ → Type 0) {A : Type 0} (v : Verdict A) : Type 0 where
   pub names : {code object bit : ℕ} → v ≡ refused code object bit → P code object bit
@@ -225,7 +232,7 @@ module _ {n : ℕ} {ks : List Kind} {given : ℕ → Type 0} where
       named-test (leb (l .from) (a .position)) _ _ refl λ t.
       lowest-named _ refl fits 0 (l .each) (a .words) _ (omega arith)
 
-  pub join-named : (l m : Changes) → length (m .each) ≤ n → Named (Names n ks given) (join l m)
+  join-named : (l m : Changes) → length (m .each) ≤ n → Named (Names n ks given) (join l m)
   unfolding join
   join-named l m h = named-test (eqb (l .to) (m .from)) _ _ refl λ t. lowest-named _ refl meets 0 (l .each) (m .each) _ (omega arith)
 
@@ -276,7 +283,7 @@ list-long p b {l} e =
 
 -- ---- states
 
-pub state-named : (ks : List Kind) (i : ℕ) (state : Element) → Named (NamesUnder ks (λ j. j ≡ i)) (checkState ks i state)
+pub state-named : (ks : List Kind) (i : ℕ) (state : Element) → Named (NamesUnder ks (TheNumber i)) (checkState ks i state)
 unfolding checkState
 state-named ks i state =
     named-unless (ltb i (length ks)) _ _ (λ f. refuses (no-object refl (ltb-false _ _ f))) λ t.
@@ -296,7 +303,7 @@ kindsIn T = kindsOf (readPlan T)
 abbrev pub NamesIn : List ℕ → (ℕ → Type 0) → ℕ → ℕ → ℕ → Type 0
 NamesIn T given = Names (countIn T) (kindsIn T) given
 
-pub plan-count : (T : List ℕ) {p : Plan} → readPlan T ≡ done p → length (p .kinds) ≡ countIn T
+plan-count : (T : List ℕ) {p : Plan} → readPlan T ≡ done p → length (p .kinds) ≡ countIn T
 unfolding readPlan planOf
 plan-count T {p} e =
     let q = used (readTable T) _ e in
@@ -315,13 +322,6 @@ module _ (T : List ℕ) {given : ℕ → Type 0} where
 
   under : {A : Type 0} (f : Plan → Verdict A) → ((p : Plan) → Named (NamesUnder (p .kinds) given) (f p)) → Named (NamesIn T given) (then (readPlan T) f)
   under f h = named-then (readPlan T) f plan-named λ p e. by-bytes e (h p)
-
--- no number is handed in; this one; those in a list
-abbrev pub NoNumber : ℕ → Type 0
-NoNumber i = ⊥
-
-abbrev pub TheNumber : ℕ → ℕ → Type 0
-TheNumber i j = j ≡ i
 
 module _ (T : List ℕ) where
   pub table-call-named : Named (NamesIn T NoNumber) (tableCall T)
@@ -403,10 +403,11 @@ pub data Tells (P : ℕ → ℕ → ℕ → Type 0) : Answer → Type 0 where
   refusal : {code object bit : ℕ} → P code object bit → Tells P (numbers code object bit 0)
 
 module _ {P : ℕ → ℕ → ℕ → Type 0} where
-  pub told-names : {A : Type 0} (v : Verdict A) → Named P v → Tells P (told v)
+  -- of a call that writes nothing, with length 0
+  pub told-names : {A : Type 0} (v : Verdict A) → Named P v → Tells P (told v) × (told v .length ≡ 0)
   unfolding told
-  told-names (refused code object bit) h = refusal (h .names refl)
-  told-names (done a) h = success
+  told-names (refused code object bit) h = (refusal (h .names refl), refl)
+  told-names (done a) h = (success, refl)
 
   pub settled-names : (v : Verdict (List ℕ)) (out : List ℕ) → Named P v → Tells P (settled v out .answer)
   unfolding settled
