@@ -15,7 +15,7 @@ use Rattle.history.specs.declared.Standing.{Standing}
 use Rattle.octets.specs.Octets.{bytes}
 use Rattle.history.specs.Verdict.{refused, done, told, settled, numbers, unnamed}
 use Rattle.history.specs.Form.{formBytes, isWhole, readForm}
-use Rattle.history.specs.Table.{versionGood, catalogueGood, labelLimit, labelGood, checkObject, readTable, planOf}
+use Rattle.history.specs.Table.{versionGood, catalogueGood, labelLimit, firstColon, labelGood, checkObject, readTable, planOf}
 use Rattle.history.specs.Image.{imageVersionGood, element, imageBytes, readImage}
 use Rattle.history.specs.declared.Change.the-variants.{Keep as keep, Swap as swap}
 use Rattle.history.specs.Changes.{listVersion, listBytes, checkChange, checkEntry, readList}
@@ -191,6 +191,22 @@ pub orders : (tableCall (set (T ++ (0 ∷ [])) 4 2) ≡ refused 1 65535 255)
 unfolding table layouts datRule elementCheck stateOf wordOf bytes settled formBytes isWhole readForm versionGood catalogueGood labelLimit carried kindOf labelGood checkObject readTable planOf imageVersionGood element imageBytes readImage listVersion listBytes checkChange checkEntry readList difference applied join turned readPlan tableCall imageCall listCall differenceUnder differenceCall applyUnder applyCall joinUnder joinCall turnUnder turnCall readStateUnder readStateCall checkState writeStateUnder writeStateCall zipWith
 orders = (refl, refl, refl, refl, refl, refl, refl, refl, refl, refl, refl, refl, refl, refl, refl, refl)
 
+-- at the edges: the least lengths, 5, 7 and 13; an entry of two bytes and no more; labels of 1 and 32 bytes that are cut; one byte lacking
+pub edges : (tableCall (0 ∷ 0 ∷ 0 ∷ 4 ∷ 1 ∷ 1 ∷ 0 ∷ 0 ∷ []) ≡ refused 1 65535 255)
+    × (tableCall (0 ∷ 0 ∷ 0 ∷ 5 ∷ 1 ∷ 1 ∷ 0 ∷ 0 ∷ 0 ∷ []) ≡ done (record { version = 1; x = 1; y = 0; objects = [] }))
+    × (imageCall T (0 ∷ 0 ∷ 0 ∷ 6 ∷ 1 ∷ 1 ∷ 0 ∷ 0 ∷ 0 ∷ 0 ∷ []) ≡ refused 1 65535 255)
+    × (imageCall T (0 ∷ 0 ∷ 0 ∷ 7 ∷ 1 ∷ 1 ∷ 0 ∷ 0 ∷ 0 ∷ 0 ∷ 7 ∷ []) ≡ refused 8 65535 255)
+    × (listCall T (0 ∷ 0 ∷ 0 ∷ 0x0C ∷ 1 ∷ 1 ∷ 0 ∷ 0 ∷ 0 ∷ 0 ∷ 7 ∷ 0 ∷ 0 ∷ 0 ∷ 8 ∷ 0 ∷ []) ≡ refused 1 65535 255)
+    × (listCall T (0 ∷ 0 ∷ 0 ∷ 0x0D ∷ 1 ∷ 1 ∷ 0 ∷ 0 ∷ 0 ∷ 0 ∷ 7 ∷ 0 ∷ 0 ∷ 0 ∷ 8 ∷ 0 ∷ 0 ∷ []) ≡ done (record { from = 7; to = 8; each = keep ∷ keep ∷ [] }))
+    × (tableCall (0 ∷ 0 ∷ 0 ∷ 7 ∷ 1 ∷ 1 ∷ 0 ∷ 0 ∷ 1 ∷ 10 ∷ 3 ∷ []) ≡ refused 5 0 255)
+    × (tableCall (0 ∷ 0 ∷ 0 ∷ 7 ∷ 1 ∷ 1 ∷ 0 ∷ 0 ∷ 1 ∷ 2 ∷ 0 ∷ []) ≡ refused 6 0 255)
+    × (tableCall (0 ∷ 0 ∷ 0 ∷ 7 ∷ 1 ∷ 1 ∷ 0 ∷ 0 ∷ 1 ∷ 2 ∷ 1 ∷ []) ≡ refused 8 65535 255)
+    × (tableCall (0 ∷ 0 ∷ 0 ∷ 7 ∷ 1 ∷ 1 ∷ 0 ∷ 0 ∷ 1 ∷ 2 ∷ 32 ∷ []) ≡ refused 8 65535 255)
+    × (tableCall (0 ∷ 0 ∷ 0 ∷ 9 ∷ 1 ∷ 1 ∷ 0 ∷ 0 ∷ 1 ∷ 2 ∷ 3 ∷ 0x41 ∷ 0x3A ∷ []) ≡ refused 8 65535 255)
+    × (listCall T (set (take 22 AB) 3 0x12) ≡ refused 8 65535 255)
+unfolding table layouts datRule elementCheck stateOf wordOf bytes settled formBytes isWhole readForm versionGood catalogueGood labelLimit carried kindOf labelGood checkObject readTable planOf imageVersionGood element imageBytes readImage listVersion listBytes checkChange checkEntry readList difference applied join turned readPlan tableCall imageCall listCall differenceUnder differenceCall applyUnder applyCall joinUnder joinCall turnUnder turnCall readStateUnder readStateCall checkState writeStateUnder writeStateCall zipWith
+edges = (refl, refl, refl, refl, refl, refl, refl, refl, refl, refl, refl, refl)
+
 -- in a call: the table before all else, a form before what is asked of it, the gap before the values
 pub call-orders : (listCall (set T 6 1) (take 3 AB) ≡ refused 3 65535 255)
     × (differenceCall (set T 6 1) (take 3 A) B ≡ refused 3 65535 255)
@@ -208,14 +224,15 @@ unfolding table layouts datRule elementCheck stateOf wordOf bytes settled formBy
 call-orders = (refl, refl, refl, refl, refl, refl, refl, refl, refl, refl, refl, refl)
 
 -- what the forms may hold: labels of 33 to 126 with a colon inside, 32 bytes, version 1, catalogue 1.0
-pub limits : (map labelGood ((33 ∷ 58 ∷ 126 ∷ []) ∷ (32 ∷ 58 ∷ 65 ∷ []) ∷ (65 ∷ 58 ∷ 127 ∷ []) ∷ (58 ∷ 65 ∷ []) ∷ (65 ∷ 58 ∷ []) ∷ (65 ∷ 66 ∷ 67 ∷ []) ∷ (65 ∷ 58 ∷ 58 ∷ []) ∷ []) ≡ true ∷ false ∷ false ∷ false ∷ false ∷ false ∷ true ∷ [])
+pub limits : (map firstColon ((65 ∷ 58 ∷ 58 ∷ []) ∷ (65 ∷ 66 ∷ []) ∷ []) ≡ 1 ∷ 2 ∷ [])
+    × (map labelGood ((33 ∷ 58 ∷ 126 ∷ []) ∷ (32 ∷ 58 ∷ 65 ∷ []) ∷ (65 ∷ 58 ∷ 127 ∷ []) ∷ (58 ∷ 65 ∷ []) ∷ (65 ∷ 58 ∷ []) ∷ (65 ∷ 66 ∷ 67 ∷ []) ∷ (65 ∷ 58 ∷ 58 ∷ []) ∷ []) ≡ true ∷ false ∷ false ∷ false ∷ false ∷ false ∷ true ∷ [])
     × (labelLimit 1 ≡ 32)
     × (map versionGood (0 ∷ 1 ∷ 2 ∷ 255 ∷ []) ≡ false ∷ true ∷ false ∷ false ∷ [])
     × (map imageVersionGood (0 ∷ 1 ∷ 2 ∷ 255 ∷ []) ≡ false ∷ true ∷ false ∷ false ∷ [])
     × (map (catalogueGood 1) (0 ∷ 1 ∷ 2 ∷ []) ≡ true ∷ false ∷ false ∷ [])
     × (map (λ (x : ℕ). catalogueGood x 0) (0 ∷ 2 ∷ 3 ∷ []) ≡ false ∷ false ∷ false ∷ [])
 unfolding labelGood labelLimit versionGood imageVersionGood catalogueGood
-limits = (refl, refl, refl, refl, refl, refl)
+limits = (refl, refl, refl, refl, refl, refl, refl)
 
 -- "A join that drops an object also applies to images that refuse the steps": the join of AB and BC drops object 0
 pub trap : (joinCall T AB BC ≡ done AC) × (applyCall T X AB ≡ refused 18 0 255) × (applyCall T X AC ≡ done Y)
