@@ -1,13 +1,13 @@
--- A refusal's code is one of the paper's, 1 to 20 and 22 (21 is `settled`'s), and is never 0: so code 0 tells success.
+-- A refusal's code is one of the paper's (21 is `settled`'s), and so never 0: code 0 tells success.
 -- Assumes nothing.
 use Prim.Native.Nat.{ℕ, _≤_}
 use native.Mathlib.Omega.{arith}
 use mathlib.Core.Path.{_≡_, refl, sym, ap, ap₂, _∙_}
-use mathlib.Core.Bool.{Bool, true, false, not, _&&_, _||_}
+use mathlib.Core.Bool.{Bool, true, false, false≢true, _&&_, _||_}
 use mathlib.Core.List.{List, [], _∷_}
 use lib.Dec.{eqb, leb}
 use lib.ListN.{length, take, drop}
-use borrow.Author.Tests.{leb-true, leb-false, eqb-true, eqb-false, not-true}
+use borrow.Author.Tests.{leb-true, leb-false, eqb-true}
 use Rattle.kinds.specs.declared.Kind.{Kind}
 use Rattle.kinds.specs.declared.Element.{Element}
 use Rattle.elements.proofs.Findings.{Refuses, reserved, unlisted, silent}
@@ -22,8 +22,12 @@ use Rattle.history.proofs.VerdictLaws.{left, right}
 use Rattle.history.proofs.OutputLaws.{Ran, succeeds, too-short}
 use Rattle.history.proofs.NameLaws.{nothings, objects, itsNumbers, oneOf, Names, nothing, an-object, its-number, no-object, its-field, Named, NoNumber, image-named, list-named, applied-named, state-named, table-call-named, image-call-named, list-call-named, difference-call-named, apply-call-named, join-call-named, turn-call-named, read-call-named, write-call-named, label-call-named}
 
+-- the paper's codes but for 21
+abbrev pub codes : List ℕ
+codes = 1 ∷ 2 ∷ 3 ∷ 4 ∷ 5 ∷ 6 ∷ 7 ∷ 8 ∷ 9 ∷ 10 ∷ 11 ∷ 12 ∷ 13 ∷ 14 ∷ 15 ∷ 16 ∷ 17 ∷ 18 ∷ 19 ∷ 20 ∷ 22 ∷ []
+
 abbrev pub IsCode : ℕ → Type 0
-IsCode code = (1 ≤ code) × (code ≤ 22) × (code ≡ 21 → ⊥)
+IsCode code = oneOf codes code ≡ true
 
 abbrev pub Coded : {A : Type 0} → Verdict A → Type 0
 Coded (refused code object bit) = IsCode code
@@ -31,30 +35,22 @@ Coded (done a) = Unit {0}
 
 -- ---- what names as the paper says has one of its codes
 
-abbrev pub isCode : ℕ → Bool
-isCode code = leb 1 code && (leb code 22 && not (eqb code 21))
-
-is-code : (code : ℕ) → isCode code ≡ true → IsCode code
-is-code code h =
-    let r = right (leb 1 code) _ h in
-    (leb-true _ _ (left (leb 1 code) _ h), leb-true _ _ (left (leb code 22) _ r), eqb-false _ _ (not-true (eqb code 21) (right (leb code 22) _ r)))
-
 abbrev pub all : List ℕ → Bool
 all [] = true
-all (c ∷ cs) = isCode c && all cs
+all (c ∷ cs) = oneOf codes c && all cs
 
 pub one-of : (cs : List ℕ) (code : ℕ) → all cs ≡ true → oneOf cs code ≡ true → IsCode code
 one-of [] code h e = absurd (let z : _≡_ {A = ℕ} 0 1 = cc in omega arith)
-one-of (c ∷ cs) code h e = go (eqb code c) refl (one-of cs code (right (isCode c) _ h)) e
+one-of (c ∷ cs) code h e = go (eqb code c) refl (one-of cs code (right (oneOf codes c) _ h)) e
   where
     go : (b : Bool) → eqb code c ≡ b → (oneOf cs code ≡ true → IsCode code) → (b || oneOf cs code) ≡ true → IsCode code
-    go true q later e = is-code code (ap isCode (eqb-true code c q) ∙ left (isCode c) _ h)
+    go true q later e = ap (oneOf codes) (eqb-true code c q) ∙ left (oneOf codes c) _ h
     go false q later e = later e
 
 pub field-code : {k : Kind} {code bit : ℕ} → Refuses k code bit → IsCode code
-field-code (reserved r e) = (omega arith, omega arith, (λ e. omega arith))
-field-code (unlisted r e) = (omega arith, omega arith, (λ e. omega arith))
-field-code (silent e) = (omega arith, omega arith, (λ e. omega arith))
+field-code (reserved r e) = refl
+field-code (unlisted r e) = refl
+field-code (silent e) = refl
 
 pub coded-by : {P : ℕ → ℕ → ℕ → Type 0} {A : Type 0} {v : Verdict A} → ((code object bit : ℕ) → P code object bit → IsCode code) → Named P v → Coded v
 coded-by {v = refused code object bit} f h = f code object bit (h .names refl)
@@ -62,10 +58,10 @@ coded-by {v = done a} f h = tt
 
 module _ {n : ℕ} {ks : List Kind} {given : ℕ → Type 0} where
   code-of : {code object bit : ℕ} → Names n ks given code object bit → IsCode code
-  code-of (nothing h) = one-of nothings _ refl h
-  code-of (an-object h l) = one-of objects _ refl h
-  code-of (its-number h g l) = one-of itsNumbers _ refl h
-  code-of (no-object g l) = (omega arith, omega arith, (λ e. omega arith))
+  code-of (nothing {code} h) = one-of nothings code refl h
+  code-of (an-object {code} h l) = one-of objects code refl h
+  code-of (its-number {code} h g l) = one-of itsNumbers code refl h
+  code-of (no-object g l) = refl
   code-of (its-field l r) = field-code r
 
   pub coded : {A : Type 0} {v : Verdict A} → Named (Names n ks given) v → Coded v
@@ -120,10 +116,13 @@ module _ (t : List ℕ) where
 
 -- ---- code 0 tells success
 
+not-zero : {A : Type 0} {code : ℕ} → IsCode code → code ≡ 0 → A
+not-zero h e = absurd (false≢true (sym (ap (oneOf codes) e) ∙ h))
+
 -- of a call that writes: there was room for what it found
 pub zero-succeeds : (v : Verdict (List ℕ)) (out : List ℕ) → Coded v → settled v out .answer .code ≡ 0 → (b : List ℕ) × (v ≡ done b) × (length b ≤ length out)
 unfolding settled
-zero-succeeds (refused code object bit) out h e = absurd (omega (arith, h .0))
+zero-succeeds (refused code object bit) out h e = not-zero h e
 zero-succeeds (done b) out h e = (b, refl, go (leb (length b) (length out)) refl)
   where
     go : (u : Bool) → leb (length b) (length out) ≡ u → length b ≤ length out
@@ -148,5 +147,5 @@ delivered {v} {out} {r} {m} c o z =
 -- of any other
 pub zero-told : {A : Type 0} (v : Verdict A) → Coded v → told v .code ≡ 0 → (a : A) × (v ≡ done a)
 unfolding told
-zero-told (refused code object bit) h e = absurd (omega (arith, h .0))
+zero-told (refused code object bit) h e = not-zero h e
 zero-told (done a) h e = (a, refl)
