@@ -1,19 +1,21 @@
--- The covering rule: one computed test over the whole table, carried to each layout; each bit of an element is held by exactly one
--- row of its layout.
+-- The covering rule and the range rule: one computed test over the whole table, carried to each layout and to each row; each bit of an
+-- element is held by exactly one row of its layout.
 -- Assumes nothing.
-use mathlib.Core.Path.{_≡_, _∙_, refl, ap, ap₂}
+use mathlib.Core.Path.{_≡_, _∙_, refl, sym, ap, ap₂}
 use mathlib.Core.Bool.{Bool, true, false, cond, _&&_}
 use mathlib.Core.List.{List, [], _∷_}
 use Prim.Native.Nat.{ℕ, zero, suc, _+_, _*_, _<_, _≤_}
 use native.Mathlib.Omega.{arith}
 use native.Mathlib.Nat.{le-of-suc-le-suc, not-suc-le-zero}
-use borrow.Author.Tests.{le-leb, lt-leb, ltb-true, ltb-false}
+use borrow.Author.Tests.{le-leb, lt-leb, ltb-true, ltb-false, eqb-true, eqb-false}
+use lib.Arith.{lt-of-le-ne}
 use lib.Dec.{T, leb, ltb, eqb, leb→le, eqb→eq}
 use lib.ListN.{length, getD}
-use Rattle.rows.specs.Table.{Row, table, layout, layouts, layoutAt, rowTotal, numberAt}
+use Rattle.rows.specs.Table.{Row, table, layout, layouts, layoutAt, rowTotal, numberAt, rowAt, rowsFrom}
 use Rattle.rows.specs.Covering.{allFrom, tiles, layoutRows, layoutGood, covers, holding}
 use Rattle.rows.specs.declared.Layout.{Layout}
 use Rattle.rows.proofs.Tests.{both-left, both-right}
+use Rattle.rows.proofs.Rows.{Good}
 use Rattle.rows.proofs.Words.{Tiled, tiled}
 
 -- the test passes, over all rows of the table
@@ -52,6 +54,49 @@ good l t =
 
 pub layout-covered : (i : ℕ) → i < length layouts → Covered (layoutAt i)
 layout-covered i h = good (layoutAt i) (at-place layouts 0 covered i h)
+
+-- ---- the range rule at each row, since each is a row of some layout
+
+row-of : (n j at end : ℕ) → T (tiles at (rowsFrom j n) end) → (i : ℕ) → j ≤ i → i < j + n → Good (rowAt i)
+row-of zero j at end t i l h = absurd (omega arith)
+row-of (suc n) j at end t i l h = go (eqb i j) refl (row-of n (suc j) (at + rowAt j .width) end (g .rest) i)
+  where
+    g : Tiled at (rowAt j) (rowsFrom (suc j) n) end
+    g = tiled at (rowAt j) (rowsFrom (suc j) n) end t
+
+    go : (b : Bool) → eqb i j ≡ b → (suc j ≤ i → i < suc j + n → Good (rowAt i)) → Good (rowAt i)
+    go true e later = rw (eqb-true i j e) (g .is-good)
+    go false e later = let apart : i ≡ j → ⊥ = eqb-false i j e in later (lt-of-le-ne l (λ q. apart (sym q))) (omega arith)
+
+row-in : (ls : List Layout) (at : ℕ) → T (covers at ls) → (i : ℕ) → at ≤ i → i < rowTotal → Good (rowAt i)
+row-in [] at t i l h = let e : at ≡ rowTotal = eqb→eq at rowTotal t in absurd (omega arith)
+row-in (x ∷ xs) at t i l h = go (ltb i (at + x .count)) refl (λ m. row-in xs (at + x .count) (both-right here (covers (at + x .count) xs) t) i m h)
+  where
+    here : Bool
+    here = eqb (x .first) at && layoutGood x
+
+    own : T here
+    own = both-left here (covers (at + x .count) xs) t
+
+    starts : x .first ≡ at
+    starts = eqb→eq (x .first) at (both-left (eqb (x .first) at) (layoutGood x) own)
+
+    go : (b : Bool) → ltb i (at + x .count) ≡ b → (at + x .count ≤ i → Good (rowAt i)) → Good (rowAt i)
+    go true e later =
+        row-of (x .count) (x .first) 0 (8 * x .bytes) (good x (both-right (eqb (x .first) at) (layoutGood x) own) .tiling) i
+        (rw starts l) (rw starts (ltb-true i (at + x .count) e))
+    go false e later = later (ltb-false i (at + x .count) e)
+
+pub row-good : (i : ℕ) → i < rowTotal → Good (rowAt i)
+row-good i h = row-in layouts 0 covered i (omega arith) h
+
+-- the numbers of a row, as they were read
+module _ (i : ℕ) (h : i < rowTotal) where
+  pub low-small : {l : ℕ} → l ≡ rowAt i .low → l < 32
+  low-small e = rw e (let g = row-good i h in omega arith)
+
+  pub width-small : {d : ℕ} → d ≡ rowAt i .width → d < 32
+  width-small e = rw e (row-good i h .small)
 
 -- ---- each bit once
 

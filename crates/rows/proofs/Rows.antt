@@ -1,15 +1,14 @@
--- The range rule at each row of the table, and what a row that keeps it tells: one computed test, carried to each row.
+-- What a row that keeps the range rule tells.
 -- Assumes nothing.
 use mathlib.Core.Path.{_≡_, _∙_, ap}
 use mathlib.Core.Bool.{_&&_}
 use Prim.Native.Nat.{ℕ, _+_, _*_, _%_, _^_, _<_, _≤_}
 use native.Mathlib.Nat.{one-mul, mod-eq-of-lt}
-use native.Mathlib.Omega.{arith}
 use lib.Pow.{pow-lt}
 use lib.Dec.{T, leb, ltb, leb→le, ltb→lt}
-use Rattle.rows.specs.Table.{Row, table, rowAt, rowTotal}
+use Rattle.rows.specs.Table.{Row}
 use Rattle.rows.specs.Covering.{rowGood}
-use Rattle.rows.proofs.Tests.{both-left, both-right, below}
+use Rattle.rows.proofs.Tests.{both-left, both-right}
 
 pub record Good (r : Row) : Type 0 where
   pub some : 0 < r .width
@@ -29,18 +28,6 @@ good r t =
       within = leb→le _ _ (both-left (leb (r .low + r .width) 32) (ltb (r .top) (2 ^ r .width)) b);
       admits = ltb→lt _ _ (both-right (leb (r .low + r .width) 32) (ltb (r .top) (2 ^ r .width)) b);
     }
-
-pub row-good : (i : ℕ) → i < rowTotal → Good (rowAt i)
-unfolding table
-row-good i h = good (rowAt i) (below (λ (k : ℕ). rowGood (rowAt k)) rowTotal tt i h)
-
--- the numbers of a row, as they were read
-module _ (i : ℕ) (h : i < rowTotal) where
-  pub low-small : {l : ℕ} → l ≡ rowAt i .low → l < 32
-  low-small e = rw e (let g = row-good i h in omega arith)
-
-  pub width-small : {d : ℕ} → d ≡ rowAt i .width → d < 32
-  width-small e = rw e (row-good i h .small)
 
 -- the machine's 1 << k is 2^k below 32 bits
 pub one-shl : (k : ℕ) → k < 32 → 1 * 2 ^ k % 4294967296 ≡ 2 ^ k

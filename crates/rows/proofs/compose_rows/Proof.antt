@@ -3,7 +3,7 @@
 use borrow.Author.Needs.{needs}
 use Prim.Native.Nat.{_-_}
 use native.Mathlib.Omega.{arith}
-use Rattle.rows.proofs.Rows.{low-small}
+use Rattle.rows.proofs.Covering.{low-small}
 use Rattle.rows.proofs.Loops.{Composing, compose-starts, compose-fits, compose-turn, compose-ends}
 use Rattle.rows.proofs.compose_rows.Statement.{statement}
 use Rattle.rows.proofs.compose_rows.Tie as tie

@@ -8,7 +8,8 @@ use lib.Pow.{pow-pos}
 use Rattle.rows.specs.Table.{rowAt, rowTotal}
 use Rattle.rows.specs.Fields.{codeAt, fieldOf, fieldRead}
 use Rattle.rows.specs.declared.Field.{Field}
-use Rattle.rows.proofs.Rows.{low-small, width-small, one-shl}
+use Rattle.rows.proofs.Rows.{one-shl}
+use Rattle.rows.proofs.Covering.{low-small, width-small}
 use Rattle.rows.proofs.read_field.Statement.{statement}
 use Rattle.rows.proofs.read_field.Tie as tie
 
