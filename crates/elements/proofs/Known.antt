@@ -3,8 +3,9 @@
 -- Assumes nothing.
 use mathlib.Core.Path.{_≡_, refl}
 use mathlib.Core.Bool.{true, false, not}
-use mathlib.Core.List.{map}
+use mathlib.Core.List.{[], _∷_, map}
 use lib.Dec.{eqb}
+use Rattle.octets.specs.Octets.{number}
 use Rattle.rows.specs.Table.{table, layouts}
 use Rattle.rows.specs.Fields.{codeAt}
 use Rattle.rows.specs.declared.Finding.{Finding}
@@ -15,8 +16,8 @@ use Rattle.cases.specs.declared.SignalAspect.{SignalAspect}
 use Rattle.cases.specs.declared.MixedGaugeIndication.{MixedGaugeIndication}
 use Rattle.cases.specs.declared.AutoRouteIndication.{AutoRouteIndication}
 use Rattle.states.specs.declared.Signal.{Signal}
-use Rattle.elements.specs.Elements.{datRule, elementCheck, stateOf}
-use Rattle.elements.specs.Known.{known, found, said}
+use Rattle.elements.specs.Elements.{kindOf, datRule, elementCheck, stateOf}
+use Rattle.elements.specs.Known.{known, found, said, wide, printed}
 use Rattle.kinds.specs.declared.Kind.{Kind}
 use Rattle.kinds.specs.declared.Element.{Element}
 
@@ -24,12 +25,13 @@ use Rattle.kinds.specs.declared.Element.{Element}
 abbrev green : Signal
 green = record { current = true; kind = SignalKind.HighWhiteOrBlue; aspect = SignalAspect.Green; «red_fitted» = true; «red_blown» = false; «white_fitted» = false; «white_blown» = false; «vertical_white_fitted» = false; «vertical_white_blown» = false; «horizontal_white_fitted» = false; «horizontal_white_blown» = false; «blue_fitted» = false; «blue_blown» = false; «yellow_fitted» = false; «yellow_blown» = false; «green_fitted» = false; «green_blown» = false; «special_command_pending» = false; «command_blocked» = false; «mixed_gauge» = MixedGaugeIndication.NoThirdRail; «automatic_succession» = false; «auto_route_set» = false; «auto_route_indication» = AutoRouteIndication.GreenSteady }
 
--- IC 03 is fixed T, SIG 00 00 01 B5 is green
+-- IC (type 2) 03 is fixed T, SIG (type 1) 00 00 01 B5 is green
 pub all-known : (found known ≡ said known)
-    × (stateOf Kind.ChangerSignal 0x03 ≡ Element.ChangerSignal (record { current = true; aspect = ChangerAspect.FixedT }))
-    × (stateOf Kind.Signal 0x000001B5 ≡ Element.Signal green)
-unfolding table layouts datRule elementCheck stateOf
-all-known = (refl, refl, refl)
+    × (wide known ≡ printed known)
+    × (stateOf (kindOf 1 2) (number (0x03 ∷ [])) ≡ Element.ChangerSignal (record { current = true; aspect = ChangerAspect.FixedT }))
+    × (stateOf (kindOf 1 1) (number (0x00 ∷ 0x00 ∷ 0x01 ∷ 0xB5 ∷ [])) ≡ Element.Signal green)
+unfolding table layouts kindOf datRule elementCheck stateOf
+all-known = (refl, refl, refl, refl)
 
 pub two-faults : (elementCheck Kind.ChangerSignal 0x81 ≡ Finding.Refused (codeAt 10 3))
     × (elementCheck Kind.VirtualBoard 0x06 ≡ Finding.Refused (codeAt 11 1))
