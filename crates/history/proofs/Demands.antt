@@ -1,8 +1,9 @@
 -- Demands 2 and 3, over the calls alone: T, A, B, .. are any bytes. `done` is what a call gives where it is not refused.
 -- Assumes nothing.
-use Prim.Native.Nat.{ℕ, _+_, _^_, _≤_, _<_}
-use mathlib.Core.Path.{_≡_, sym, ap, _∙_}
-use mathlib.Core.List.{List, map, zipWith}
+use Prim.Native.Nat.{ℕ, suc, _+_, _^_, _≤_, _<_}
+use native.Mathlib.Nat.{zero-add}
+use mathlib.Core.Path.{_≡_, refl, sym, ap, _∙_}
+use mathlib.Core.List.{List, [], _∷_, _++_, map, zipWith}
 use mathlib.Core.Logic.{_↔_, Iff·trans}
 use lib.ListN.{length, getD}
 use Rattle.kinds.specs.Kinds.{kindIn}
@@ -28,7 +29,7 @@ use Rattle.history.proofs.CallLaws.{accepted-image, accepted-list, turn
 use Rattle.history.proofs.AcceptedLaws.{difference-under, apply-under, write-under, image-under, list-under, join-under, two-images, taken, two-lists, list-taken, written-in}
 use Rattle.history.proofs.SizeLaws.{join-short}
 use Rattle.history.proofs.OutputLaws.{Success, succeeds}
-use Rattle.history.proofs.StateLaws.{write-current, write-stale, write-read, write-other, read-write, read-is, wrote, written-image, writtenBack, AllBelow, all-written-back, states-written, states-at}
+use Rattle.history.proofs.StateLaws.{write-current, write-stale, write-read, write-other, read-write, read-is, wrote, written-image, statesInto, AllBelow, all-into, states-written, states-at}
 
 -- ---- the forms: accepted exactly where they are written of something legal, which they are then read as
 
@@ -232,13 +233,15 @@ read-then-write T A i {a} {e} ha ea q =
     let same : a ≡ x .image = cc (image-accepted T t x) in
     ap (λ (b : Image). writeStateCall T A i e (b .position)) same ∙ read-write T t x i e q
 
--- .. of any objects in turn, and so of all
-pub all-read-then-written : (T A is : List ℕ) {p : Plan} {a : Image} → Bytes A → readPlan T ≡ done p → imageCall T A ≡ done a → AllBelow (length (p .kinds)) is
-    → writtenBack T (a .position) A is ≡ done A
-all-read-then-written T A is {p} {a} ha t ea h =
+-- the states of A, read and written one by one into any accepted image, at any positions and the last at A's, give A
+pub states-make-image : (T A Z positions : List ℕ) {p : Plan} {a z : Image} → Bytes A → Bytes Z → readPlan T ≡ done p → imageCall T A ≡ done a → imageCall T Z ≡ done z
+    → AllBelow (2 ^ 32) positions → suc (length positions) ≡ length (p .kinds)
+    → statesInto T A 0 (positions ++ (a .position ∷ [])) Z ≡ done A
+states-make-image T A Z positions {p} {a} ha hz t ea ez h n =
     let x = accepted-image T t A ha ea in
     let same : a ≡ x .image = cc (image-accepted T t x) in
-    ap (λ (b : Image). writtenBack T (b .position) A is) same ∙ all-written-back T t x is h
+    ap (λ (b : Image). statesInto T A 0 (positions ++ (b .position ∷ [])) Z) same
+    ∙ all-into T t x (accepted-image T t Z hz ez) 0 positions h (zero-add _ ∙ n) refl
 
 -- the states of all objects, as the calls read them, written as an image give the image
 pub image-of-states : (T A : List ℕ) {p : Plan} {a : Image} → Bytes A → readPlan T ≡ done p → imageCall T A ≡ done a

@@ -1,13 +1,14 @@
--- States in images: what is written is read, what was read writes the same bytes, and other objects stay.
+-- States in images: what is written is read, what was read writes the same bytes, and other objects stay; all states of one image make it
+-- again in any other.
 -- Assumes nothing.
-use Prim.Native.Nat.{ℕ, zero, suc, _^_, _<_}
+use Prim.Native.Nat.{ℕ, zero, suc, _+_, _^_, _<_}
 use native.Mathlib.Omega.{arith}
 use mathlib.Core.Path.{_≡_, refl, sym, ap, ap₂, _∙_}
 use mathlib.Core.Bool.{Bool, true}
-use mathlib.Core.List.{List, [], _∷_, map, zipWith}
+use mathlib.Core.List.{List, [], _∷_, _++_, map, zipWith}
 use lib.Dec.{ltb}
-use lib.ListN.{length, getD, set}
-use lib.Seq.{getD-set-same, getD-set-other, set-getD}
+use lib.ListN.{length, take, getD, set, length-set}
+use lib.Seq.{take-all, take-suc, take-suc-set, getD-set-same, getD-set-other, set-getD}
 use borrow.Author.Tests.{lt-ltb, ltb-true}
 use Rattle.kinds.specs.Kinds.{kindIn}
 use Rattle.elements.specs.Elements.{stateOf, wordOf}
@@ -17,12 +18,13 @@ use Rattle.elements.proofs.Laws.{state-kind}
 use Rattle.elements.proofs.DatLaws.{Stale}
 use Rattle.history.specs.Verdict.{Verdict, refused, done, then, refusalAt, _unless_⨾_}
 use Rattle.history.specs.Table.{Plan, kindAt}
-use Rattle.history.specs.Image.{element, _of_⨾_, imageBytes}
+use Rattle.history.specs.Image.{Image, element, _of_⨾_, imageBytes}
 use Rattle.history.specs.Calls.{readPlan, placed, stateAt, readStateUnder, readStateCall, checkState, writeStateUnder, writeStateCall}
 use Rattle.elements.specs.Elements.{sameKind}
 use Rattle.history.specs.Legal.{isAccepted, admits, Every, nil, and, LegalImage}
 use Rattle.history.proofs.VerdictLaws.{held, used}
 use Rattle.history.proofs.ElementLaws.{was-accepted, is-accepted, admits-accepted, word-again, state-again, state-admitted, same-kind, is-same-kind, state-current, state-twelve}
+use Rattle.history.proofs.OperationLaws.{one-version}
 use Rattle.history.proofs.CallLaws.{AcceptedImage, legal-image}
 
 -- ---- all objects
@@ -81,14 +83,14 @@ module _ (ks : List Kind) (i : ℕ) (e : Element) where
 
 -- ---- the calls
 
--- each object's state read, and written back at the position
-abbrev pub writtenBack : List ℕ → ℕ → List ℕ → List ℕ → Verdict (List ℕ)
-writtenBack T position A [] = done A
-writtenBack T position A (i ∷ is) = then (readStateCall T A i) λ e. then (writeStateCall T A i e position) λ B. writtenBack T position B is
+-- the states of A's objects from i on, each read and written into Z, at the positions in turn
+abbrev pub statesInto : List ℕ → List ℕ → ℕ → List ℕ → List ℕ → Verdict (List ℕ)
+statesInto T A i [] Z = done Z
+statesInto T A i (position ∷ rest) Z = then (readStateCall T A i) λ e. then (writeStateCall T Z i e position) λ Y. statesInto T A (suc i) rest Y
 
 abbrev pub AllBelow : ℕ → List ℕ → Type 0
 AllBelow n [] = Unit {0}
-AllBelow n (i ∷ is) = (i < n) × AllBelow n is
+AllBelow n (x ∷ xs) = (x < n) × AllBelow n xs
 
 module _ (T : List ℕ) {p : Plan} (t : readPlan T ≡ done p) where
   -- object i's answer, of an accepted image
@@ -118,13 +120,12 @@ module _ (T : List ℕ) {p : Plan} (t : readPlan T ≡ done p) where
       record { inside = k .inside; kind = k .kind; good = state-admitted (kindAt (p .kinds) i) e (k .kind) (k .good); same = cc (c .2, k .word) }
 
   -- the new image is accepted
+  placed-legal : {z : Image} → LegalImage p z → (i w position : ℕ) → i < length (p .kinds) → admits (kindAt (p .kinds) i) w ≡ true → position < 2 ^ 32 → LegalImage p (placed z i w position)
+  placed-legal h i w position inside good small = record { version = h .version; position = omega arith; words = every-set Kind.Signal (h .words) i w inside good }
+
   pub written-legal : {A B : List ℕ} (a : AcceptedImage p A) (i : ℕ) (e : Element) (position : ℕ) → position < 2 ^ 32 → Wrote a i e position B
       → LegalImage p (placed (a .image) i (wordOf e) position)
-  written-legal a i e position small w = record {
-    version = a .legal .version;
-    position = small;
-    words = every-set Kind.Signal (a .legal .words) i (wordOf e) (w .inside) (w .good);
-  }
+  written-legal a i e position small w = placed-legal (a .legal) i (wordOf e) position (w .inside) (w .good) small
 
   pub write-is : {A : List ℕ} (a : AcceptedImage p A) (i : ℕ) (e : Element) (position : ℕ) → i < length (p .kinds) → kindIn e ≡ kindAt (p .kinds) i → isAccepted (element (kindAt (p .kinds) i) (wordOf e)) ≡ true
       → writeStateCall T A i e position ≡ done (imageBytes p (placed (a .image) i (wordOf e) position))
@@ -162,29 +163,61 @@ module _ (T : List ℕ) {p : Plan} (t : readPlan T ≡ done p) where
       ∙ ap (λ (w : ℕ). answered j (stateOf (kindAt (p .kinds) j) w)) (getD-set-other (a .image .words) i j (wordOf e) 0 n)
       ∙ sym (read-any a j)
 
-  -- the state that was read, written at the same position, gives the same bytes
+  -- a state that was read from one image, written into another, is the one's word there
+  write-word : {A Z : List ℕ} (a : AcceptedImage p A) (z : AcceptedImage p Z) (i position : ℕ) → i < length (p .kinds)
+      → writeStateCall T Z i (stateAt p (a .image) i) position ≡ done (imageBytes p (placed (z .image) i (getD (a .image .words) i 0) position))
+  write-word a z i position l =
+      let k : Kind = kindAt (p .kinds) i in
+      let w : ℕ = getD (a .image .words) i 0 in
+      let good = every-at Kind.Signal 0 (a .legal .words) i l in
+      let word : wordOf (stateOf k w) ≡ w = word-again k w good in
+      write-is z i (stateOf k w) position l (state-kind k w) (rw word (admits-accepted k w good))
+      ∙ ap (λ (v : ℕ). done (imageBytes p (placed (z .image) i v position))) word
+
+  -- .. at the same position it gives the same bytes
   pub read-write : {A : List ℕ} (a : AcceptedImage p A) (i : ℕ) (e : Element)
       → readStateCall T A i ≡ done e → writeStateCall T A i e (a .image .position) ≡ done A
   read-write {A} a i e q =
       let r = held (ltb i (length (p .kinds))) _ _ _ _ (sym (read-any a i) ∙ q) in
       let l = ltb-true i (length (p .kinds)) (r .0) in
-      let k : Kind = kindAt (p .kinds) i in
-      let w : ℕ = getD (a .image .words) i 0 in
-      let e-is : e ≡ stateOf k w = cc (read-is a i l) in
-      let good = every-at Kind.Signal 0 (a .legal .words) i l in
-      let word : wordOf e ≡ w = ap wordOf e-is ∙ word-again k w good in
-      let kind : kindIn e ≡ k = ap kindIn e-is ∙ state-kind k w in
-      write-is a i e (a .image .position) l kind (rw word (admits-accepted k w good))
-      ∙ ap done (ap (λ (v : ℕ). imageBytes p (placed (a .image) i v (a .image .position))) word
-      ∙ ap (λ (ws : List ℕ). imageBytes p (record { version = a .image .version; position = a .image .position; words = ws })) (set-getD (a .image .words) i 0)
+      let e-is : e ≡ stateAt p (a .image) i = cc (read-is a i l) in
+      ap (λ (s : Element). writeStateCall T A i s (a .image .position)) e-is
+      ∙ write-word a a i (a .image .position) l
+      ∙ ap done (ap (λ (ws : List ℕ). imageBytes p (record { version = a .image .version; position = a .image .position; words = ws })) (set-getD (a .image .words) i 0)
       ∙ sym (a .same))
 
-  -- .. of any objects in turn
-  pub all-written-back : {A : List ℕ} (a : AcceptedImage p A) (is : List ℕ) → AllBelow (length (p .kinds)) is → writtenBack T (a .image .position) A is ≡ done A
-  all-written-back a [] h = refl
-  all-written-back a (i ∷ is) h =
-      let e = read-is a i (h .0) in
-      rw (e, read-write a i (stateAt p (a .image) i) e) (all-written-back a is (h .1))
+  -- ---- all states of one image written into another: its words below i stand there, the next is written
+
+  module _ {A Z : List ℕ} (a : AcceptedImage p A) (z : AcceptedImage p Z) (i : ℕ) (inside : i < length (p .kinds)) where
+    abbrev next-image : (position : ℕ) → position < 2 ^ 32 → AcceptedImage p (imageBytes p (placed (z .image) i (getD (a .image .words) i 0) position))
+    next-image position small =
+        legal-image T t (placed-legal (z .legal) i (getD (a .image .words) i 0) position inside (every-at Kind.Signal 0 (a .legal .words) i inside) small) refl
+
+    module _ (so : take i (z .image .words) ≡ take i (a .image .words)) where
+      next-word : take (suc i) (set (z .image .words) i (getD (a .image .words) i 0)) ≡ take (suc i) (a .image .words)
+      next-word =
+          let w : ℕ = getD (a .image .words) i 0 in
+          take-suc-set (z .image .words) i w (omega (arith, every-long (z .legal .words)))
+          ∙ ap (λ (ws : List ℕ). ws ++ (w ∷ [])) so
+          ∙ sym (take-suc (a .image .words) i 0 (omega (arith, every-long (a .legal .words))))
+
+      last-image : suc i ≡ length (p .kinds) → imageBytes p (placed (z .image) i (getD (a .image .words) i 0) (a .image .position)) ≡ A
+      last-image n =
+          let w : ℕ = getD (a .image .words) i 0 in
+          let all-z = take-all (suc i) (set (z .image .words) i w) (omega (arith, length-set (z .image .words) i w, every-long (z .legal .words))) in
+          let all-a = take-all (suc i) (a .image .words) (omega (arith, every-long (a .legal .words))) in
+          let words : set (z .image .words) i w ≡ a .image .words = sym all-z ∙ next-word ∙ all-a in
+          ap (imageBytes p) (λ j. record { version = one-version (z .legal) (a .legal) j; position = a .image .position; words = words j }) ∙ sym (a .same)
+
+  pub all-into : {A Z : List ℕ} (a : AcceptedImage p A) (z : AcceptedImage p Z) (i : ℕ) (ps : List ℕ) → AllBelow (2 ^ 32) ps → i + suc (length ps) ≡ length (p .kinds)
+      → take i (z .image .words) ≡ take i (a .image .words) → statesInto T A i (ps ++ (a .image .position ∷ [])) Z ≡ done A
+  all-into a z i [] h n so =
+      let l : i < length (p .kinds) = omega arith in
+      rw (read-is a i l, write-word a z i (a .image .position) l) (ap done (last-image a z i l so (omega arith)))
+  all-into a z i (position ∷ ps) h n so =
+      let l : i < length (p .kinds) = omega arith in
+      let y = next-image a z i l position (h .0) in
+      rw (read-is a i l, write-word a z i position l) (all-into a y (suc i) ps (h .1) (omega arith) (next-word a z i l so))
 
   -- the states of all objects, written as an image, are the image's bytes
   pub states-written : {A : List ℕ} (a : AcceptedImage p A)
