@@ -1,59 +1,103 @@
--- Demand 3 over the calls' own outcomes (`Ran`): what one call wrote is what the next one takes. T, A, B, .. are any bytes.
+-- Demand 3 over the calls' own outcomes, as the user words it: nothing that refuses meets it. T, A, B, .. are any bytes.
 -- Assumes nothing.
-use Prim.Native.Nat.{ℕ, _+_, _≤_}
-use mathlib.Core.Path.{_≡_, sym, ap, _∙_}
+use Prim.Native.Nat.{ℕ, _+_, _*_, _≤_}
+use mathlib.Core.Path.{_≡_, refl, sym, ap, _∙_}
 use mathlib.Core.List.{List}
 use lib.ListN.{length, take}
+use native.Mathlib.Omega.{arith}
 use Rattle.octets.specs.Octets.{Bytes}
 use Rattle.history.specs.declared.Answer.{Answer}
-use Rattle.history.specs.Verdict.{Verdict, done, then, settled}
-use Rattle.history.specs.Calls.{differenceCall, applyCall, joinCall, turnCall}
+use Rattle.history.specs.Verdict.{Verdict, done, settled}
+use Rattle.history.specs.Image.{Image}
+use Rattle.history.specs.Calls.{imageCall, differenceCall, applyCall, joinCall, turnCall}
 use Rattle.history.proofs.OutputLaws.{Ran, Success, succeeds}
-use Rattle.history.proofs.CodeLaws.{delivered, difference-call-coded, apply-call-coded, join-call-coded}
-use Rattle.history.proofs.Demands.{apply-of-difference, only-list, join-of-differences, turned-difference, three-lists, join-not-longer}
+use Rattle.history.proofs.CodeLaws.{delivered, apply-call-coded, join-call-coded}
+use Rattle.history.proofs.SizeLaws.{OneJoin}
+use Rattle.history.proofs.Demands.{has-difference, apply-of-difference, only-list, join-of-differences, turned-difference, three-lists, difference-not-longer, join-not-longer}
 
--- the bytes that a call wrote
-abbrev pub written : Answer → List ℕ → List ℕ
-written r m = take (r .length) m
+-- into any buffer of at least n bytes a call writes b: 0, 65535, 255 and b's length, b in front, the rest as it was
+abbrev pub Gives : Verdict (List ℕ) → ℕ → List ℕ → Type 0
+Gives v n b = (out : List ℕ) → n ≤ length out → Success b out (settled v out)
 
-module _ (T A B : List ℕ) {out : List ℕ} {r : Answer} {m : List ℕ} (ha : Bytes A) (hb : Bytes B) (o : Ran (differenceCall T A B) out r m) (z : r .code ≡ 0) where
-  list-is : differenceCall T A B ≡ done (written r m)
-  list-is = delivered (difference-call-coded T A B) o z .bytes
+gives : {v : Verdict (List ℕ)} {n : ℕ} {b : List ℕ} → v ≡ done b → length b ≤ n → Gives v n b
+gives e h out room = succeeds out e (omega arith)
 
-  -- the list that `difference` wrote turns A into B
-  pub apply-takes-it : (out′ : List ℕ) → length B ≤ length out′ → Success B out′ (settled (applyCall T A (written r m)) out′)
-  apply-takes-it out′ h = succeeds out′ (apply-of-difference T A B ha hb list-is) h
+-- "Under one accepted table": every call succeeds, and no list takes more room than four images
+pub record Demand3 (T A B C : List ℕ) : Type 0 where
+  pub AB : List ℕ
+  pub BC : List ℕ
+  pub AC : List ℕ
+  pub BA : List ℕ
+  pub A-to-B : Gives (differenceCall T A B) (4 * length A) AB
+  pub B-to-C : Gives (differenceCall T B C) (4 * length B) BC
+  pub A-to-C : Gives (differenceCall T A C) (4 * length A) AC
+  pub B-to-A : Gives (differenceCall T B A) (4 * length B) BA
+  -- "the list from A to B turns A into B"
+  pub turns : Gives (applyCall T A AB) (length B) B
+  -- "and is the only accepted list that does"
+  pub only : (L out : List ℕ) → Bytes L → Success B out (settled (applyCall T A L) out) → L ≡ AB
+  -- "A-to-B joined with B-to-C is A-to-C"
+  pub joined : Gives (joinCall T AB BC) (4 * length A) AC
+  -- "A-to-B turned back is B-to-A"
+  pub back : Gives (turnCall T AB) (4 * length B) BA
 
-  -- turned back it is what `difference` gives from B to A
-  pub turned-is : (out′ : List ℕ) → settled (turnCall T (written r m)) out′ ≡ settled (differenceCall T B A) out′
-  turned-is out′ = ap (λ (v : Verdict (List ℕ)). settled v out′) (turned-difference T A B ha hb list-is)
+-- a call that succeeded with B gave it
+apply-gave : (T A L : List ℕ) {B out : List ℕ} → Success B out (settled (applyCall T A L) out) → applyCall T A L ≡ done B
+apply-gave T A L {B} {out} s =
+    let o : Ran (applyCall T A L) out (settled (applyCall T A L) out .answer) (settled (applyCall T A L) out .output) = record { leaves = (refl, refl) } in
+    let d = delivered (apply-call-coded T A L) o (ap (λ (r : Answer). r .code) (s .answer)) in
+    d .bytes ∙ ap done (ap (λ (r : Answer). take (r .length) (settled (applyCall T A L) out .output)) (s .answer) ∙ s .front)
 
-  -- joined with the list that it wrote from B to C, it is what `difference` gives from A to C
-  pub joined-is : (C : List ℕ) {out₁ : List ℕ} {r₁ : Answer} {m₁ : List ℕ} → Bytes C → Ran (differenceCall T B C) out₁ r₁ m₁ → r₁ .code ≡ 0
-      → (out′ : List ℕ) → settled (joinCall T (written r m) (written r₁ m₁)) out′ ≡ settled (differenceCall T A C) out′
-  joined-is C hc o₁ z₁ out′ =
-      ap (λ (v : Verdict (List ℕ)). settled v out′) (join-of-differences T A B C ha hb hc list-is (delivered (difference-call-coded T B C) o₁ z₁ .bytes))
+-- A, B and C are accepted, and so is T
+pub demand-3 : (T A B C : List ℕ) {a b c : Image} → Bytes A → Bytes B → Bytes C → imageCall T A ≡ done a → imageCall T B ≡ done b → imageCall T C ≡ done c → Demand3 T A B C
+demand-3 T A B C ha hb hc ea eb ec =
+    let l = has-difference T A B ha hb ea eb in
+    let m = has-difference T B C hb hc eb ec in
+    let k = has-difference T A C ha hc ea ec in
+    let n = has-difference T B A hb ha eb ea in
+    let k-short = difference-not-longer T A C ha hc (k .1) in
+    let n-short = difference-not-longer T B A hb ha (n .1) in
+    record {
+      AB = l .0;
+      BC = m .0;
+      AC = k .0;
+      BA = n .0;
+      A-to-B = gives (l .1) (difference-not-longer T A B ha hb (l .1));
+      B-to-C = gives (m .1) (difference-not-longer T B C hb hc (m .1));
+      A-to-C = gives (k .1) k-short;
+      B-to-A = gives (n .1) n-short;
+      turns = gives (apply-of-difference T A B ha hb (l .1)) (omega arith);
+      only = λ L out hl s. let e : done L ≡ done (l .0) = sym (only-list T A L ha hl (apply-gave T A L s)) ∙ l .1 in cc;
+      joined = gives (join-of-differences T A B C ha hb hc (l .1) (m .1) ∙ k .1) k-short;
+      back = gives (turned-difference T A B ha hb (l .1) ∙ n .1) n-short;
+    }
 
--- a list that `apply` took is the one that `difference` writes from the image to what `apply` wrote
-pub only-it : (T A L : List ℕ) {out : List ℕ} {r : Answer} {m : List ℕ} → Bytes A → Bytes L → Ran (applyCall T A L) out r m → r .code ≡ 0
-    → (out′ : List ℕ) → length L ≤ length out′ → Success L out′ (settled (differenceCall T A (written r m)) out′)
-only-it T A L ha hl o z out′ h = succeeds out′ (only-list T A L ha hl (delivered (apply-call-coded T A L) o z .bytes)) h
+-- "three lists that some image takes in turn join to the same bytes, whichever pair is joined first"; no join takes more room than its lists
+pub record ThreeLists (T L M N : List ℕ) : Type 0 where
+  pub LM : List ℕ
+  pub MN : List ℕ
+  pub LMN : List ℕ
+  pub first-two : Gives (joinCall T L M) (length L + length M) LM
+  pub then-third : Gives (joinCall T LM N) (length L + (length M + length N)) LMN
+  pub last-two : Gives (joinCall T M N) (length M + length N) MN
+  pub then-first : Gives (joinCall T L MN) (length L + (length M + length N)) LMN
+
+pub three-in-turn : (T A L M N : List ℕ) {B C D : List ℕ} → Bytes A → Bytes L → Bytes M → Bytes N
+    → applyCall T A L ≡ done B → applyCall T B M ≡ done C → applyCall T C N ≡ done D → ThreeLists T L M N
+three-in-turn T A L M N ha hl hm hn x y z =
+    let t = three-lists T A L M N ha hl hm hn x y z in
+    let j : OneJoin T L M N (t .0) = t .2 in
+    record {
+      LM = j .early;
+      MN = j .late;
+      LMN = t .0;
+      first-two = gives (j .early-joined) (j .early-short);
+      then-third = gives (j .early-first) (j .short);
+      last-two = gives (j .late-joined) (j .late-short);
+      then-first = gives (j .late-first) (j .short);
+    }
 
 -- what `join` wrote is never longer than the two lists together
 pub joined-short : (T L M : List ℕ) {out : List ℕ} {r : Answer} {m : List ℕ} → Bytes L → Bytes M → Ran (joinCall T L M) out r m → r .code ≡ 0
-    → length (written r m) ≤ length L + length M
+    → length (take (r .length) m) ≤ length L + length M
 joined-short T L M hl hm o z = join-not-longer T L M hl hm (delivered (join-call-coded T L M) o z .bytes)
-
--- three lists that an image takes in turn: the joins that were written, joined with the third and the first, are one list
-pub three-in-turn : (T A L M N : List ℕ) {B C D : List ℕ} → Bytes A → Bytes L → Bytes M → Bytes N
-    → applyCall T A L ≡ done B → applyCall T B M ≡ done C → applyCall T C N ≡ done D
-    → {out₁ : List ℕ} {r₁ : Answer} {m₁ : List ℕ} → Ran (joinCall T L M) out₁ r₁ m₁ → r₁ .code ≡ 0
-    → {out₂ : List ℕ} {r₂ : Answer} {m₂ : List ℕ} → Ran (joinCall T M N) out₂ r₂ m₂ → r₂ .code ≡ 0
-    → (out : List ℕ) → settled (joinCall T (written r₁ m₁) N) out ≡ settled (joinCall T L (written r₂ m₂)) out
-three-in-turn T A L M N ha hl hm hn x y w {r₁ = r₁} {m₁ = m₁} o₁ z₁ {r₂ = r₂} {m₂ = m₂} o₂ z₂ out =
-    let k : joinCall T L M ≡ done (written r₁ m₁) = delivered (join-call-coded T L M) o₁ z₁ .bytes in
-    let j : joinCall T M N ≡ done (written r₂ m₂) = delivered (join-call-coded T M N) o₂ z₂ .bytes in
-    let t = three-lists T A L M N ha hl hm hn x y w in
-    let one = sym (ap (λ (v : Verdict (List ℕ)). then v (λ K. joinCall T K N)) k) ∙ t .0 in
-    let other = sym (ap (λ (v : Verdict (List ℕ)). then v (λ K. joinCall T L K)) j) ∙ t .1 in
-    ap (λ (v : Verdict (List ℕ)). settled v out) (one ∙ sym other)

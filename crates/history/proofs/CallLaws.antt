@@ -135,18 +135,3 @@ module _ (T : List ℕ) {p : Plan} (t : readPlan T ≡ done p) where
   difference-turned {L = L} a b e =
       let L-is : L ≡ listBytes p (difference (a .image) (b .image)) = cc (difference-is a b) in
       turn-is (legal-list (difference-legal (a .legal) (b .legal)) L-is) ∙ rw (turned-difference (a .image) (b .image)) (sym (difference-is b a))
-
-  -- three lists that some image takes in turn join to the same bytes, whichever pair is joined first
-  pub joins-associate : {A B C D L M N : List ℕ} → AcceptedImage p A → AcceptedList p L → AcceptedList p M → AcceptedList p N
-      → applyCall T A L ≡ done B → applyCall T B M ≡ done C → applyCall T C N ≡ done D
-      → (then (joinCall T L M) (λ K. joinCall T K N) ≡ differenceCall T A D) × (then (joinCall T M N) (λ K. joinCall T L K) ≡ differenceCall T A D)
-  joins-associate a l m n x y z =
-      let b = applied-image a l x .0 in
-      let c = applied-image b m y .0 in
-      let d = applied-image c n z .0 in
-      let AB = only-difference-applies a l x in
-      let BC = only-difference-applies b m y in
-      let CD = only-difference-applies c n z in
-      let AC = difference-is a c in
-      let BD = difference-is b d in
-      (rw (differences-join a b c AB BC, AC) (differences-join a c d AC CD), rw (differences-join b c d BC CD, BD) (differences-join a b d AB BD))

@@ -1,6 +1,6 @@
 -- Demands 2 and 3, over the calls alone: T, A, B, .. are any bytes. `done` is what a call gives where it is not refused.
 -- Assumes nothing.
-use Prim.Native.Nat.{ℕ, suc, _+_, _^_, _≤_, _<_}
+use Prim.Native.Nat.{ℕ, suc, _+_, _*_, _^_, _≤_, _<_}
 use native.Mathlib.Nat.{zero-add}
 use mathlib.Core.Path.{_≡_, refl, sym, ap, _∙_}
 use mathlib.Core.List.{List, [], _∷_, _++_, map, zipWith}
@@ -11,7 +11,7 @@ use Rattle.elements.specs.Elements.{stateOf, wordOf}
 use Rattle.elements.proofs.DatLaws.{Stale}
 use Rattle.kinds.specs.declared.Element.{Element}
 use Rattle.octets.specs.Octets.{Bytes}
-use Rattle.history.specs.Verdict.{refused, done, then, refusal, settled}
+use Rattle.history.specs.Verdict.{refused, done, refusal}
 use Rattle.history.specs.Table.{Table, tableBytes, Plan, kindAt}
 use Rattle.history.specs.Image.{Image, imageBytes}
 use Rattle.history.specs.declared.Change.the-variants.{Keep as keep}
@@ -25,10 +25,9 @@ use Rattle.history.proofs.TableLaws.{table-form, plan-fair}
 use Rattle.history.proofs.RepeatLaws.{FirstRepeat, table-repeats}
 use Rattle.history.proofs.ImageLaws.{image-form}
 use Rattle.history.proofs.ListLaws.{list-form}
-use Rattle.history.proofs.CallLaws.{accepted-image, accepted-list, turn-is, image-accepted, list-accepted, difference-is, difference-list, difference-applies, only-difference-applies, differences-join, difference-turned, joins-associate, joined-list, turned-list, applied-image}
+use Rattle.history.proofs.CallLaws.{accepted-image, accepted-list, turn-is, image-accepted, list-accepted, difference-is, difference-list, difference-applies, only-difference-applies, differences-join, difference-turned, joined-list, turned-list, applied-image}
 use Rattle.history.proofs.AcceptedLaws.{difference-under, apply-under, write-under, image-under, list-under, join-under, two-images, taken, two-lists, list-taken, written-in}
-use Rattle.history.proofs.SizeLaws.{join-short}
-use Rattle.history.proofs.OutputLaws.{Success, succeeds}
+use Rattle.history.proofs.SizeLaws.{list-short, join-short, OneJoin, joins-associate}
 use Rattle.history.proofs.StateLaws.{write-current, write-stale, write-read, write-other, read-write, read-is, wrote, written-image, statesInto, AllBelow, all-into, states-written, states-at}
 
 -- ---- the forms: accepted exactly where they are written of something legal, which they are then read as
@@ -111,7 +110,7 @@ two-lists-in-turn T A L M {B} ha hl hm x y =
 -- three lists that A takes in turn join to the list from A to the last image, whichever pair is joined first
 pub three-lists : (T A L M N : List ℕ) {B C D : List ℕ} → Bytes A → Bytes L → Bytes M → Bytes N
     → applyCall T A L ≡ done B → applyCall T B M ≡ done C → applyCall T C N ≡ done D
-    → (then (joinCall T L M) (λ K. joinCall T K N) ≡ differenceCall T A D) × (then (joinCall T M N) (λ K. joinCall T L K) ≡ differenceCall T A D)
+    → (K : List ℕ) × (differenceCall T A D ≡ done K) × OneJoin T L M N K
 three-lists T A L M N {B} {C} ha hl hm hn x y z =
     let t = apply-under T A L x .reads in
     let f = taken T t A L ha hl x in
@@ -150,10 +149,12 @@ join-not-longer T L M hl hm e =
     let f = two-lists T t L M hl hm e in
     join-short T t (f .0) (f .1) e
 
--- with outputs that have room: both calls succeed, write their front and leave the rest
-pub difference-then-apply : (T A B out out′ : List ℕ) {L : List ℕ} → Bytes A → Bytes B → differenceCall T A B ≡ done L → length L ≤ length out → length B ≤ length out′
-    → Success L out (settled (differenceCall T A B) out) × Success B out′ (settled (applyCall T A L) out′)
-difference-then-apply T A B out out′ ha hb e r r′ = (succeeds out e r, succeeds out′ (apply-of-difference T A B ha hb e) r′)
+-- a difference is never longer than four images
+pub difference-not-longer : (T A B : List ℕ) {L : List ℕ} → Bytes A → Bytes B → differenceCall T A B ≡ done L → length L ≤ 4 * length A
+difference-not-longer T A B ha hb e =
+    let t = difference-under T A B e .reads in
+    let f = two-images T t A B ha hb e in
+    list-short (difference-list T t (f .0) (f .1) e) (f .0)
 
 -- ---- what is refused, and what a refusal names
 
