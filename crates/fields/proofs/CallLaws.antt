@@ -135,7 +135,7 @@ state-refuses t a i number code bit = all-refuse _ (readStateCall t a i) (λ s. 
 
 module _ (t a : List ℕ) (i number : ℕ) (fields : List ℕ) (position : ℕ) where
   -- what comes of each kind that has the number
-  of-kinds : (f g : Kind → Verdict (List ℕ)) (v : Verdict Element)
+  pub of-kinds : (f g : Kind → Verdict (List ℕ)) (v : Verdict Element)
       → ((j : Kind) → (refusalAt 22 i unless eqb number (layoutNo j) ⨾ f j) ≡ (refusalAt 22 i unless eqb number (layoutNo j) ⨾ g j))
       → then v (λ was. refusalAt 22 i unless eqb number (layoutNo (kindIn was)) ⨾ f (kindIn was)) ≡ then v (λ was. refusalAt 22 i unless eqb number (layoutNo (kindIn was)) ⨾ g (kindIn was))
   of-kinds f g (refused code object bit) h = refl
@@ -150,7 +150,7 @@ module _ (t a : List ℕ) (i number : ℕ) (fields : List ℕ) (position : ℕ) 
       at true q = let s : j ≡ k = its-kind j e (eqb-true _ _ q) in rw s h
       at false q = refl
 
-  abbrev valued : Kind → Verdict (List ℕ)
+  abbrev pub valued : Kind → Verdict (List ℕ)
   valued k =
       named (rowsOf k) (valuesIn k fields) of i ⨾
       writeStateCall t a i (elementOf k (valuesIn k fields)) position

@@ -3,4 +3,5 @@ pub mod CallLaws
 pub mod NameLaws
 pub mod OneOutcome
 pub mod RoundTrip
+pub mod OwnFields
 pub mod Examples

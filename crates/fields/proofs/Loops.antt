@@ -12,7 +12,7 @@ use lib.Dec.{eqb, leb}
 use lib.ListN.{length, getD, set, drop, replicate, length-append}
 use lib.Seq.{append-snoc, drop-cons}
 use borrow.Author.Tests.{eq-eqb, ne-eqb, le-leb, lt-leb}
-use Rattle.rows.specs.Table.{Row, rowAt, rowsFrom}
+use Rattle.rows.specs.Table.{rowAt, rowsFrom}
 use Rattle.rows.specs.Fields.{codeAt, filled, padded}
 use Rattle.rows.specs.declared.Finding.{Finding}
 use Rattle.rows.specs.Covering.{layoutRows}
@@ -26,6 +26,7 @@ use Rattle.rows.proofs.Loops.{fill-store, rows-next}
 use Rattle.fields.specs.Fields.{shown, shownIn, shownOf, spread, named}
 use Rattle.fields.specs.declared.Plain.{Plain}
 use Rattle.fields.specs.declared.walk.Shown.{Shown}
+use Rattle.fields.proofs.OwnFields.{own, spread-length}
 
 -- whether row i is reserved
 abbrev none : ℕ → Bool
@@ -122,21 +123,8 @@ state-shown e p q r t u =
 
 -- ---- taking in
 
--- how many of the rows are not reserved
-abbrev used : List Row → ℕ
-used [] = 0
-used (r ∷ rs) = cond (eqb (r .top) 0) (used rs) (suc (used rs))
-
 abbrev front : Bool → List ℕ → List ℕ → List ℕ → List ℕ
 front b fs xs ys = cond b (0 ∷ xs) (getD fs 0 0 ∷ ys)
-
-length-front : (b : Bool) (fs xs ys : List ℕ) {n : ℕ} → length xs ≡ n → length ys ≡ n → length (front b fs xs ys) ≡ suc n
-length-front true fs xs ys e f = ap suc e
-length-front false fs xs ys e f = ap suc f
-
-spread-length : (n i : ℕ) (fs : List ℕ) → length (spread (rowsFrom i n) fs) ≡ n
-spread-length zero i fs = refl
-spread-length (suc n) i fs = length-front (none i) fs _ _ (spread-length n (suc i) fs) (spread-length n (suc i) (drop 1 fs))
 
 after-one : (fs : List ℕ) (j : ℕ) → getD (drop 1 fs) j 0 ≡ getD fs (suc j) 0
 after-one [] j = refl
@@ -155,26 +143,26 @@ taken-on : (b : Bool) (fs xs ys : List ℕ) (c : Bool) (u : ℕ)
 taken-on true fs xs ys c u = refl
 taken-on false fs xs ys c u = ap (λ (x : ℕ). getD fs 0 0 ∷ (ys ++ (cond c 0 x ∷ []))) (after-one fs u)
 
-spread-snoc : (n i : ℕ) (fs : List ℕ) → spread (rowsFrom i (suc n)) fs ≡ spread (rowsFrom i n) fs ++ (taken (none (i + n)) fs (used (rowsFrom i n)) ∷ [])
+spread-snoc : (n i : ℕ) (fs : List ℕ) → spread (rowsFrom i (suc n)) fs ≡ spread (rowsFrom i n) fs ++ (taken (none (i + n)) fs (own (rowsFrom i n)) ∷ [])
 spread-snoc zero i fs = taken-first (none i) fs ∙ ap (λ (j : ℕ). taken (none j) fs 0 ∷ []) (sym (add-zero i))
 spread-snoc (suc n) i fs =
     let rs = rowsFrom (suc i) n in
     ap₂ (front (none i) fs) (spread-snoc n (suc i) fs) (spread-snoc n (suc i) (drop 1 fs))
-    ∙ taken-on (none i) fs (spread rs fs) (spread rs (drop 1 fs)) (none (suc i + n)) (used rs)
-    ∙ ap (λ (j : ℕ). front (none i) fs (spread rs fs) (spread rs (drop 1 fs)) ++ (taken (none j) fs (cond (none i) (used rs) (suc (used rs))) ∷ [])) (suc-add i n ∙ sym (add-suc i n))
+    ∙ taken-on (none i) fs (spread rs fs) (spread rs (drop 1 fs)) (none (suc i + n)) (own rs)
+    ∙ ap (λ (j : ℕ). front (none i) fs (spread rs fs) (spread rs (drop 1 fs)) ++ (taken (none j) fs (cond (none i) (own rs) (suc (own rs))) ∷ [])) (suc-add i n ∙ sym (add-suc i n))
 
-used-on : (t b : Bool) (u : ℕ) → cond t (cond b u (suc u)) (suc (cond b u (suc u))) ≡ cond b (cond t u (suc u)) (suc (cond t u (suc u)))
-used-on true true u = refl
-used-on true false u = refl
-used-on false true u = refl
-used-on false false u = refl
+own-on : (t b : Bool) (u : ℕ) → cond t (cond b u (suc u)) (suc (cond b u (suc u))) ≡ cond b (cond t u (suc u)) (suc (cond t u (suc u)))
+own-on true true u = refl
+own-on true false u = refl
+own-on false true u = refl
+own-on false false u = refl
 
-used-snoc : (n i : ℕ) → used (rowsFrom i (suc n)) ≡ cond (none (i + n)) (used (rowsFrom i n)) (suc (used (rowsFrom i n)))
-used-snoc zero i = ap (λ (j : ℕ). cond (none j) 0 1) (sym (add-zero i))
-used-snoc (suc n) i =
-    let u = used (rowsFrom (suc i) n) in
-    ap (λ (m : ℕ). cond (none i) m (suc m)) (used-snoc n (suc i))
-    ∙ used-on (none i) (none (suc i + n)) u
+own-snoc : (n i : ℕ) → own (rowsFrom i (suc n)) ≡ cond (none (i + n)) (own (rowsFrom i n)) (suc (own (rowsFrom i n)))
+own-snoc zero i = ap (λ (j : ℕ). cond (none j) 0 1) (sym (add-zero i))
+own-snoc (suc n) i =
+    let u = own (rowsFrom (suc i) n) in
+    ap (λ (m : ℕ). cond (none i) m (suc m)) (own-snoc n (suc i))
+    ∙ own-on (none i) (none (suc i + n)) u
     ∙ ap (λ (j : ℕ). cond (none j) (cond (none i) u (suc u)) (suc (cond (none i) u (suc u)))) (suc-add i n ∙ sym (add-suc i n))
 
 -- a zero more is one of those behind
@@ -188,7 +176,7 @@ pad-zero xs h =
 pub record Taking (first count : ℕ) (fs values : List ℕ) (n k : ℕ) : Type 0 where
   pub bound : k ≤ count
   pub below : n ≤ k
-  pub size : n ≡ used (rowsFrom first k)
+  pub size : n ≡ own (rowsFrom first k)
   pub so-far : values ≡ padded (spread (rowsFrom first k) fs)
 
 pub taking : (first count : ℕ) (fs : List ℕ) → Taking first count fs (replicate 24 0) 0 0
@@ -205,10 +193,10 @@ module _ {first count : ℕ} {fs values : List ℕ} {n k : ℕ} (s : Taking firs
       ∙ spread-snoc k first fs
       ∙ ap₂ (λ (b : Bool) (j : ℕ). ys ++ (taken b fs j ∷ [])) e (sym (s .size))
 
-  next-used : (b : Bool) → none (first + k) ≡ b → used (rowsFrom first (k + 1)) ≡ cond b n (suc n)
-  next-used b e =
-      ap (λ (j : ℕ). used (rowsFrom first j)) (add-one k)
-      ∙ used-snoc k first
+  next-own : (b : Bool) → none (first + k) ≡ b → own (rowsFrom first (k + 1)) ≡ cond b n (suc n)
+  next-own b e =
+      ap (λ (j : ℕ). own (rowsFrom first j)) (add-one k)
+      ∙ own-snoc k first
       ∙ ap₂ (λ (b : Bool) (j : ℕ). cond b j (suc j)) e (sym (s .size))
 
   passes : rowAt (first + k) .top ≡ 0 → Taking first count fs values n (k + 1)
@@ -218,7 +206,7 @@ module _ {first count : ℕ} {fs values : List ℕ} {n k : ℕ} (s : Taking firs
       record {
         bound = omega arith;
         below = omega (arith, s .below);
-        size = sym (next-used true e);
+        size = sym (next-own true e);
         so-far = s .so-far ∙ pad-zero ys (omega (arith, spread-length k first fs)) ∙ ap padded (sym (next-spread true e));
       }
 
@@ -230,7 +218,7 @@ module _ {first count : ℕ} {fs values : List ℕ} {n k : ℕ} (s : Taking firs
       record {
         bound = omega arith;
         below = omega (arith, s .below);
-        size = omega (arith, next-used false e);
+        size = omega (arith, next-own false e);
         so-far =
             ap₂ (λ (l : List ℕ) (i : ℕ). set l i x) (s .so-far) (sym (spread-length k first fs))
             ∙ fill-store 24 ys x (omega (arith, spread-length k first fs))
