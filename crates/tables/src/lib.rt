@@ -19,5 +19,6 @@ pub use place::label_place;
 pub use plan::first_kinds;
 pub use plan::outline;
 pub use table::check_table;
+pub use table::is_catalogue;
 pub use whole::is_under;
 pub use whole::is_whole;

@@ -158,7 +158,7 @@ fn is_version(version: u8) -> bool
 }
 
 // The catalogue version is one that is carried.
-fn is_catalogue(x: u8, y: u8) -> bool
+pub fn is_catalogue(x: u8, y: u8) -> bool
     ensures { λ r. ⌜ r ≡ catalogueGood x y ⌝ }
 {
     if x != 1 {
