@@ -1,15 +1,13 @@
--- What only C asks for, at each place where its answer is made; that a label's place and a listing's length fit 32 bits; and the numbers
--- that C is given.
+-- What only C asks for, at each place where its answer is made; that a label's place fits 32 bits; and the numbers that C is given.
 -- Assumes nothing.
-use Prim.Native.Nat.{ℕ, zero, suc, _-_, _*_, _≤_, _<_}
+use Prim.Native.Nat.{ℕ, zero, suc, _*_, _≤_, _<_}
 use native.Mathlib.Omega.{arith}
 use mathlib.Core.Path.{_≡_, refl, sym, ap, ap₂, _∙_}
-use mathlib.Core.Bool.{Bool, true, false, cond, not}
+use mathlib.Core.Bool.{Bool, true, false, not}
 use mathlib.Core.List.{List, [], _∷_}
-use lib.Dec.{eqb, leb, ltb}
-use lib.ListN.{length, take, getD, replicate, length-append, length-take, length-replicate}
-use lib.Seq.{take-append-seam}
-use borrow.Author.Tests.{eq-eqb, ne-eqb, le-leb, ltb-true}
+use lib.Dec.{eqb, ltb}
+use lib.ListN.{length, take, getD, length-append}
+use borrow.Author.Tests.{eq-eqb, ne-eqb, ltb-true}
 use Rattle.rows.specs.declared.Finding.{Finding}
 use Rattle.rows.specs.declared.Refusal.{Refusal}
 use Rattle.kinds.specs.Kinds.{widthOf}
@@ -23,7 +21,7 @@ use Rattle.history.specs.Table.{Object, Table, objectBytes, objectsBytes, label
 use Rattle.history.specs.Image.{element, _of_⨾_}
 use Rattle.history.specs.Calls.{Place, labelPlace, labelCall}
 use Rattle.history.specs.Legal.{LegalTable}
-use Rattle.history.proofs.OutputLaws.{Leaves, written-leaves}
+use Rattle.history.proofs.OutputLaws.{Leaves}
 use Rattle.history.proofs.VerdictLaws.{held, used}
 use Rattle.history.proofs.TableLaws.{nobody, table-is}
 use Rattle.tables.specs.LabelPlaces.{labelTold}
@@ -31,9 +29,6 @@ use Rattle.tables.specs.declared.place.LabelAt.{LabelAt}
 use Rattle.tables.proofs.AnswerLaws.{yes, no}
 use Rattle.receiver.specs.declared.Taken.{Taken}
 use Rattle.receiver.specs.Receive.{answerOf, standingOf, takenOf}
-use Rattle.listing.specs.Listing.{listingOf}
-use Rattle.listing.specs.Output.{Listed, inFront, listed, ListedInto}
-use Rattle.listing.proofs.Fits.{listing-fits}
 use Rattle.history.specs.Standing.{talliesOf}
 use Rattle.gateway.specs.Calls.{elementCall}
 use Rattle.gateway.specs.Slots.{answerSlots, standingIn}
@@ -102,42 +97,6 @@ module _ (ty : ℕ) (b : List ℕ) {t : Bool} (t-is : t ≡ carried 1 ty) where
       pub element-good : found ≡ Finding.Accepted → {a : Answer} → a ≡ unnamed 0 0 → a ≡ told (elementCall ty b)
       unfolding told
       element-good q e = e ∙ by-finding Finding.Accepted q
-
--- ---- the listing
-
-module _ {input out₀ out : List ℕ} {r : ℕ} (l : ListedInto input out₀ out r) where
-  pub listed-few : r ≤ 65536
-  unfolding listed
-  listed-few = at (leb 65536 (length out₀)) (l .size)
-    where
-      at : (b : Bool) → r ≡ cond b (inFront (listingOf input) out₀) (record { size = 0; output = out₀ }) .size → r ≤ 65536
-      at true e = omega (arith, listing-fits input)
-      at false e = omega arith
-
-  pub front-few : length (take (r - 0) out) ≤ 65536
-  front-few = omega (arith, listed-few, length-take (r - 0) out)
-
-  module _ (room : 65536 ≤ length out₀) where
-    abbrev told-text : Listed → Type 0
-    told-text o = (r ≡ o .size) × (out ≡ o .output)
-
-    in-front : told-text (inFront (listingOf input) out₀)
-    unfolding listed
-    in-front =
-        let both : told-text (listed input out₀) = (l .size, l .output) in
-        rw (le-leb 65536 (length out₀) room) at both
-
-    pub listed-room : {a : Answer} → a ≡ unnamed 0 r → Leaves (done (listingOf input)) out₀ a out
-    listed-room e = written-leaves (listingOf input) out₀ refl (omega (arith, listing-fits input)) (e ∙ ap (unnamed 0) (in-front .0)) (in-front .1)
-
-    front : take (r - 0) out ≡ listingOf input
-    front =
-        let all : r - 0 ≡ length (listingOf input) = omega (arith, in-front .0) in
-        ap₂ take all (in-front .1) ∙ take-append-seam (listingOf input) _
-
--- by way of a buffer of zeros
-pub listed-front : {input out : List ℕ} {r : ℕ} → ListedInto input (replicate 65536 0) out r → done (take (r - 0) out) ≡ done (listingOf input)
-listed-front l = ap done (front l (omega (arith, length-replicate {A = ℕ} 65536 0)))
 
 -- ---- the numbers that C is given
 

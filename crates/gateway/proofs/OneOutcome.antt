@@ -3,13 +3,13 @@
 use Prim.Native.Nat.{ℕ}
 use mathlib.Core.Path.{_≡_}
 use mathlib.Core.List.{List}
-use Rattle.history.specs.Verdict.{Verdict, done, told, settled}
+use Rattle.history.specs.Verdict.{Verdict, told, settled}
 use Rattle.history.specs.Calls.{tableCall, imageCall, listCall, readStateCall, labelCall, differenceCall, applyCall, joinCall, turnCall}
 use Rattle.history.proofs.OneOutcome.{one-outcome, one-pair}
 use Rattle.tables.specs.LabelPlaces.{labelTold}
 use Rattle.panel.specs.Readings.{readingOf}
 use Rattle.receiver.specs.Receive.{answerOf, outputOf, standingOf}
-use Rattle.listing.specs.Listing.{listingOf}
+use Rattle.listing.specs.Listing.{listingCall}
 use Rattle.fields.specs.Fields.{plainOf}
 use Rattle.fields.specs.Calls.{writeFieldsCall}
 use Rattle.history.specs.Standing.{talliesOf}
@@ -69,7 +69,7 @@ module _ {a a′ : List ℕ} where
     pub one-turn-back : (T L : List ℕ) → Writes (turnCall T L) out a m → Writes (turnCall T L) out a′ m′ → (a ≡ a′) × (m ≡ m′)
     one-turn-back T L = one-pair
 
-    pub one-listing : (input : List ℕ) → Writes (done (listingOf input)) out a m → Writes (done (listingOf input)) out a′ m′ → (a ≡ a′) × (m ≡ m′)
+    pub one-listing : (input : List ℕ) → Writes (listingCall input) out a m → Writes (listingCall input) out a′ m′ → (a ≡ a′) × (m ≡ m′)
     one-listing input = one-pair
 
     pub one-receive : (T A L tallies : List ℕ) {k k′ : List ℕ} → Receives T A L out tallies a m k → Receives T A L out tallies a′ m′ k′ → (a ≡ a′) × ((m ≡ m′) × (k ≡ k′))

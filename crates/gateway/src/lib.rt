@@ -4,7 +4,6 @@ mod calls;
 mod slots;
 
 use calls::check_element;
-use calls::list;
 use fields::read_fields;
 use fields::write_fields;
 use forms::check_image;
@@ -17,14 +16,14 @@ use slots::standing_in;
 use slots::tallies_of;
 use tables::check_table;
 ghost use mathlib.Core.Path.{_≡_};
-ghost use Rattle.history.specs.Verdict.{done, told, settled};
+ghost use Rattle.history.specs.Verdict.{told, settled};
 ghost use Rattle.history.specs.Calls.{tableCall, imageCall, listCall, readStateCall, labelCall, differenceCall, applyCall, joinCall, turnCall};
 ghost use Rattle.tables.specs.LabelPlaces.{labelTold};
 ghost use Rattle.panel.specs.Readings.{readingOf};
 ghost use Rattle.fields.specs.Fields.{plainOf};
 ghost use Rattle.fields.specs.Calls.{writeFieldsCall};
 ghost use Rattle.receiver.specs.Receive.{answerOf, outputOf, standingOf};
-ghost use Rattle.listing.specs.Listing.{listingOf};
+ghost use Rattle.listing.specs.Listing.{listingCall};
 ghost use Rattle.history.specs.Standing.{talliesOf};
 ghost use Rattle.gateway.specs.Slots.{answerSlots, readSlots, labelSlots, standingIn};
 ghost use Rattle.gateway.specs.Calls.{elementCall};
@@ -182,11 +181,11 @@ pub extern "C" fn shefumbari_receive(
 
 // ---- the listing
 
-// The text of a table and its image one behind the other, or of their refusal.
+// The text of a table and its image one behind the other.
 #[no_mangle]
 pub extern "C" fn shefumbari_listing(input: &[u8], out: &mut [u8], answer: &mut [u32; 8])
-    ensures { λ _. ⌜ now (answer .exit) ≡ answerSlots (settled (done (listingOf (now (input .entry)))) (now (out .entry)) .answer) ⌝ }
-    ensures { λ _. ⌜ now (out .exit) ≡ settled (done (listingOf (now (input .entry)))) (now (out .entry)) .output ⌝ }
+    ensures { λ _. ⌜ now (answer .exit) ≡ answerSlots (settled (listingCall (now (input .entry))) (now (out .entry)) .answer) ⌝ }
+    ensures { λ _. ⌜ now (out .exit) ≡ settled (listingCall (now (input .entry))) (now (out .entry)) .output ⌝ }
 {
-    *answer = answer_slots(list(input, out));
+    *answer = answer_slots(listing::list_into(input, out));
 }

@@ -1,4 +1,5 @@
--- The paper's listing of its table and image A, and its refusal line, where object 1's element is 09; input that is too short, and two faults.
+-- The paper's listing of its table and image A, and its refusal line, where object 1's element is 09; the same of the call; input that is
+-- too short, and two faults.
 -- Assumes nothing.
 use Prim.Native.Nat.{ℕ}
 use mathlib.Core.Path.{_≡_, refl}
@@ -7,17 +8,18 @@ use lib.ListN.{take, set}
 use Rattle.octets.specs.Octets.{bytes}
 use Rattle.rows.specs.Table.{table, layouts}
 use Rattle.elements.specs.Elements.{carried, kindOf, datRule, elementCheck}
+use Rattle.history.specs.Verdict.{refused, done}
 use Rattle.history.specs.Form.{isWhole, readForm}
 use Rattle.history.specs.Table.{versionGood, catalogueGood, labelLimit, labelGood, checkObject, readTable, planOf}
 use Rattle.history.specs.Image.{imageVersionGood, element, readImage}
 use Rattle.history.proofs.Examples.{T, A}
 use Rattle.text.specs.Decimal.{decimalIn, decimal}
 use Rattle.text.specs.Hex.{hexDigit}
-use Rattle.listing.specs.Listing.{readBoth, readPanel, firstLine, objectLine, refusedLine, textOf, listingOf}
+use Rattle.listing.specs.Listing.{readBoth, readPanel, firstLine, objectLine, refusedLine, listingCall, printed, listingOf}
 
 -- "1.0 7 2", "0 4 AA:CV1 0001", "1 2 AA:S1 03", each with its newline
-abbrev printed : List ℕ
-printed =
+abbrev lines : List ℕ
+lines =
     0x31 ∷ 0x2E ∷ 0x30 ∷ 0x20 ∷ 0x37 ∷ 0x20 ∷ 0x32 ∷ 0x0A
     ∷ 0x30 ∷ 0x20 ∷ 0x34 ∷ 0x20 ∷ 0x41 ∷ 0x41 ∷ 0x3A ∷ 0x43 ∷ 0x56 ∷ 0x31 ∷ 0x20 ∷ 0x30 ∷ 0x30 ∷ 0x30 ∷ 0x31 ∷ 0x0A
     ∷ 0x31 ∷ 0x20 ∷ 0x32 ∷ 0x20 ∷ 0x41 ∷ 0x41 ∷ 0x3A ∷ 0x53 ∷ 0x31 ∷ 0x20 ∷ 0x30 ∷ 0x33 ∷ 0x0A ∷ []
@@ -26,9 +28,13 @@ printed =
 abbrev refusal : List ℕ
 refusal = 0x72 ∷ 0x65 ∷ 0x66 ∷ 0x75 ∷ 0x73 ∷ 0x65 ∷ 0x64 ∷ 0x20 ∷ 0x31 ∷ 0x30 ∷ 0x20 ∷ 0x31 ∷ 0x20 ∷ 0x33 ∷ 0x0A ∷ []
 
-pub listings : (listingOf (T ++ A) ≡ printed) × (listingOf (T ++ set A 13 9) ≡ refusal)
-unfolding bytes table layouts carried kindOf datRule elementCheck isWhole readForm versionGood catalogueGood labelLimit labelGood checkObject readTable planOf imageVersionGood element readImage decimalIn decimal hexDigit readBoth readPanel firstLine objectLine refusedLine textOf listingOf
-listings = (refl, refl)
+pub listings : (listingOf (T ++ A) ≡ lines)
+    × (listingOf (T ++ set A 13 9) ≡ refusal)
+    × (listingCall (T ++ A) ≡ done lines)
+    × (listingCall (T ++ set A 13 9) ≡ refused 10 1 3)
+    × (listingCall (take 23 T) ≡ refused 1 65535 255)
+unfolding bytes table layouts carried kindOf datRule elementCheck isWhole readForm versionGood catalogueGood labelLimit labelGood checkObject readTable planOf imageVersionGood element readImage decimalIn decimal hexDigit readBoth readPanel firstLine objectLine refusedLine listingCall printed listingOf
+listings = (refl, refl, refl, refl, refl)
 
 -- "refused 1 65535 255" and "refused 3 65535 255", each with its newline
 abbrev unnamed : ℕ → List ℕ
@@ -42,5 +48,5 @@ pub short-listings : (listingOf (take 3 T) ≡ unnamed 0x31)
     × (listingOf T ≡ unnamed 0x31)
     × (listingOf (set T 6 1 ++ take 3 A) ≡ unnamed 0x33)
     × (listingOf (0 ∷ 0 ∷ 0 ∷ 5 ∷ 1 ∷ 1 ∷ 0 ∷ 0 ∷ 0 ∷ 0 ∷ 0 ∷ 0 ∷ 7 ∷ 1 ∷ 1 ∷ 0 ∷ 0 ∷ 0 ∷ 1 ∷ 0 ∷ []) ≡ 0x31 ∷ 0x2E ∷ 0x30 ∷ 0x20 ∷ 0x32 ∷ 0x35 ∷ 0x36 ∷ 0x20 ∷ 0x30 ∷ 0x0A ∷ [])
-unfolding bytes table layouts carried kindOf datRule elementCheck isWhole readForm versionGood catalogueGood labelLimit labelGood checkObject readTable planOf imageVersionGood element readImage decimalIn decimal hexDigit readBoth readPanel firstLine objectLine refusedLine textOf listingOf
+unfolding bytes table layouts carried kindOf datRule elementCheck isWhole readForm versionGood catalogueGood labelLimit labelGood checkObject readTable planOf imageVersionGood element readImage decimalIn decimal hexDigit readBoth readPanel firstLine objectLine refusedLine listingCall printed listingOf
 short-listings = (refl, refl, refl, refl, refl)

@@ -1,4 +1,4 @@
--- Every listing fits 65,536 bytes, and none is empty. The numbers take at most 2,986 digits, a line beside its number at most 61 bytes, were
+-- Every listing fits 65,536 bytes, and nothing printed is empty. The numbers take at most 2,986 digits, a line beside its number at most 61 bytes, were
 -- its label 48 bytes long, and the first line at most 44.
 -- Assumes nothing.
 use Prim.Native.Nat.{ℕ, suc, _+_, _*_, _-_, _≤_, _<_}
@@ -9,6 +9,8 @@ use mathlib.Core.List.{List, [], _∷_, map}
 use lib.Dec.{eqb, leb, ltb}
 use lib.ListN.{length, getD, take, drop, length-append}
 use lib.Seq.{length-sets}
+use mir.Syntax.{w32}
+use mir.Val.{Fits}
 use borrow.Author.Tests.{ltb-true, ltb-false, eqb-true}
 use Rattle.octets.specs.Octets.{bytes}
 use Rattle.octets.proofs.NumberLaws.{length-bytes}
@@ -26,7 +28,7 @@ use Rattle.history.proofs.VerdictLaws.{used, held}
 use Rattle.text.specs.Decimal.{decimalIn, decimal}
 use Rattle.text.specs.Wrote.{Wrote}
 use Rattle.text.proofs.Laws.{decimal-fits}
-use Rattle.listing.specs.Listing.{Panel, readBoth, tableSize, readPanel, firstLine, objectLine, linesOf, refusedLine, panelText, textOf, listingOf}
+use Rattle.listing.specs.Listing.{Panel, readBoth, tableSize, readPanel, firstLine, objectLine, linesOf, refusedLine, panelText, textOf, listingCall, printed, listingOf}
 use Rattle.listing.specs.Walk.{linesIn}
 use Rattle.listing.proofs.LineLaws.{first-length, refused-length, object-length}
 
@@ -161,8 +163,8 @@ both-legal b a {p} e =
     let same : record { table = t .0; image = i .0 } ≡ p = cc (i .2) in
     rw (ap (λ (v : Panel). v .table) same) at (table-is b (t .1) .legal)
 
-text-few : (v : Verdict Panel) → ((p : Panel) → v ≡ done p → LegalTable (p .table)) → length (textOf v) ≤ 65536
-unfolding textOf
+text-few : (v : Verdict Panel) → ((p : Panel) → v ≡ done p → LegalTable (p .table)) → length (printed (textOf v)) ≤ 65536
+unfolding printed
 text-few (refused code object bit) h = omega (arith, refused-length code object bit)
 text-few (done p) h = omega (arith, panel-few (p .image) (h p refl))
 
@@ -171,18 +173,25 @@ unfolding linesIn
 below-few (refused code object bit) h = omega arith
 below-few (done p) h = table-few (p .image) (h p refl)
 
--- room for the lines below the first, once that is written
-pub lines-room : (b a : List ℕ) (x y position count : ℕ) {l m : List ℕ} {p : ℕ} → 65536 ≤ length l → Wrote l 0 (firstLine x y position count) m p
-    → p + length (linesIn (readBoth b a)) ≤ length m
-lines-room b a x y position count {l} h w =
-    let first : List ℕ = firstLine x y position count in
-    omega (
-      arith,
-      w .next,
-      ap length (w .text) ∙ length-sets l 0 first,
-      first-length x y position count,
-      below-few (readBoth b a) (λ p e. both-legal b a e),
-    )
+-- the first line is written: there is room for the lines below, and where they end
+module _ (b a : List ℕ) (x y position count : ℕ) {l m : List ℕ} {p : ℕ} (w : Wrote l 0 (firstLine x y position count) m p) where
+  pub lines-room : 65536 ≤ length l → p + length (linesIn (readBoth b a)) ≤ length m
+  lines-room h =
+      let first : List ℕ = firstLine x y position count in
+      omega (
+        arith,
+        w .next,
+        ap length (w .text) ∙ length-sets l 0 first,
+        first-length x y position count,
+        below-few (readBoth b a) (λ p e. both-legal b a e),
+      )
+
+  module _ {n : List ℕ} {q : ℕ} (v : Wrote m p (linesIn (readBoth b a)) n q) where
+    pub lines-end : q ≤ 65536
+    lines-end = omega (arith, w .next, v .next, first-length x y position count, below-few (readBoth b a) (λ p e. both-legal b a e))
+
+    pub lines-cast : Fits w32 q
+    lines-cast = record { fits = omega (arith, lines-end) }
 
 panel-legal : (input : List ℕ) {p : Panel} → readPanel input ≡ done p → LegalTable (p .table)
 unfolding readPanel
@@ -195,14 +204,18 @@ panel-legal input e =
 -- ---- every listing
 
 pub listing-fits : (input : List ℕ) → length (listingOf input) ≤ 65536
-unfolding listingOf
+unfolding listingOf listingCall
 listing-fits input = text-few (readPanel input) (λ p e. panel-legal input e)
 
-some : (v : Verdict Panel) → 1 ≤ length (textOf v)
-unfolding textOf firstLine refusedLine
+pub text-fits : (input : List ℕ) {text : List ℕ} → listingCall input ≡ done text → length text ≤ 65536
+unfolding listingOf printed
+text-fits input e = omega (arith, listing-fits input, ap (λ (v : Verdict (List ℕ)). length (printed v)) e)
+
+some : (v : Verdict Panel) → 1 ≤ length (printed (textOf v))
+unfolding printed firstLine refusedLine
 some (refused code object bit) = omega arith
 some (done p) = simp length-append (omega arith)
 
 pub listing-some : (input : List ℕ) → 1 ≤ length (listingOf input)
-unfolding listingOf
+unfolding listingOf listingCall
 listing-some input = some (readPanel input)

@@ -1,7 +1,8 @@
 pub mod LineLaws
 pub mod Fits
-pub mod Printed
 pub mod PanelLaws
+pub mod Printed
+pub mod NameLaws
 pub mod WalkLaws
 pub mod InputLaws
 pub mod Examples

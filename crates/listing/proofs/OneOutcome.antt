@@ -1,10 +1,17 @@
--- Two outcomes of one listing are equal: the length and the output at the end.
+-- Two outcomes of one listing are equal: the answer and the output at the end; of what is printed, the length and the output.
 -- Assumes nothing.
 use Prim.Native.Nat.{ℕ}
 use mathlib.Core.Path.{_≡_}
 use mathlib.Core.List.{List}
-use Rattle.history.proofs.OneOutcome.{one-outcome}
+use Rattle.history.specs.declared.Answer.{Answer}
+use Rattle.history.proofs.OneOutcome.{one-outcome, one-pair}
+use Rattle.history.proofs.OutputLaws.{Leaves}
+use Rattle.listing.specs.Listing.{listingCall}
 use Rattle.listing.specs.Output.{ListedInto}
 
-pub one-listing : (input out : List ℕ) {r r′ : ℕ} {m m′ : List ℕ} → ListedInto input out m r → ListedInto input out m′ r′ → (r ≡ r′) × (m ≡ m′)
-one-listing input out p q = (one-outcome (p .size) (q .size), one-outcome (p .output) (q .output))
+module _ (input out : List ℕ) {m m′ : List ℕ} where
+  pub one-listing : {r r′ : Answer} → Leaves (listingCall input) out r m → Leaves (listingCall input) out r′ m′ → (r ≡ r′) × (m ≡ m′)
+  one-listing = one-pair
+
+  pub one-print : {r r′ : ℕ} → ListedInto input out m r → ListedInto input out m′ r′ → (r ≡ r′) × (m ≡ m′)
+  one-print p q = (one-outcome (p .size) (q .size), one-outcome (p .output) (q .output))

@@ -1,61 +1,62 @@
--- What an accepted table and image are read as, and where it stands in their bytes; and what a refusal of either prints.
+-- What an accepted table and image are read as, and where it stands in their bytes; and what a refusal of either tells.
 -- Assumes nothing.
 use Prim.Native.Nat.{ℕ, _+_, _-_, _≤_}
 use native.Mathlib.Omega.{arith}
-use mathlib.Core.Path.{_≡_, refl, sym, ap, _∙_, subst}
+use mathlib.Core.Path.{_≡_, refl, sym, ap, _∙_}
 use mathlib.Core.List.{List, _++_}
 use lib.ListN.{length, take, drop, getD, length-map}
+use lib.Seq.{sets-eq}
 use mir.Syntax.{w8}
 use mir.Val.{Fits}
 use Rattle.octets.specs.Octets.{bytes, number}
 use Rattle.octets.proofs.NumberLaws.{read-bytes}
 use Rattle.elements.specs.Elements.{kindOf}
 use Rattle.history.specs.declared.Answer.{Answer}
-use Rattle.history.specs.Verdict.{Verdict, refused, done, then, told}
+use Rattle.history.specs.Verdict.{Verdict, refused, done, then, unnamed, told, settled}
 use Rattle.history.specs.Form.{formBytes, readForm}
 use Rattle.history.specs.Table.{Object, Table, Plan, objectsBytes, tableBytes, versionGood, readTable, planOf}
 use Rattle.history.specs.Image.{Image, wordsBytes, imageBytes, imageVersionGood, readImage}
-use Rattle.history.specs.Calls.{tableCall, readPlan}
+use Rattle.history.specs.Calls.{readPlan, imageCall}
 use Rattle.history.specs.Legal.{LegalTable, Every, admits}
 use Rattle.history.proofs.VerdictLaws.{used}
 use Rattle.history.proofs.FormLaws.{form-whole}
 use Rattle.history.proofs.TableLaws.{table-is, plan-fair}
 use Rattle.history.proofs.CodeLaws.{image-coded, zero-told}
+use Rattle.history.proofs.OutputLaws.{Leaves, leaves-as, written-leaves}
 use Rattle.tables.specs.Outlines.{kindsOf, planAs, Outlined}
 use Rattle.tables.specs.declared.answers.Outline.{Outline}
+use Rattle.tables.proofs.AnswerLaws.{told-then}
+use Rattle.forms.proofs.UnderPlan.{image-refused, image-under}
 use Rattle.forms.proofs.Accepted.{image-accepted}
 use Rattle.forms.proofs.KindLaws.{length-kinds}
 use Rattle.text.specs.Wrote.{Wrote}
 use Rattle.text.proofs.Laws.{then as text-then}
-use Rattle.listing.specs.Listing.{Panel, readBoth, firstLine, refusedLine, textOf}
+use Rattle.listing.specs.Listing.{Panel, readBoth, firstLine, panelText, textOf}
 use Rattle.listing.specs.Walk.{Ready, linesIn}
+use Rattle.listing.proofs.Fits.{lines-end}
 
--- ---- a refusal's line
+-- ---- what is refused
 
-refused-text : {A : Type 0} (v : Verdict A) (f : A → Verdict Panel) {a : Answer} → a ≡ told v → (a .code ≡ 0 → ⊥)
-    → refusedLine (a .code) (a .object) (a .bit) ≡ textOf (then v f)
-unfolding told textOf
-refused-text (refused code object bit) f e n = ap (λ (a : Answer). refusedLine (a .code) (a .object) (a .bit)) e
-refused-text (done x) f e n = absurd (n (ap (λ (a : Answer). a .code) e))
+panel-image : (v : Verdict Table) (f : Plan → Verdict Image)
+    → then (then v (λ t. done (planOf t))) f ≡ then {A = Panel} (then v (λ t. then (f (planOf t)) λ a. done (record { table = t; image = a }))) (λ p. done (p .image))
+panel-image (refused code object bit) f = refl
+panel-image (done t) f = at (f (planOf t))
+  where
+    at : (w : Verdict Image) → w ≡ then {A = Panel} (then w (λ a. done (record { table = t; image = a }))) (λ p. done (p .image))
+    at (refused code object bit) = refl
+    at (done a) = refl
 
-pub wrote-as : {l : List ℕ} {at : ℕ} {xs ys m : List ℕ} {r : ℕ} → xs ≡ ys → Wrote l at xs m r → Wrote l at ys m r
-wrote-as {l} {at} {xs} {ys} {m} {r} e w = subst (λ (zs : List ℕ). Wrote l at zs m r) e w
+-- the image's check reads both forms, and gives the image
+pub image-in : (t a : List ℕ) → imageCall t a ≡ then (readBoth t a) (λ p. done (p .image))
+unfolding readBoth imageCall readPlan
+image-in t a = panel-image (readTable t) (λ p. readImage p a)
 
--- a refused table; an accepted table and a refused image
-pub table-refused : {b : List ℕ} {r : Outline} → Outlined b r → (r .answer .code ≡ 0 → ⊥) → (a : List ℕ) → refusedLine (r .answer .code) (r .answer .object) (r .answer .bit) ≡ textOf (readBoth b a)
-unfolding readBoth tableCall
-table-refused {b} o n a = refused-text (readTable b) (λ t. then (readImage (planOf t) a) λ i. done (record { table = t; image = i })) (o .answer) n
+-- so a listing of both is told what it tells
+pub both-told : (t a : List ℕ) → told (imageCall t a) ≡ told (textOf (readBoth t a))
+both-told t a = ap told (image-in t a) ∙ told-then (readBoth t a) (λ (p : Panel). p .image) ∙ sym (told-then (readBoth t a) (λ (p : Panel). panelText (p .table) (p .image)))
 
-both-under : (b a : List ℕ) {t : Table} {p : Plan} → readTable b ≡ done t → planOf t ≡ p → readBoth b a ≡ then (readImage p a) (λ i. done (record { table = t; image = i }))
-unfolding readBoth
-both-under b a e f = rw (e, f)
-
-refused-under : (b : List ℕ) {p : Plan} (a : List ℕ) {c : Answer} → readPlan b ≡ done p → c ≡ told (readImage p a) → (c .code ≡ 0 → ⊥) → refusedLine (c .code) (c .object) (c .bit) ≡ textOf (readBoth b a)
-unfolding readPlan
-refused-under b {p} a e f n =
-    let t = used (readTable b) _ e in
-    let plan : planOf (t .0) ≡ p = cc (t .2) in
-    refused-text (readImage p a) (λ i. done (record { table = t .0; image = i })) f n ∙ ap textOf (sym (both-under b a (t .1) plan))
+pub table-told : {b : List ℕ} {r : Outline} → Outlined b r → (r .answer .code ≡ 0 → ⊥) → (a : List ℕ) → r .answer ≡ told (textOf (readBoth b a))
+table-told {b} o n a = image-refused o n a ∙ both-told b a
 
 -- ---- an accepted table and image
 
@@ -160,21 +161,39 @@ module _ {b : List ℕ} {r : Outline} (o : Outlined b r) (z : r .answer .code �
   plan-known = let e : r .count - 0 ≡ r .count = omega arith in rw e (o .plan z)
 
   module _ (a : List ℕ) {c : Answer} (f : c ≡ told (readImage (planAs (r .x) (r .y) numbers) a)) where
-    pub image-refused : (c .code ≡ 0 → ⊥) → refusedLine (c .code) (c .object) (c .bit) ≡ textOf (readBoth b a)
-    image-refused n = refused-under b a plan-known f n
+    pub image-told : c ≡ told (textOf (readBoth b a))
+    image-told = let e : r .count - 0 ≡ r .count = omega arith in f ∙ image-under o z (ap (λ (n : ℕ). take n (r .kinds)) e) a ∙ both-told b a
 
     pub ready : c .code ≡ 0 → Ready b a numbers
     ready e = record { x = r .x; y = r .y; plan = plan-known; image = ap (λ (c : Answer). c .code) (sym f) ∙ e }
 
 -- ---- its text
 
-text-in : {b a ns : List ℕ} (r : Read b a ns) → textOf (readBoth b a) ≡ firstLine (getD b 5 0) (getD b 6 0) (number (take 4 (drop 7 a))) (length ns) ++ linesIn (readBoth b a)
-unfolding textOf linesIn
+text-in : {b a ns : List ℕ} (r : Read b a ns) → textOf (readBoth b a) ≡ done (firstLine (getD b 5 0) (getD b 6 0) (number (take 4 (drop 7 a))) (length ns) ++ linesIn (readBoth b a))
+unfolding linesIn
 text-in {b} {a} {ns} r =
     ap textOf (r .reads)
-    ∙ (λ j. firstLine (sym (r .x) j) (sym (r .y) j) (sym (r .position) j) (r .count j) ++ linesIn (sym (r .reads) j))
+    ∙ (λ j. done (firstLine (sym (r .x) j) (sym (r .y) j) (sym (r .position) j) (r .count j) ++ linesIn (sym (r .reads) j)))
 
-pub lines-after : {b a ns : List ℕ} → Ready b a ns → Held b → Held a → {position : ℕ} → position ≡ number (take 4 (drop 7 a)) → {l m n : List ℕ} {p q : ℕ}
-    → Wrote l 0 (firstLine (getD b 5 0) (getD b 6 0) position (length ns)) m p → Wrote m p (linesIn (readBoth b a)) n q → Wrote l 0 (textOf (readBoth b a)) n q
-lines-after {b} {a} {ns} r hb ha e w v =
-    wrote-as (ap (λ (k : ℕ). firstLine (getD b 5 0) (getD b 6 0) k (length ns) ++ linesIn (readBoth b a)) e ∙ sym (text-in (read-as r hb ha))) (text-then w v)
+-- a text written from the front on
+wrote-leaves : {v : Verdict (List ℕ)} {text l m : List ℕ} {q : ℕ} → v ≡ done text → Wrote l 0 text m q → q ≤ length l → {r : Answer} → r ≡ unnamed 0 q → Leaves v l r m
+wrote-leaves {text = text} {l} e w h q =
+    let zero : 0 + length text ≡ length text = omega arith in
+    let long : length text ≡ _ = sym (w .next ∙ zero) in
+    let here = w .text ∙ sets-eq text l 0 (omega (arith, w .next)) ∙ ap (λ (n : ℕ). text ++ drop n l) (zero ∙ long) in
+    leaves-as l (sym e) (written-leaves text l long h q here)
+
+-- the first line and those below it are all that is written
+module _ {b a ns : List ℕ} (ready : Ready b a ns) (hb : Held b) (ha : Held a) {position : ℕ} (e : position ≡ number (take 4 (drop 7 a))) {l m n : List ℕ} {p q : ℕ}
+    (w : Wrote l 0 (firstLine (getD b 5 0) (getD b 6 0) position (length ns)) m p) (v : Wrote m p (linesIn (readBoth b a)) n q) (h : 65536 ≤ length l)
+    {r : Answer} (r-is : r ≡ unnamed 0 q) where
+  lines-leave : Leaves (textOf (readBoth b a)) l r n
+  lines-leave =
+      let text = text-in (read-as ready hb ha) ∙ ap (λ (k : ℕ). done (firstLine (getD b 5 0) (getD b 6 0) k (length ns) ++ linesIn (readBoth b a))) (sym e) in
+      wrote-leaves text (text-then w v) (omega (arith, lines-end b a (getD b 5 0) (getD b 6 0) position (length ns) w v)) r-is
+
+  pub lines-answer : r ≡ settled (textOf (readBoth b a)) l .answer
+  lines-answer = lines-leave .0
+
+  pub lines-output : n ≡ settled (textOf (readBoth b a)) l .output
+  lines-output = lines-leave .1

@@ -10,15 +10,15 @@ use lib.Seq.{take-append-le, take-at, drop-at}
 use borrow.Author.Tests.{le-leb}
 use Rattle.octets.specs.Octets.{number}
 use Rattle.history.specs.declared.Answer.{Answer}
-use Rattle.history.specs.Verdict.{Verdict, refused, done, then, told}
+use Rattle.history.specs.Verdict.{Verdict, refused, done, told}
 use Rattle.history.specs.Form.{readForm}
-use Rattle.history.specs.Table.{Table, Plan, versionGood, readTable, planOf}
-use Rattle.history.specs.Image.{Image, readImage}
+use Rattle.history.specs.Table.{Table, versionGood, readTable}
+use Rattle.history.specs.Image.{Image}
 use Rattle.history.specs.Calls.{tableCall, readPlan, imageCall}
 use Rattle.history.proofs.FormLaws.{form-whole}
 use Rattle.history.proofs.VerdictLaws.{used}
-use Rattle.tables.proofs.AnswerLaws.{told-then}
-use Rattle.listing.specs.Listing.{Panel, readBoth, tableSize, readPanel, refusedLine, panelText, textOf, listingOf}
+use Rattle.listing.specs.Listing.{readBoth, tableSize, readPanel, refusedLine, panelText, textOf, listingCall, printed, listingOf}
+use Rattle.listing.proofs.PanelLaws.{both-told}
 
 -- ---- table and image, one behind the other
 
@@ -33,8 +33,8 @@ module _ (t a : List ℕ) (four : 4 ≤ length t) (fills : length t ≡ 4 + numb
   size = ap (λ (b : List ℕ). 4 + number b) (take-append-le 4 t a four) ∙ sym fills
 
   -- it is split where the table ends
-  parted : listingOf (t ++ a) ≡ textOf (readBoth t a)
-  unfolding listingOf readPanel
+  parted : listingOf (t ++ a) ≡ printed (textOf (readBoth t a))
+  unfolding listingOf listingCall readPanel
   parted =
       let all = length-append t a in
       rw (
@@ -48,23 +48,13 @@ module _ (t a : List ℕ) (four : 4 ≤ length t) (fills : length t ≡ 4 + numb
 
 -- ---- by the calls
 
-both-told : (v : Verdict Table) (f : Plan → Verdict Image)
-    → told {A = Panel} (then v (λ t. then (f (planOf t)) λ a. done (record { table = t; image = a }))) ≡ told (then (then v (λ t. done (planOf t))) f)
-unfolding told
-both-told (refused code object bit) f = refl
-both-told (done t) f = told-then (f (planOf t)) (λ (a : Image). record { table = t; image = a })
-
-answer-is : (t a : List ℕ) → told (readBoth t a) ≡ told (imageCall t a)
-unfolding readBoth imageCall readPlan
-answer-is t a = both-told (readTable t) (λ p. readImage p a)
-
-line-is : (v : Verdict Panel) → (told v .code ≡ 0 → ⊥) → textOf v ≡ refusedLine (told v .code) (told v .object) (told v .bit)
-unfolding told textOf
+pub line-is : (v : Verdict (List ℕ)) → (told v .code ≡ 0 → ⊥) → printed v ≡ refusedLine (told v .code) (told v .object) (told v .bit)
+unfolding told printed
 line-is (refused code object bit) n = refl
-line-is (done p) n = absurd (n refl)
+line-is (done text) n = absurd (n refl)
 
-both-read : (t a : List ℕ) {table : Table} {image : Image} → tableCall t ≡ done table → imageCall t a ≡ done image → textOf (readBoth t a) ≡ panelText table image
-unfolding tableCall imageCall readPlan readBoth textOf
+both-read : (t a : List ℕ) {table : Table} {image : Image} → tableCall t ≡ done table → imageCall t a ≡ done image → printed (textOf (readBoth t a)) ≡ panelText table image
+unfolding tableCall imageCall readPlan readBoth printed
 both-read t a e f = let g = rw e at f in rw (e, g)
 
 -- an accepted table and image, one behind the other
@@ -76,5 +66,5 @@ panel-printed t a few e f = let w = table-fills t e in parted t a (w .0) (w .1) 
 pub refusal-printed : (t a : List ℕ) → 4 ≤ length t → length t ≡ 4 + number (take 4 t) → length t + length a ≤ 65536
     → {c : Answer} → c ≡ told (imageCall t a) → (c .code ≡ 0 → ⊥) → listingOf (t ++ a) ≡ refusedLine (c .code) (c .object) (c .bit)
 refusal-printed t a four fills few e n =
-    let same = e ∙ sym (answer-is t a) in
-    parted t a four fills few ∙ line-is (readBoth t a) (λ z. n (ap (λ (c : Answer). c .code) same ∙ z)) ∙ ap (λ (c : Answer). refusedLine (c .code) (c .object) (c .bit)) (sym same)
+    let same = e ∙ both-told t a in
+    parted t a four fills few ∙ line-is (textOf (readBoth t a)) (λ z. n (ap (λ (c : Answer). c .code) same ∙ z)) ∙ ap (λ (c : Answer). refusedLine (c .code) (c .object) (c .bit)) (sym same)

@@ -81,9 +81,18 @@ refusedLine code object bit = refusedWord ␣ decimal code ␣ decimal object �
 abbrev pub panelText : Table → Image → List ℕ
 panelText t a = firstLine (t .x) (t .y) (a .position) (length (t .objects)) ++ linesOf 0 (t .objects) (planOf t .kinds) (a .words)
 
-unfoldable pub textOf : Verdict Panel → List ℕ
-textOf (refused code object bit) = refusedLine code object bit
-textOf (done p) = panelText (p .table) (p .image)
+-- what is read, as text
+abbrev pub textOf : Verdict Panel → Verdict (List ℕ)
+textOf v = then v λ p. done (panelText (p .table) (p .image))
+
+unfoldable pub listingCall : List ℕ → Verdict (List ℕ)
+listingCall input = textOf (readPanel input)
+
+-- ---- what the program prints: the text, or the line of its refusal
+
+unfoldable pub printed : Verdict (List ℕ) → List ℕ
+printed (refused code object bit) = refusedLine code object bit
+printed (done text) = text
 
 unfoldable pub listingOf : List ℕ → List ℕ
-listingOf input = textOf (readPanel input)
+listingOf input = printed (listingCall input)

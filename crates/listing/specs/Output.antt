@@ -1,5 +1,5 @@
--- The listing in a lent buffer. Every listing fits 65,536 bytes: a shorter buffer stays as it was, and 0 is given back, which no listing's
--- length is (proofs/Fits).
+-- What is printed, in a lent buffer. All of it fits 65,536 bytes: a shorter buffer stays as it was, and 0 is given back, which is the length
+-- of nothing printed (proofs/Fits).
 use Prim.Native.Nat.{ℕ, _≤_}
 use mathlib.Core.Path.{_≡_}
 use mathlib.Core.Bool.{cond}

@@ -3,43 +3,83 @@
 mod lines;
 mod panel;
 
+use history::Answer;
 use lines::put_refusal;
 use panel::put_panel;
 use tables::refused;
+use tables::short;
+use tables::written;
+ghost use mathlib.Core.Path.{_≡_};
 ghost use Prim.Native.Nat.{_≤_};
 ghost use lib.ListN.{length};
-ghost use Rattle.text.specs.Wrote.{Wrote};
-ghost use Rattle.listing.specs.Listing.{listingOf};
+ghost use Rattle.history.specs.Verdict.{done, settled};
+ghost use Rattle.listing.specs.Listing.{listingCall};
 ghost use Rattle.listing.specs.Output.{ListedInto};
 
 // The most bytes of input that are taken; and the bytes of output that every listing fits.
 const MOST: usize = 65536;
 
-// The listing at the front of `out`, and its length; 0 where `out` is shorter than every listing fits.
-pub fn list_into(input: &[u8], out: &mut [u8]) -> usize
+// The text of a table and its image at the front of `out`. A short output is filled by way of a buffer that every listing fits.
+pub fn list_into(input: &[u8], out: &mut [u8]) -> Answer
+    ensures { λ r. ⌜ r ≡ settled (listingCall (now (input .entry))) (now (out .entry)) .answer ⌝ }
+    ensures { λ _. ⌜ now (out .exit) ≡ settled (listingCall (now (input .entry))) (now (out .entry)) .output ⌝ }
+{
+    if MOST <= out.len() {
+        return put_listing(input, out);
+    }
+    let mut text = [0u8; 65536];
+    let answer = put_listing(input, &mut text);
+    if answer.code != 0 {
+        return answer;
+    }
+    put_front(out, &text[0..answer.length as usize])
+}
+
+// What the program prints, at the front of `out`, and its length: the text, or the line of its refusal; 0 where `out` is shorter than
+// every listing fits.
+pub fn print_into(input: &[u8], out: &mut [u8]) -> usize
     ensures { λ r. ⌜ ListedInto (now (input .entry)) (now (out .entry)) (now (out .exit)) r ⌝ }
 {
     if out.len() < MOST {
         return 0;
     }
-    put_listing(input, out)
+    let answer = list_into(input, out);
+    if answer.code != 0 {
+        return put_refusal(out, answer);
+    }
+    answer.length as usize
 }
 
 // The input is split by the table's length.
-fn put_listing(input: &[u8], out: &mut [u8]) -> usize
+fn put_listing(input: &[u8], out: &mut [u8]) -> Answer
     requires { ⌜ 65536 ≤ length (now out) ⌝ }
-    ensures { λ r. ⌜ Wrote (now (out .entry)) 0 (listingOf (now (input .entry))) (now (out .exit)) r ⌝ }
+    ensures { λ r. ⌜ r ≡ settled (listingCall (now (input .entry))) (now (out .entry)) .answer ⌝ }
+    ensures { λ _. ⌜ now (out .exit) ≡ settled (listingCall (now (input .entry))) (now (out .entry)) .output ⌝ }
 {
     let all = input.len();
     if MOST < all {
-        return put_refusal(out, refused(1));
+        return refused(1);
     }
     if all < 4 {
-        return put_refusal(out, refused(1));
+        return refused(1);
     }
     let size = 4 + octets::get_at(input, 0, 4) as usize;
     if all < size {
-        return put_refusal(out, refused(1));
+        return refused(1);
     }
     put_panel(&input[0..size], &input[size..all], out)
+}
+
+// The bytes at the front of the output, or 21.
+fn put_front(out: &mut [u8], text: &[u8]) -> Answer
+    requires { ⌜ length (now text) ≤ 65536 ⌝ }
+    ensures { λ r. ⌜ r ≡ settled (done (now (text .entry))) (now (out .entry)) .answer ⌝ }
+    ensures { λ _. ⌜ now (out .exit) ≡ settled (done (now (text .entry))) (now (out .entry)) .output ⌝ }
+{
+    let size = text.len();
+    if out.len() < size {
+        return short(size as u32);
+    }
+    octets::copy(&mut out[0..size], text);
+    written(size as u32)
 }

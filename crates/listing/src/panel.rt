@@ -1,26 +1,29 @@
 // A table and its image as text: both are checked, then walked once, object by object.
 use super::lines::put_first_line;
 use super::lines::put_object_line;
-use super::lines::put_refusal;
 use forms::check_image_under;
 use forms::kind_at;
+use history::Answer;
 use tables::outline;
+use tables::written;
 ghost use mathlib.Core.Path.{_≡_};
 ghost use Prim.Native.Nat.{_+_, _≤_, _<_};
 ghost use lib.ListN.{length, getD};
+ghost use Rattle.history.specs.Verdict.{settled};
 ghost use Rattle.text.specs.Wrote.{Wrote};
 ghost use Rattle.listing.specs.Listing.{readBoth, textOf};
 ghost use Rattle.listing.specs.Walk.{Ready, linesIn};
 
-// The lines of both, or the line of the first refusal.
-pub fn put_panel(table: &[u8], image: &[u8], out: &mut [u8]) -> usize
+// The lines of both, or the first refusal.
+pub fn put_panel(table: &[u8], image: &[u8], out: &mut [u8]) -> Answer
     requires { ⌜ 65536 ≤ length (now out) ⌝ }
-    ensures { λ r. ⌜ Wrote (now (out .entry)) 0 (textOf (readBoth (now (table .entry)) (now (image .entry)))) (now (out .exit)) r ⌝ }
+    ensures { λ r. ⌜ r ≡ settled (textOf (readBoth (now (table .entry)) (now (image .entry)))) (now (out .entry)) .answer ⌝ }
+    ensures { λ _. ⌜ now (out .exit) ≡ settled (textOf (readBoth (now (table .entry)) (now (image .entry)))) (now (out .entry)) .output ⌝ }
 {
     let known = outline(table);
     let answer = known.answer;
     if answer.code != 0 {
-        return put_refusal(out, answer);
+        return answer;
     }
     let x = known.x;
     let y = known.y;
@@ -28,21 +31,22 @@ pub fn put_panel(table: &[u8], image: &[u8], out: &mut [u8]) -> usize
     let kinds = known.kinds;
     let checked = check_image_under(x, y, &kinds[0..count], image);
     if checked.code != 0 {
-        return put_refusal(out, checked);
+        return checked;
     }
     put_accepted(table, image, &kinds[0..count], out)
 }
 
 // The first line, then a line for each object.
-fn put_accepted(table: &[u8], image: &[u8], kinds: &[u8], out: &mut [u8]) -> usize
+fn put_accepted(table: &[u8], image: &[u8], kinds: &[u8], out: &mut [u8]) -> Answer
     requires { ⌜ Ready (now table) (now image) (now kinds) ⌝ }
     requires { ⌜ 65536 ≤ length (now out) ⌝ }
-    ensures { λ r. ⌜ Wrote (now (out .entry)) 0 (textOf (readBoth (now (table .entry)) (now (image .entry)))) (now (out .exit)) r ⌝ }
+    ensures { λ r. ⌜ r ≡ settled (textOf (readBoth (now (table .entry)) (now (image .entry)))) (now (out .entry)) .answer ⌝ }
+    ensures { λ _. ⌜ now (out .exit) ≡ settled (textOf (readBoth (now (table .entry)) (now (image .entry)))) (now (out .entry)) .output ⌝ }
 {
     let position = octets::get_at(image, 7, 4);
     let count = kinds.len() as u32;
     let at = put_first_line(out, table[5], table[6], position, count);
-    put_objects(table, image, kinds, out, at)
+    written(put_objects(table, image, kinds, out, at) as u32)
 }
 
 // A line for each object: one place goes along the table's entries, one along the image's elements.

@@ -4,6 +4,6 @@ pub fn list_between(input: i32, output: i32) {
     let mut given = [0u8; 65537];
     let n = io::read_full(input, &mut given);
     let mut text = [0u8; 65536];
-    let m = listing::list_into(&given[0..n], &mut text);
+    let m = listing::print_into(&given[0..n], &mut text);
     io::write_all(output, &text[0..m]);
 }

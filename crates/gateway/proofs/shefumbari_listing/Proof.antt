@@ -6,7 +6,7 @@ use Rattle.gateway.proofs.shefumbari_listing.Statement.{statement}
 use Rattle.gateway.proofs.shefumbari_listing.Tie as tie
 
 returns : tie.Need-returns
-returns c = wrote _ _ (c .answer-slots .ensures) (c .before .before .before .list .ensures)
+returns c = wrote _ _ (c .answer-slots .ensures) (c .before .before .before .list-into .ensures)
 
 pub shefumbari-listing-spec : {M : Type 1} → statement M
 shefumbari-listing-spec = tie.close (tie.spec (λ c κs. search needs) (λ c κs. search needs) (λ c. search needs) returns)

@@ -2,16 +2,19 @@
 -- Assumes nothing.
 use native.Mathlib.Omega.{arith}
 use borrow.Author.Needs.{needs}
-use Rattle.listing.proofs.Fits.{lines-room}
-use Rattle.listing.proofs.PanelLaws.{nine, eleven, few, lines-after}
+use Rattle.listing.proofs.Fits.{lines-room, lines-cast}
+use Rattle.listing.proofs.PanelLaws.{nine, eleven, few, lines-answer, lines-output}
 use Rattle.listing.proofs.panel.put_accepted.Statement.{statement}
 use Rattle.listing.proofs.panel.put_accepted.Tie as tie
 
 put-objects-requires : tie.Need-put-objects-requires
 put-objects-requires c κs = (search, search lines-room)
 
+cast-written : tie.Need-cast-written
+cast-written c = search lines-cast
+
 returns : tie.Need-returns
-returns c = search lines-after
+returns c = search (lines-answer, lines-output)
 
 pub put-accepted-spec : {M : Type 1} → statement M
 put-accepted-spec =
@@ -23,5 +26,7 @@ put-accepted-spec =
     (λ c. omega (arith, nine))
     (λ c κs. search needs)
     put-objects-requires
+    cast-written
+    (λ c κs. search needs)
     (λ c. search needs)
     returns)

@@ -1,11 +1,11 @@
--- `gateway::calls::put_front` meets its contract: the room is tested before the first byte is written.
+-- `listing::put_front` meets its contract: the room is tested before the first byte is written.
 -- Assumes nothing.
 use mathlib.Core.Path.{refl}
 use native.Mathlib.Omega.{arith}
 use borrow.Author.Needs.{needs}
 use Rattle.history.proofs.OutputLaws.{short-leaves, front-leaves}
-use Rattle.gateway.proofs.calls.put_front.Statement.{statement}
-use Rattle.gateway.proofs.calls.put_front.Tie as tie
+use Rattle.listing.proofs.put_front.Statement.{statement}
+use Rattle.listing.proofs.put_front.Tie as tie
 
 returns : tie.Need-returns
 returns c = short-leaves _ _ refl (c .before .if1 .taken) (c .short .ensures)
