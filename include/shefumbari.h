@@ -4,8 +4,8 @@
    nothing else. Success is 0, 65535, 255 and the bytes written. A refusal is a code of 1 to 22, the object and bit it
    names, else 65535 and 255, and length 0, but for 21 (output too short), which gives the length needed.
 
-   Success writes the front of out and leaves the rest; a refusal writes nothing there. No call keeps a pointer or
-   changes an input. Buffers lent to one call lie apart; no pointer is null, even where its length is 0. */
+   Success writes the front of out and leaves the rest; a refusal writes nothing but answer and a tally. No call keeps
+   a pointer or changes an input. Buffers lent to one call lie apart; no pointer is null, even where its length is 0. */
 #ifndef SHEFUMBARI_H
 #define SHEFUMBARI_H
 
@@ -32,7 +32,7 @@ void shefumbari_check_list(const uint8_t *table, size_t table_len, const uint8_t
                            uint32_t answer[8]);
 
 /* Reads an object's state: answer[4] is its kind (the type, under catalogue 1.0), fields are the values of its fields
-   that aren't reserved, from bit 0 up, the rest of fields 0. Refused: kind and all fields are 0. */
+   that aren't reserved, from bit 0 up, the rest of fields 0. Refused: the kind is 0, and fields stays as it was. */
 void shefumbari_read_state(const uint8_t *table, size_t table_len, const uint8_t *image, size_t image_len,
                            uint16_t object, uint32_t fields[32], uint32_t answer[8]);
 

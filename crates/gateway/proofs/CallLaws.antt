@@ -1,4 +1,5 @@
--- What only C asks for, at each place where its answer is made; that a label's place fits 32 bits; and the numbers that C is given.
+-- What only C asks for, at each place where its answer is made; that a label's place fits 32 bits; the fields of a state that is read; and
+-- the numbers that C is given.
 -- Assumes nothing.
 use Prim.Native.Nat.{ℕ, zero, suc, _*_, _≤_, _<_}
 use native.Mathlib.Omega.{arith}
@@ -12,6 +13,7 @@ use Rattle.rows.specs.declared.Finding.{Finding}
 use Rattle.rows.specs.declared.Refusal.{Refusal}
 use Rattle.kinds.specs.Kinds.{widthOf}
 use Rattle.kinds.specs.declared.Kind.{Kind}
+use Rattle.kinds.specs.declared.Element.{Element}
 use Rattle.octets.specs.Octets.{number}
 use Rattle.elements.specs.Elements.{carried, kindOf, elementCheck}
 use Rattle.history.specs.declared.Answer.{Answer}
@@ -19,19 +21,23 @@ use Rattle.history.specs.declared.Standing.{Standing}
 use Rattle.history.specs.Verdict.{Verdict, refused, done, numbers, unnamed, told, settled}
 use Rattle.history.specs.Table.{Object, Table, objectBytes, objectsBytes, labelLimit, readTable}
 use Rattle.history.specs.Image.{element, _of_⨾_}
-use Rattle.history.specs.Calls.{Place, labelPlace, labelCall}
+use Rattle.history.specs.Calls.{readStateCall, Place, labelPlace, labelCall}
 use Rattle.history.specs.Legal.{LegalTable}
 use Rattle.history.proofs.OutputLaws.{Leaves}
+use Rattle.history.proofs.CodeLaws.{Coded, read-call-coded}
 use Rattle.history.proofs.VerdictLaws.{held, used}
 use Rattle.history.proofs.TableLaws.{nobody, table-is}
 use Rattle.tables.specs.LabelPlaces.{labelTold}
 use Rattle.tables.specs.declared.place.LabelAt.{LabelAt}
 use Rattle.tables.proofs.AnswerLaws.{yes, no}
+use Rattle.panel.specs.Readings.{readingOf}
+use Rattle.fields.specs.declared.Plain.{Plain}
+use Rattle.fields.specs.Fields.{shownOf, plainOf}
 use Rattle.receiver.specs.declared.Taken.{Taken}
 use Rattle.receiver.specs.Receive.{answerOf, standingOf, takenOf}
 use Rattle.history.specs.Standing.{talliesOf}
 use Rattle.gateway.specs.Calls.{elementCall}
-use Rattle.gateway.specs.Slots.{answerSlots, standingIn}
+use Rattle.gateway.specs.Slots.{slots, answerSlots, readSlots, fieldsAfter, standingIn}
 
 -- ---- a label stands within 65,536 bytes
 
@@ -97,6 +103,36 @@ module _ (ty : ℕ) (b : List ℕ) {t : Bool} (t-is : t ≡ carried 1 ty) where
       pub element-good : found ≡ Finding.Accepted → {a : Answer} → a ≡ unnamed 0 0 → a ≡ told (elementCall ty b)
       unfolding told
       element-good q e = e ∙ by-finding Finding.Accepted q
+
+-- ---- the fields of a state that is read
+
+module _ (fields : List ℕ) {p : Plain} where
+  stay : (v : Verdict Element) → p ≡ plainOf (readingOf v) → (p .answer .code ≡ 0 → ⊥) → fields ≡ fieldsAfter v fields
+  unfolding plainOf shownOf readingOf fieldsAfter
+  stay (refused code object bit) e n = refl
+  stay (done state) e n = absurd (n (ap (λ (p : Plain). p .answer .code) e))
+
+  show : (v : Verdict Element) → Coded v → p ≡ plainOf (readingOf v) → p .answer .code ≡ 0 → p .fields ≡ fieldsAfter v fields
+  unfolding plainOf shownOf readingOf fieldsAfter
+  show (refused code object bit) c e z = absurd (omega (arith, c .0, ap (λ (p : Plain). p .answer .code) e))
+  show (done state) c e z = ap (λ (p : Plain). p .fields) e
+
+module _ (T A : List ℕ) (i : ℕ) (fields : List ℕ) {p : Plain} (is : p ≡ plainOf (readingOf (readStateCall T A i))) where
+  pub fields-stay : (p .answer .code ≡ 0 → ⊥) → fields ≡ fieldsAfter (readStateCall T A i) fields
+  fields-stay = stay fields (readStateCall T A i) is
+
+  pub fields-shown : p .answer .code ≡ 0 → p .fields ≡ fieldsAfter (readStateCall T A i) fields
+  fields-shown = show fields (readStateCall T A i) (read-call-coded T A i) is
+
+  pub read-told : {l : List ℕ} → l ≡ slots (p .answer) (p .kind) 0 → l ≡ readSlots (plainOf (readingOf (readStateCall T A i)))
+  unfolding readSlots
+  read-told e = e ∙ ap readSlots is
+
+-- a code that is not 0 leaves the fields
+pub refused-read : (T A : List ℕ) (i : ℕ) (before : List ℕ) {fields a : List ℕ} → fields ≡ fieldsAfter (readStateCall T A i) before → a ≡ readSlots (plainOf (readingOf (readStateCall T A i)))
+    → (getD a 0 0 ≡ 0 → ⊥) → fields ≡ before
+unfolding readSlots
+refused-read T A i before e q n = e ∙ sym (fields-stay T A i before refl (λ z. n (ap (λ (l : List ℕ). getD l 0 0) q ∙ z)))
 
 -- ---- the numbers that C is given
 

@@ -13,7 +13,7 @@ use Rattle.listing.specs.Listing.{listingCall}
 use Rattle.fields.specs.Fields.{plainOf}
 use Rattle.fields.specs.Calls.{writeFieldsCall}
 use Rattle.history.specs.Standing.{talliesOf}
-use Rattle.gateway.specs.Slots.{answerSlots, readSlots, labelSlots, standingIn}
+use Rattle.gateway.specs.Slots.{answerSlots, readSlots, fieldsAfter, labelSlots, standingIn}
 use Rattle.gateway.specs.Calls.{elementCall}
 
 -- a call that fills the eight numbers alone
@@ -25,8 +25,8 @@ abbrev pub Writes : Verdict (List ℕ) → List ℕ → List ℕ → List ℕ �
 Writes v out a m = (a ≡ answerSlots (settled v out .answer)) × (m ≡ settled v out .output)
 
 -- reading a state: its fields, and the eight numbers
-abbrev pub Reads : List ℕ → List ℕ → ℕ → List ℕ → List ℕ → Type 0
-Reads T A i fields a = (fields ≡ plainOf (readingOf (readStateCall T A i)) .fields) × (a ≡ readSlots (plainOf (readingOf (readStateCall T A i))))
+abbrev pub Reads : List ℕ → List ℕ → ℕ → List ℕ → List ℕ → List ℕ → Type 0
+Reads T A i before fields a = (fields ≡ fieldsAfter (readStateCall T A i) before) × (a ≡ readSlots (plainOf (readingOf (readStateCall T A i))))
 
 -- receiving: the eight numbers, the output and the tallies at the end
 abbrev pub Receives : List ℕ → List ℕ → List ℕ → List ℕ → List ℕ → List ℕ → List ℕ → List ℕ → Type 0
@@ -49,8 +49,8 @@ module _ {a a′ : List ℕ} where
   pub one-label : (T : List ℕ) (i : ℕ) → a ≡ labelSlots (labelTold (labelCall T i)) → a′ ≡ labelSlots (labelTold (labelCall T i)) → a ≡ a′
   one-label T i = one-outcome
 
-  pub one-read-state : (T A : List ℕ) (i : ℕ) {fs fs′ : List ℕ} → Reads T A i fs a → Reads T A i fs′ a′ → (fs ≡ fs′) × (a ≡ a′)
-  one-read-state T A i = one-pair
+  pub one-read-state : (T A : List ℕ) (i : ℕ) (before : List ℕ) {fs fs′ : List ℕ} → Reads T A i before fs a → Reads T A i before fs′ a′ → (fs ≡ fs′) × (a ≡ a′)
+  one-read-state T A i before = one-pair
 
   module _ (out : List ℕ) {m m′ : List ℕ} where
     pub one-write-state : (T A : List ℕ) (i kind : ℕ) (fields : List ℕ) (position : ℕ)

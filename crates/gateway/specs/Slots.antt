@@ -1,11 +1,15 @@
--- Eight numbers of a call: code, object, bit, length, then what the call adds, then zeros; and a standing by its tallies.
+-- Eight numbers of a call: code, object, bit, length, then what the call adds, then zeros; the fields of a
+-- state that is read; and a standing by its tallies.
 use Prim.Native.Nat.{ℕ}
 use mathlib.Core.List.{List, [], _∷_}
 use lib.ListN.{getD}
+use Rattle.kinds.specs.declared.Element.{Element}
+use Rattle.history.specs.Verdict.{Verdict, refused, done}
 use Rattle.history.specs.declared.Answer.{Answer}
 use Rattle.history.specs.declared.Standing.{Standing}
 use Rattle.tables.specs.declared.place.LabelAt.{LabelAt}
 use Rattle.fields.specs.declared.Plain.{Plain}
+use Rattle.fields.specs.Fields.{fieldsOf}
 
 abbrev pub slots : Answer → ℕ → ℕ → List ℕ
 slots a fifth sixth = a .code ∷ a .object ∷ a .bit ∷ a .length ∷ fifth ∷ sixth ∷ 0 ∷ 0 ∷ []
@@ -16,6 +20,11 @@ answerSlots a = slots a 0 0
 -- the fifth is the state's kind
 unfoldable pub readSlots : Plain → List ℕ
 readSlots r = slots (r .answer) (r .kind) 0
+
+-- the fields at the end: those of the state that was read, or as they were
+unfoldable pub fieldsAfter : Verdict Element → List ℕ → List ℕ
+fieldsAfter (refused code object bit) fields = fields
+fieldsAfter (done state) fields = fieldsOf state .fields
 
 -- the fifth and the sixth are the label's first byte in the table and its size
 unfoldable pub labelSlots : LabelAt → List ℕ

@@ -25,7 +25,7 @@ ghost use Rattle.fields.specs.Calls.{writeFieldsCall};
 ghost use Rattle.receiver.specs.Receive.{answerOf, outputOf, standingOf};
 ghost use Rattle.listing.specs.Listing.{listingCall};
 ghost use Rattle.history.specs.Standing.{talliesOf};
-ghost use Rattle.gateway.specs.Slots.{answerSlots, readSlots, labelSlots, standingIn};
+ghost use Rattle.gateway.specs.Slots.{answerSlots, readSlots, fieldsAfter, labelSlots, standingIn};
 ghost use Rattle.gateway.specs.Calls.{elementCall};
 
 // ---- checks
@@ -60,7 +60,7 @@ pub extern "C" fn shefumbari_check_list(table: &[u8], list: &[u8], answer: &mut 
 
 // ---- states and labels
 
-// The values that are not reserved, from bit 0 up; the kind is the fifth number.
+// The values that are not reserved, from bit 0 up; the kind is the fifth number. A refusal leaves the fields.
 #[no_mangle]
 pub extern "C" fn shefumbari_read_state(
     table: &[u8],
@@ -69,13 +69,15 @@ pub extern "C" fn shefumbari_read_state(
     fields: &mut [u32; 32],
     answer: &mut [u32; 8],
 )
-    ensures { λ _. ⌜ now (fields .exit) ≡ plainOf (readingOf (readStateCall (now (table .entry)) (now (image .entry)) object)) .fields ⌝ }
+    ensures { λ _. ⌜ now (fields .exit) ≡ fieldsAfter (readStateCall (now (table .entry)) (now (image .entry)) object) (now (fields .entry)) ⌝ }
     ensures { λ _. ⌜ now (answer .exit) ≡ readSlots (plainOf (readingOf (readStateCall (now (table .entry)) (now (image .entry)) object))) ⌝ }
 {
     let plain = read_fields(table, image, object);
-    let shown = plain.fields;
-    *fields = shown;
     *answer = read_slots(plain.answer, plain.kind);
+    if plain.answer.code == 0 {
+        let shown = plain.fields;
+        *fields = shown;
+    }
 }
 
 #[no_mangle]
