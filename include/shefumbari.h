@@ -1,8 +1,9 @@
 /* Shefumbari: tables, images and change lists of an interlocking's indications.
 
-   Every call fills answer with eight numbers: code, object, bit, length, then zeros (kept for later) where a call says
-   nothing else. Success is 0, 65535, 255 and the bytes written. A refusal is a code of 1 to 22, the object and bit it
-   names, else 65535 and 255, and length 0, but for 21 (output too short), which gives the length needed.
+   Every call fills answer with eight numbers: code, object, bit, length, a place kept for later (0), and three that are
+   0 where a call says nothing else. Success is 0, 65535, 255 and the bytes written. A refusal is a code of 1 to 22, the
+   object and bit it names, else 65535 and 255, and length 0, but for 21 (output too short), which gives the length
+   needed.
 
    Success writes the front of out and leaves the rest; a refusal writes nothing but answer and a tally. No call keeps
    a pointer or changes an input. Buffers lent to one call lie apart; no pointer is null, even where its length is 0. */
@@ -16,9 +17,10 @@
 extern "C" {
 #endif
 
-/* Checks one element of a type: 5 where the type isn't carried, 8 where the length isn't the type's width, then 10, 11
-   or 12 with the bit. No object is named. */
-void shefumbari_check_element(uint8_t type, const uint8_t *element, size_t element_len, uint32_t answer[8]);
+/* Checks one element of a type under catalogue x.y: 3 where the catalogue isn't carried, 5 where the type isn't, 8
+   where the length isn't the type's width, then 10, 11 or 12 with the bit. No object is named. */
+void shefumbari_check_element(uint8_t x, uint8_t y, uint8_t type, const uint8_t *element, size_t element_len,
+                              uint32_t answer[8]);
 
 /* Checks a table. */
 void shefumbari_check_table(const uint8_t *table, size_t table_len, uint32_t answer[8]);
@@ -31,7 +33,7 @@ void shefumbari_check_image(const uint8_t *table, size_t table_len, const uint8_
 void shefumbari_check_list(const uint8_t *table, size_t table_len, const uint8_t *list, size_t list_len,
                            uint32_t answer[8]);
 
-/* Reads an object's state: answer[4] is its kind (the type, under catalogue 1.0), fields are the values of its fields
+/* Reads an object's state: answer[5] is its kind (the type, under catalogue 1.0), fields are the values of its fields
    that aren't reserved, from bit 0 up, the rest of fields 0. Refused: the kind is 0, and fields stays as it was. */
 void shefumbari_read_state(const uint8_t *table, size_t table_len, const uint8_t *image, size_t image_len,
                            uint16_t object, uint32_t fields[32], uint32_t answer[8]);
@@ -43,7 +45,7 @@ void shefumbari_write_state(const uint8_t *table, size_t table_len, const uint8_
                             uint16_t object, uint32_t kind, const uint32_t fields[32], uint32_t position,
                             uint8_t *out, size_t out_len, uint32_t answer[8]);
 
-/* Finds an object's label: answer[4] is its offset in the table, answer[5] its length. Refused: both are 0. */
+/* Finds an object's label: answer[5] is its offset in the table, answer[6] its length. Refused: both are 0. */
 void shefumbari_label(const uint8_t *table, size_t table_len, uint16_t object, uint32_t answer[8]);
 
 /* Writes to out the change list that turns image a into image b. */

@@ -19,7 +19,7 @@ use Rattle.elements.specs.Elements.{carried, kindOf, elementCheck}
 use Rattle.history.specs.declared.Answer.{Answer}
 use Rattle.history.specs.declared.Standing.{Standing}
 use Rattle.history.specs.Verdict.{Verdict, refused, done, numbers, unnamed, told, settled}
-use Rattle.history.specs.Table.{Object, Table, objectBytes, objectsBytes, labelLimit, readTable}
+use Rattle.history.specs.Table.{catalogueGood, Object, Table, objectBytes, objectsBytes, labelLimit, readTable}
 use Rattle.history.specs.Image.{element, _of_⨾_}
 use Rattle.history.specs.Calls.{readStateCall, Place, labelPlace, labelCall}
 use Rattle.history.specs.Legal.{LegalTable}
@@ -76,33 +76,38 @@ module _ (b : List ℕ) (i : ℕ) {l : LabelAt} (is : l ≡ labelTold (labelCall
 
 -- ---- an element by itself
 
-module _ (ty : ℕ) (b : List ℕ) {t : Bool} (t-is : t ≡ carried 1 ty) where
-  pub element-5 : not t ≡ true → {a : Answer} → a ≡ unnamed 5 0 → a ≡ told (elementCall ty b)
+module _ (x y ty : ℕ) (b : List ℕ) {s : Bool} (s-is : s ≡ catalogueGood x y) where
+  pub element-3 : not s ≡ true → {a : Answer} → a ≡ unnamed 3 0 → a ≡ told (elementCall x y ty b)
   unfolding elementCall told
-  element-5 h q = q ∙ rw (no t-is h)
+  element-3 h q = q ∙ rw (no s-is h)
 
-  module _ (h : not t ≡ false) {k : Kind} (is : k ≡ kindOf 1 ty) {w : ℕ} (wide : w ≡ widthOf k) where
-    pub element-8 : (length b ≡ w → ⊥) → {a : Answer} → a ≡ unnamed 8 0 → a ≡ told (elementCall ty b)
+  module _ (good : not s ≡ false) {t : Bool} (t-is : t ≡ carried x ty) where
+    pub element-5 : not t ≡ true → {a : Answer} → a ≡ unnamed 5 0 → a ≡ told (elementCall x y ty b)
     unfolding elementCall told
-    element-8 n q =
-        let f : eqb (length b) (widthOf (kindOf 1 ty)) ≡ false = ne-eqb _ _ (λ q. n (q ∙ sym (wide ∙ ap widthOf is))) in
-        q ∙ rw (yes t-is h, f)
+    element-5 h q = q ∙ rw (yes s-is good, no t-is h)
 
-    module _ (long : length b ≡ w) {n : ℕ} (number-is : n ≡ number b) {found : Finding} (found-is : found ≡ elementCheck k n) where
-      by-finding : (v : Finding) → found ≡ v → told (v of 65535 ⨾ done (number b)) ≡ told (elementCall ty b)
-      unfolding elementCall element
-      by-finding v q =
-          let f : eqb (length b) (widthOf (kindOf 1 ty)) ≡ true = eq-eqb _ _ (long ∙ wide ∙ ap widthOf is) in
-          let g : elementCheck (kindOf 1 ty) (number b) ≡ v = ap₂ elementCheck (sym is) (sym number-is) ∙ sym found-is ∙ q in
-          sym (rw (yes t-is h, f, g))
+    module _ (h : not t ≡ false) {k : Kind} (is : k ≡ kindOf x ty) {w : ℕ} (wide : w ≡ widthOf k) where
+      pub element-8 : (length b ≡ w → ⊥) → {a : Answer} → a ≡ unnamed 8 0 → a ≡ told (elementCall x y ty b)
+      unfolding elementCall told
+      element-8 n q =
+          let f : eqb (length b) (widthOf (kindOf x ty)) ≡ false = ne-eqb _ _ (λ q. n (q ∙ sym (wide ∙ ap widthOf is))) in
+          q ∙ rw (yes s-is good, yes t-is h, f)
 
-      pub element-refused : {r : Refusal} → found ≡ Finding.Refused r → {a : Answer} → a ≡ numbers (r .code) 65535 (r .bit) 0 → a ≡ told (elementCall ty b)
-      unfolding told
-      element-refused {r} q e = e ∙ by-finding (Finding.Refused r) q
+      module _ (long : length b ≡ w) {n : ℕ} (number-is : n ≡ number b) {found : Finding} (found-is : found ≡ elementCheck k n) where
+        by-finding : (v : Finding) → found ≡ v → told (v of 65535 ⨾ done (number b)) ≡ told (elementCall x y ty b)
+        unfolding elementCall element
+        by-finding v q =
+            let f : eqb (length b) (widthOf (kindOf x ty)) ≡ true = eq-eqb _ _ (long ∙ wide ∙ ap widthOf is) in
+            let g : elementCheck (kindOf x ty) (number b) ≡ v = ap₂ elementCheck (sym is) (sym number-is) ∙ sym found-is ∙ q in
+            sym (rw (yes s-is good, yes t-is h, f, g))
 
-      pub element-good : found ≡ Finding.Accepted → {a : Answer} → a ≡ unnamed 0 0 → a ≡ told (elementCall ty b)
-      unfolding told
-      element-good q e = e ∙ by-finding Finding.Accepted q
+        pub element-refused : {r : Refusal} → found ≡ Finding.Refused r → {a : Answer} → a ≡ numbers (r .code) 65535 (r .bit) 0 → a ≡ told (elementCall x y ty b)
+        unfolding told
+        element-refused {r} q e = e ∙ by-finding (Finding.Refused r) q
+
+        pub element-good : found ≡ Finding.Accepted → {a : Answer} → a ≡ unnamed 0 0 → a ≡ told (elementCall x y ty b)
+        unfolding told
+        element-good q e = e ∙ by-finding Finding.Accepted q
 
 -- ---- the fields of a state that is read
 

@@ -5,29 +5,34 @@ use mathlib.Core.List.{[], _∷_}
 use Rattle.rows.specs.Table.{table, layouts}
 use Rattle.elements.specs.Elements.{carried, kindOf, datRule, elementCheck}
 use Rattle.history.specs.Verdict.{refused, done, numbers, unnamed}
+use Rattle.history.specs.Table.{catalogueGood}
 use Rattle.history.specs.Image.{element}
 use Rattle.history.specs.Standing.{talliesOf}
 use Rattle.gateway.specs.Slots.{answerSlots, readSlots, labelSlots, standingIn}
 use Rattle.gateway.specs.Calls.{elementCall}
 
--- code, object, bit, length; the kind; the label's offset and size; applied, late, gap, other
+-- code, object, bit, length, 0; the kind; the label's offset and size; applied, late, gap, other
 pub places : (answerSlots (numbers 11 4 10 3) ≡ 11 ∷ 4 ∷ 10 ∷ 3 ∷ 0 ∷ 0 ∷ 0 ∷ 0 ∷ [])
-    × (readSlots (record { answer = unnamed 0 0; kind = 5; count = 8; fields = [] }) ≡ 0 ∷ 65535 ∷ 255 ∷ 0 ∷ 5 ∷ 0 ∷ 0 ∷ 0 ∷ [])
-    × (labelSlots (record { answer = unnamed 0 0; offset = 19; size = 6 }) ≡ 0 ∷ 65535 ∷ 255 ∷ 0 ∷ 19 ∷ 6 ∷ 0 ∷ 0 ∷ [])
+    × (readSlots (record { answer = unnamed 0 0; kind = 5; count = 8; fields = [] }) ≡ 0 ∷ 65535 ∷ 255 ∷ 0 ∷ 0 ∷ 5 ∷ 0 ∷ 0 ∷ [])
+    × (labelSlots (record { answer = unnamed 0 0; offset = 19; size = 6 }) ≡ 0 ∷ 65535 ∷ 255 ∷ 0 ∷ 0 ∷ 19 ∷ 6 ∷ 0 ∷ [])
     × (talliesOf (record { applied = 1; late = 2; gap = 3; other = 4 }) ≡ 1 ∷ 2 ∷ 3 ∷ 4 ∷ [])
     × (standingIn (1 ∷ 2 ∷ 3 ∷ 4 ∷ []) ≡ record { applied = 1; late = 2; gap = 3; other = 4 })
 unfolding answerSlots readSlots labelSlots
 places = (refl, refl, refl, refl, refl)
 
--- IC 03, AVG 01 00, SIG 00 00 01 D5; a type that is not carried, whatever the length; a length that is not the type's, whatever the bits
-pub elements : (elementCall 2 (0x03 ∷ []) ≡ done 0x03)
-    × (elementCall 22 (0x01 ∷ 0x00 ∷ []) ≡ done 0x0100)
-    × (elementCall 1 (0x00 ∷ 0x00 ∷ 0x01 ∷ 0xD5 ∷ []) ≡ refused 11 65535 4)
-    × (elementCall 2 (0x02 ∷ []) ≡ refused 12 65535 0)
-    × (elementCall 10 (0x03 ∷ []) ≡ refused 5 65535 255)
-    × (elementCall 2 (0x00 ∷ 0x03 ∷ []) ≡ refused 8 65535 255)
-    × (elementCall 2 (0x00 ∷ 0x09 ∷ []) ≡ refused 8 65535 255)
-    × (elementCall 2 [] ≡ refused 8 65535 255)
-    × (elementCall 2 (0x09 ∷ []) ≡ refused 10 65535 3)
-unfolding table layouts carried kindOf datRule elementCheck element elementCall
-elements = (refl, refl, refl, refl, refl, refl, refl, refl, refl)
+-- IC 03, AVG 01 00, SIG 00 00 01 D5; a type that is not carried, whatever the length; a length that is not the type's, whatever the bits; a
+-- catalogue that is not carried, whatever the type
+pub elements : (elementCall 1 0 2 (0x03 ∷ []) ≡ done 0x03)
+    × (elementCall 1 0 22 (0x01 ∷ 0x00 ∷ []) ≡ done 0x0100)
+    × (elementCall 1 0 1 (0x00 ∷ 0x00 ∷ 0x01 ∷ 0xD5 ∷ []) ≡ refused 11 65535 4)
+    × (elementCall 1 0 2 (0x02 ∷ []) ≡ refused 12 65535 0)
+    × (elementCall 1 0 10 (0x03 ∷ []) ≡ refused 5 65535 255)
+    × (elementCall 1 0 2 (0x00 ∷ 0x03 ∷ []) ≡ refused 8 65535 255)
+    × (elementCall 1 0 2 (0x00 ∷ 0x09 ∷ []) ≡ refused 8 65535 255)
+    × (elementCall 1 0 2 [] ≡ refused 8 65535 255)
+    × (elementCall 1 0 2 (0x09 ∷ []) ≡ refused 10 65535 3)
+    × (elementCall 1 1 2 (0x03 ∷ []) ≡ refused 3 65535 255)
+    × (elementCall 0 0 2 (0x03 ∷ []) ≡ refused 3 65535 255)
+    × (elementCall 1 1 10 [] ≡ refused 3 65535 255)
+unfolding table layouts carried kindOf datRule elementCheck catalogueGood element elementCall
+elements = (refl, refl, refl, refl, refl, refl, refl, refl, refl, refl, refl, refl)

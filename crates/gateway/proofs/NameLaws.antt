@@ -11,6 +11,7 @@ use Rattle.kinds.specs.Kinds.{widthOf}
 use Rattle.kinds.specs.declared.Kind.{Kind}
 use Rattle.elements.specs.Elements.{carried, kindOf}
 use Rattle.elements.proofs.Findings.{Refuses}
+use Rattle.history.specs.Table.{catalogueGood}
 use Rattle.history.specs.Image.{element}
 use Rattle.history.proofs.ElementLaws.{refuses-as}
 use Rattle.history.proofs.NameLaws.{oneOf, Named, accepts, refuses, named-unless, named-of}
@@ -18,20 +19,21 @@ use Rattle.history.proofs.CodeLaws.{IsCode, Coded, one-of, field-code, coded-by
 use Rattle.gateway.specs.Calls.{elementCall}
 
 pub data NamesAlone (k : Kind) : (code object bit : ℕ) → Type 0 where
-  nothing : {code : ℕ} → oneOf (5 ∷ 8 ∷ []) code ≡ true → NamesAlone k code 65535 255
+  nothing : {code : ℕ} → oneOf (3 ∷ 5 ∷ 8 ∷ []) code ≡ true → NamesAlone k code 65535 255
   its-field : {code bit : ℕ} → Refuses k code bit → NamesAlone k code 65535 bit
 
 code-of : {k : Kind} {code object bit : ℕ} → NamesAlone k code object bit → IsCode code
-code-of (nothing h) = one-of (5 ∷ 8 ∷ []) _ refl h
+code-of (nothing h) = one-of (3 ∷ 5 ∷ 8 ∷ []) _ refl h
 code-of (its-field r) = field-code r
 
-module _ (type : ℕ) (b : List ℕ) where
-  pub element-call-named : Named (NamesAlone (kindOf 1 type)) (elementCall type b)
+module _ (x y type : ℕ) (b : List ℕ) where
+  pub element-call-named : Named (NamesAlone (kindOf x type)) (elementCall x y type b)
   unfolding elementCall
   element-call-named =
-      named-unless (carried 1 type) _ _ (λ f. refuses (nothing refl)) λ t.
-      named-unless (eqb (length b) (widthOf (kindOf 1 type))) _ _ (λ f. refuses (nothing refl)) λ t.
-      named-of (element (kindOf 1 type) (number b)) 65535 _ (λ x q. its-field (refuses-as (kindOf 1 type) (number b) q)) accepts
+      named-unless (catalogueGood x y) _ _ (λ f. refuses (nothing refl)) λ t.
+      named-unless (carried x type) _ _ (λ f. refuses (nothing refl)) λ t.
+      named-unless (eqb (length b) (widthOf (kindOf x type))) _ _ (λ f. refuses (nothing refl)) λ t.
+      named-of (element (kindOf x type) (number b)) 65535 _ (λ r q. its-field (refuses-as (kindOf x type) (number b) q)) accepts
 
-  pub element-call-coded : Coded (elementCall type b)
+  pub element-call-coded : Coded (elementCall x y type b)
   element-call-coded = coded-by (λ code object bit. code-of) element-call-named

@@ -34,8 +34,8 @@ Receives T A L out tallies a m k =
     (a ≡ answerSlots (answerOf T A L out)) × ((m ≡ outputOf T A L out) × (k ≡ talliesOf (standingOf T A L out (standingIn tallies))))
 
 module _ {a a′ : List ℕ} where
-  pub one-check-element : (type : ℕ) (b : List ℕ) → Fills (elementCall type b) a → Fills (elementCall type b) a′ → a ≡ a′
-  one-check-element type b = one-outcome
+  pub one-check-element : (x y type : ℕ) (b : List ℕ) → Fills (elementCall x y type b) a → Fills (elementCall x y type b) a′ → a ≡ a′
+  one-check-element x y type b = one-outcome
 
   pub one-check-table : (T : List ℕ) → Fills (tableCall T) a → Fills (tableCall T) a′ → a ≡ a′
   one-check-table T = one-outcome

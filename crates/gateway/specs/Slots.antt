@@ -1,5 +1,5 @@
--- Eight numbers of a call: code, object, bit, length, then what the call adds, then zeros; the fields of a
--- state that is read; and a standing by its tallies.
+-- Eight numbers of a call: code, object, bit, length, a place for a value, which is 0 for now, then what the call adds, then zeros; the
+-- fields of a state that is read; and a standing by its tallies.
 use Prim.Native.Nat.{ℕ}
 use mathlib.Core.List.{List, [], _∷_}
 use lib.ListN.{getD}
@@ -12,12 +12,12 @@ use Rattle.fields.specs.declared.Plain.{Plain}
 use Rattle.fields.specs.Fields.{fieldsOf}
 
 abbrev pub slots : Answer → ℕ → ℕ → List ℕ
-slots a fifth sixth = a .code ∷ a .object ∷ a .bit ∷ a .length ∷ fifth ∷ sixth ∷ 0 ∷ 0 ∷ []
+slots a sixth seventh = a .code ∷ a .object ∷ a .bit ∷ a .length ∷ 0 ∷ sixth ∷ seventh ∷ 0 ∷ []
 
 unfoldable pub answerSlots : Answer → List ℕ
 answerSlots a = slots a 0 0
 
--- the fifth is the state's kind
+-- the sixth is the state's kind
 unfoldable pub readSlots : Plain → List ℕ
 readSlots r = slots (r .answer) (r .kind) 0
 
@@ -26,7 +26,7 @@ unfoldable pub fieldsAfter : Verdict Element → List ℕ → List ℕ
 fieldsAfter (refused code object bit) fields = fields
 fieldsAfter (done state) fields = fieldsOf state .fields
 
--- the fifth and the sixth are the label's first byte in the table and its size
+-- the sixth and the seventh are the label's first byte in the table and its size
 unfoldable pub labelSlots : LabelAt → List ℕ
 labelSlots l = slots (l .answer) (l .offset) (l .size)
 

@@ -2,20 +2,24 @@
 use history::Answer;
 use rows::Finding;
 use tables::accepted;
+use tables::is_catalogue;
 use tables::refused;
 use tables::refused_bit;
 ghost use mathlib.Core.Path.{_≡_};
 ghost use Rattle.history.specs.Verdict.{told};
 ghost use Rattle.gateway.specs.Calls.{elementCall};
 
-// An element of a type, by itself.
-pub fn check_element(ty: u8, element: &[u8]) -> Answer
-    ensures { λ r. ⌜ r ≡ told (elementCall ty (now (element .entry))) ⌝ }
+// An element of a type under a catalogue, by itself.
+pub fn check_element(x: u8, y: u8, ty: u8, element: &[u8]) -> Answer
+    ensures { λ r. ⌜ r ≡ told (elementCall x y ty (now (element .entry))) ⌝ }
 {
-    if !elements::is_carried(1, ty) {
+    if !is_catalogue(x, y) {
+        return refused(3);
+    }
+    if !elements::is_carried(x, ty) {
         return refused(5);
     }
-    let kind = elements::kind_of(1, ty);
+    let kind = elements::kind_of(x, ty);
     if element.len() != elements::width(kind) {
         return refused(8);
     }

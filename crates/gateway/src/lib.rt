@@ -1,5 +1,6 @@
 // The gateway: the calls as C sees them. Each exported function checks its input itself through the call that it is thin over, and
-// fills eight numbers: code, object, bit, length, then what the call adds, then zeros. It keeps nothing of its own.
+// fills eight numbers: code, object, bit, length, a place kept for a value, then what the call adds, then zeros. It keeps nothing of
+// its own.
 mod calls;
 mod slots;
 
@@ -31,10 +32,16 @@ ghost use Rattle.gateway.specs.Calls.{elementCall};
 // ---- checks
 
 #[no_mangle]
-pub extern "C" fn shefumbari_check_element(ty: u8, element: &[u8], answer: &mut [u32; 8])
-    ensures { λ _. ⌜ now (answer .exit) ≡ answerSlots (told (elementCall ty (now (element .entry)))) ⌝ }
+pub extern "C" fn shefumbari_check_element(
+    x: u8,
+    y: u8,
+    ty: u8,
+    element: &[u8],
+    answer: &mut [u32; 8],
+)
+    ensures { λ _. ⌜ now (answer .exit) ≡ answerSlots (told (elementCall x y ty (now (element .entry)))) ⌝ }
 {
-    *answer = answer_slots(check_element(ty, element));
+    *answer = answer_slots(check_element(x, y, ty, element));
 }
 
 #[no_mangle]
@@ -60,7 +67,7 @@ pub extern "C" fn shefumbari_check_list(table: &[u8], list: &[u8], answer: &mut 
 
 // ---- states and labels
 
-// The values that are not reserved, from bit 0 up; the kind is the fifth number. A refusal leaves the fields.
+// The values that are not reserved, from bit 0 up; the kind is the sixth number. A refusal leaves the fields.
 #[no_mangle]
 pub extern "C" fn shefumbari_read_state(
     table: &[u8],
@@ -97,7 +104,7 @@ pub extern "C" fn shefumbari_write_state(
     *answer = answer_slots(write_fields(table, image, object, kind, *fields, position, out));
 }
 
-// The label's first byte in the table and its size are the fifth and the sixth number.
+// The label's first byte in the table and its size are the sixth and the seventh number.
 #[no_mangle]
 pub extern "C" fn shefumbari_label(table: &[u8], object: u16, answer: &mut [u32; 8])
     ensures { λ _. ⌜ now (answer .exit) ≡ labelSlots (labelTold (labelCall (now (table .entry)) object)) ⌝ }

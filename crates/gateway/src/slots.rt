@@ -30,18 +30,18 @@ pub fn label_slots(table: &[u8], object: u16) -> [u32; 8]
     slots(found.answer, found.offset as u32, found.size as u32)
 }
 
-// Four numbers of an answer, two more, and zeros.
-fn slots(answer: Answer, fifth: u32, sixth: u32) -> [u32; 8]
-    ensures { λ r. ⌜ r ≡ slots answer fifth sixth ⌝ }
+// Four numbers of an answer, a place kept for a value, two numbers more, and a zero.
+fn slots(answer: Answer, sixth: u32, seventh: u32) -> [u32; 8]
+    ensures { λ r. ⌜ r ≡ slots answer sixth seventh ⌝ }
 {
     [
         answer.code as u32,
         answer.object as u32,
         answer.bit as u32,
         answer.length,
-        fifth,
-        sixth,
         0,
+        sixth,
+        seventh,
         0,
     ]
 }
