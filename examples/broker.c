@@ -5,7 +5,7 @@
 #include <inttypes.h>
 #include <stdio.h>
 
-enum { CODE, OBJECT, BIT, LENGTH, KIND };
+enum { CODE, OBJECT, BIT, LENGTH, KIND = 5 };
 
 static const uint8_t table[] = {0x00, 0x00, 0x00, 0x14, 0x01, 0x01, 0x00, 0x00, 0x02, 0x04, 0x06, 0x41,
                                 0x41, 0x3A, 0x43, 0x56, 0x31, 0x02, 0x05, 0x41, 0x41, 0x3A, 0x53, 0x31};
@@ -55,6 +55,8 @@ int main(void)
     for (size_t i = 0; i < image_len; i++)
         panel[panel_len++] = image[i];
     shefumbari_listing(panel, panel_len, text, sizeof text, answer);
+    if (answer[CODE] != 0)
+        return 1;
     fwrite(text, 1, answer[LENGTH], stdout);
-    return answer[CODE] != 0;
+    return 0;
 }

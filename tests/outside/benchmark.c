@@ -93,7 +93,7 @@ int main(int argc, char **argv)
         const uint8_t *element = pool_element((uint8_t)objects);
         others = width_of_type((uint8_t)objects);
         while (repeats-- > 0)
-            face->check_element((uint8_t)objects, element, others, answer);
+            face->check_element(1, 0, (uint8_t)objects, element, others, answer);
         printf("0 %zu\n", others);
         return 0;
     }
@@ -123,7 +123,7 @@ int main(int argc, char **argv)
     memcpy(data.bytes + table.len, a.bytes, a.len);
     data.len = table.len + a.len;
     reference.read_state(t, table.len, b.bytes, b.len, last, fields, answer);
-    uint32_t kind = answer[4];
+    uint32_t kind = answer[5];
 
     if (strcmp(call, "check_table") == 0) {
         while (repeats-- > 0)

@@ -147,6 +147,8 @@ static void choose_element(struct request *request)
     if (once_in(8))
         element.len = draw(6);
     request->type = once_in(8) ? (uint8_t)draw(256) : type;
+    request->x = once_in(8) ? (uint8_t)draw(once_in(2) ? 5 : 256) : 1;
+    request->y = once_in(8) ? (uint8_t)draw(once_in(2) ? 5 : 256) : 0;
     request->table = &element;
 }
 
@@ -305,9 +307,9 @@ static unsigned long sweep_elements(void)
                 memcpy(bytes, pool_element(carried[i]), width);
             for (uint32_t flips = width > 2 ? draw(4) : 0; flips > 0; flips--)
                 flip_bit(bytes, width);
-            reference.check_element(carried[i], bytes, width, expected);
-            library.check_element(carried[i], bytes, width, found);
-            handmade.check_element(carried[i], bytes, width, made);
+            reference.check_element(1, 0, carried[i], bytes, width, expected);
+            library.check_element(1, 0, carried[i], bytes, width, found);
+            handmade.check_element(1, 0, carried[i], bytes, width, made);
             differing += memcmp(expected, found, sizeof expected) != 0 || memcmp(expected, made, sizeof expected) != 0;
         }
     }

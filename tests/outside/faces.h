@@ -7,7 +7,7 @@
 
 struct face {
     const char *name;
-    void (*check_element)(uint8_t, const uint8_t *, size_t, uint32_t *);
+    void (*check_element)(uint8_t, uint8_t, uint8_t, const uint8_t *, size_t, uint32_t *);
     void (*check_table)(const uint8_t *, size_t, uint32_t *);
     void (*check_image)(const uint8_t *, size_t, const uint8_t *, size_t, uint32_t *);
     void (*check_list)(const uint8_t *, size_t, const uint8_t *, size_t, uint32_t *);

@@ -114,7 +114,7 @@ void fill_pool(void)
             uint32_t answer[8];
             do {
                 put_number(pool[type][i], widths[type], (uint32_t)next() | (carried[type] != 22)); /* DAT */
-                reference.check_element(carried[type], pool[type][i], widths[type], answer);
+                reference.check_element(1, 0, carried[type], pool[type][i], widths[type], answer);
             } while (answer[0] != 0);
             fill_fields(type, i);
         }

@@ -89,9 +89,11 @@ static bool admitted(uint64_t word, const struct kind *kind)
     return (carry & kind->carries) == 0 && ((word & 1) != 0 || (word & kind->silent) == 0);
 }
 
-static bool refused_element(uint8_t type, const uint8_t *element, uint32_t object, uint32_t *answer)
+/* Under a catalogue, by its two bytes. */
+static bool refused_element(const uint8_t *catalogue, uint8_t type, const uint8_t *element, uint32_t object,
+                            uint32_t *answer)
 {
-    reference_check_element(type, element, kinds[type].width, answer);
+    reference_check_element(catalogue[0], catalogue[1], type, element, kinds[type].width, answer);
     answer[1] = object;
     return false;
 }
@@ -181,7 +183,7 @@ static bool check_table(const uint8_t *bytes, size_t len, struct table *table, u
 {
     if (!check_head(bytes, len, TABLE_LEAST, answer))
         return false;
-    if (bytes[CATALOGUE] != 1 || bytes[CATALOGUE + 1] != 0)
+    if (!carries(bytes[CATALOGUE], bytes[CATALOGUE + 1]))
         return refused(answer, 3);
     uint32_t count = number2(bytes + TABLE_COUNT);
     if (count > OBJECTS_MOST)
@@ -235,7 +237,7 @@ static bool check_image(const struct table *table, const uint8_t *image, size_t 
     for (uint32_t object = 0; object < table->count; object++) {
         const struct kind *kind = kind_of(table, object);
         if (!admitted(word_of(element, kind), kind))
-            return refused_element(table->types[object], element, object, answer);
+            return refused_element(table->bytes + CATALOGUE, table->types[object], element, object, answer);
         element += kind->width;
     }
     return true;
@@ -264,9 +266,9 @@ static bool check_list(const struct table *table, const uint8_t *list, size_t le
         uint32_t old = word_of(list + at, kind);
         uint32_t new = word_of(list + at + width, kind);
         if (!admitted(old, kind))
-            return refused_element(table->types[object], list + at, object, answer);
+            return refused_element(table->bytes + CATALOGUE, table->types[object], list + at, object, answer);
         if (!admitted(new, kind))
-            return refused_element(table->types[object], list + at + width, object, answer);
+            return refused_element(table->bytes + CATALOGUE, table->types[object], list + at + width, object, answer);
         if (old == new)
             return refused_object(answer, 15, object);
         least = object + 1;
@@ -279,10 +281,16 @@ static bool check_list(const struct table *table, const uint8_t *list, size_t le
 
 /* The calls: checks */
 
-void handmade_check_element(uint8_t type, const uint8_t *element, size_t element_len, uint32_t answer[8])
+void handmade_check_element(uint8_t x, uint8_t y, uint8_t type, const uint8_t *element, size_t element_len,
+                            uint32_t answer[8])
 {
     const struct kind *kind = &kinds[type];
+    const uint8_t catalogue[] = {x, y};
     uint32_t word = 0;
+    if (!carries(x, y)) {
+        refused(answer, 3);
+        return;
+    }
     if (kind->width == 0) {
         refused(answer, 5);
         return;
@@ -296,7 +304,7 @@ void handmade_check_element(uint8_t type, const uint8_t *element, size_t element
     if (admitted(word, kind))
         succeed(answer, 0);
     else
-        refused_element(type, element, NO_OBJECT, answer);
+        refused_element(catalogue, type, element, NO_OBJECT, answer);
 }
 
 void handmade_check_table(const uint8_t *table, size_t table_len, uint32_t answer[8])
@@ -328,7 +336,6 @@ void handmade_read_state(const uint8_t *table, size_t table_len, const uint8_t *
                          uint16_t object, uint32_t fields[32], uint32_t answer[8])
 {
     struct table t;
-    memset(fields, 0, 32 * sizeof *fields);
     if (!check_table(table, table_len, &t, answer) || !check_image(&t, image, image_len, answer))
         return;
     if (object >= t.count) {
@@ -337,11 +344,12 @@ void handmade_read_state(const uint8_t *table, size_t table_len, const uint8_t *
     }
     const struct layout *layout = &layouts[t.types[object]];
     uint32_t word = word_of(image + IMAGE_ELEMENTS + t.starts[object], kind_of(&t, object));
+    memset(fields, 0, 32 * sizeof *fields);
     for (const struct row *row = rows + layout->first; row < rows + layout->end; row++)
         if (row->top != 0)
             *fields++ = word >> row->low & ((1u << row->width) - 1);
     succeed(answer, 0);
-    answer[4] = t.types[object];
+    answer[5] = t.types[object];
 }
 
 /* The element of a state handed in, where it is admitted. */
@@ -398,8 +406,8 @@ void handmade_label(const uint8_t *table, size_t table_len, uint16_t object, uin
     for (uint32_t i = 0; i < object; i++)
         at += 2 + table[at + 1];
     succeed(answer, 0);
-    answer[4] = (uint32_t)at + 2;
-    answer[5] = table[at + 1];
+    answer[5] = (uint32_t)at + 2;
+    answer[6] = table[at + 1];
 }
 
 /* The calls: change lists */
@@ -614,17 +622,6 @@ static uint8_t *put_listing(uint8_t *to, const struct table *table, const uint8_
     return to;
 }
 
-static uint8_t *put_refusal(uint8_t *to, const uint32_t *refusal)
-{
-    to = put_bytes(to, "refused", 7);
-    for (size_t i = 0; i < 3; i++) {
-        *to++ = ' ';
-        to = put_decimal(to, refusal[i]);
-    }
-    *to++ = '\n';
-    return to;
-}
-
 /* The data split by the table's own length, and both forms checked. */
 static bool check_data(const uint8_t *data, size_t len, struct table *table, const uint8_t **image, uint32_t *answer)
 {
@@ -639,10 +636,10 @@ void handmade_listing(const uint8_t *data, size_t data_len, uint8_t *out, size_t
 {
     struct table t;
     const uint8_t *image;
-    uint32_t refusal[8];
     uint8_t made[TEXT_MOST];
     uint8_t *text = out_len < TEXT_MOST ? made : out;
-    bool accepted = check_data(data, data_len, &t, &image, refusal);
-    uint8_t *end = accepted ? put_listing(text, &t, image) : put_refusal(text, refusal);
+    if (!check_data(data, data_len, &t, &image, answer))
+        return;
+    uint8_t *end = put_listing(text, &t, image);
     hand_over(text, (size_t)(end - text), out, out_len, answer);
 }

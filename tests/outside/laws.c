@@ -99,7 +99,7 @@ static void hold_states(const struct form *image, uint16_t object)
                             .table = under,
                             .first = image,
                             .object = object,
-                            .kind = outcome.answer[4],
+                            .kind = outcome.answer[5],
                             .position = number(image->bytes + 7, 4),
                             .room = image->len};
     memcpy(write.fields, outcome.fields, sizeof write.fields);
@@ -118,12 +118,12 @@ static void hold_states(const struct form *image, uint16_t object)
 
     read.first = &written;
     outcome = perform(&library, &read);
-    hold(outcome.answer[0] == 0 && outcome.answer[4] == type && memcmp(outcome.fields, write.fields, 128) == 0,
+    hold(outcome.answer[0] == 0 && outcome.answer[5] == type && memcmp(outcome.fields, write.fields, 128) == 0,
          "a state that is written is read");
 
     struct request label = {.call = LABEL, .table = under, .object = object};
     outcome = perform(&library, &label);
-    hold(outcome.answer[0] == 0 && outcome.answer[4] == entry + 2 && outcome.answer[5] == under->bytes[entry + 1],
+    hold(outcome.answer[0] == 0 && outcome.answer[5] == entry + 2 && outcome.answer[6] == under->bytes[entry + 1],
          "a label is the object's own bytes in the table");
 }
 

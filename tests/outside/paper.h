@@ -44,6 +44,12 @@ struct layout {
 
 extern const struct layout layouts[256];
 
+/* The catalogue versions that are carried */
+static inline bool carries(uint8_t x, uint8_t y)
+{
+    return x == 1 && y == 0;
+}
+
 /* Answers */
 
 static inline void give(uint32_t *answer, uint32_t code, uint32_t object, uint32_t bit, size_t length)

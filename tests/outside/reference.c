@@ -158,7 +158,7 @@ static bool check_table(const uint8_t *bytes, size_t len, struct table *table, u
 {
     if (!check_head(bytes, len, TABLE_LEAST, answer))
         return false;
-    if (bytes[CATALOGUE] != 1 || bytes[CATALOGUE + 1] != 0)
+    if (!carries(bytes[CATALOGUE], bytes[CATALOGUE + 1]))
         return refused(answer, 3);
     uint32_t count = number(bytes + TABLE_COUNT, 2);
     if (count > OBJECTS_MOST)
@@ -301,9 +301,12 @@ static void finish_list(const struct draft *draft, const struct table *table, ui
 
 /* The calls: checks */
 
-void reference_check_element(uint8_t type, const uint8_t *element, size_t element_len, uint32_t answer[8])
+void reference_check_element(uint8_t x, uint8_t y, uint8_t type, const uint8_t *element, size_t element_len,
+                             uint32_t answer[8])
 {
-    if (layouts[type].width == 0)
+    if (!carries(x, y))
+        refused(answer, 3);
+    else if (layouts[type].width == 0)
         refused(answer, 5);
     else if (element_len != layouts[type].width)
         refused(answer, 8);
@@ -340,7 +343,6 @@ void reference_read_state(const uint8_t *table, size_t table_len, const uint8_t 
                           uint16_t object, uint32_t fields[32], uint32_t answer[8])
 {
     struct table t;
-    memset(fields, 0, 32 * sizeof *fields);
     if (!check_table(table, table_len, &t, answer) || !check_image(&t, image, image_len, answer))
         return;
     if (object >= t.count) {
@@ -349,11 +351,12 @@ void reference_read_state(const uint8_t *table, size_t table_len, const uint8_t 
     }
     const struct layout *layout = &layouts[t.types[object]];
     uint32_t word = number(image + IMAGE_ELEMENTS + t.starts[object], layout->width);
+    memset(fields, 0, 32 * sizeof *fields);
     for (size_t i = layout->first; i < layout->end; i++)
         if (rows[i].top != 0)
             *fields++ = word >> rows[i].low & ((1u << rows[i].width) - 1);
     succeed(answer, 0);
-    answer[4] = t.types[object];
+    answer[5] = t.types[object];
 }
 
 /* The element of a state handed in, where it is admitted. */
@@ -409,8 +412,8 @@ void reference_label(const uint8_t *table, size_t table_len, uint16_t object, ui
     for (uint32_t i = 0; i < object; i++)
         at += 2 + table[at + 1];
     succeed(answer, 0);
-    answer[4] = (uint32_t)at + 2;
-    answer[5] = table[at + 1];
+    answer[5] = (uint32_t)at + 2;
+    answer[6] = table[at + 1];
 }
 
 /* The calls: change lists */
@@ -632,21 +635,6 @@ static void put_listing(uint8_t *to, const struct table *table, const uint8_t *i
     }
 }
 
-static size_t refusal_len(const uint32_t *refusal)
-{
-    return sizeof "refused" + digits(refusal[0]) + 1 + digits(refusal[1]) + 1 + digits(refusal[2]) + 1;
-}
-
-static void put_refusal(uint8_t *to, const uint32_t *refusal)
-{
-    to = put_bytes(to, "refused", 7);
-    for (size_t i = 0; i < 3; i++) {
-        to = put_byte(to, ' ');
-        to = put_decimal(to, refusal[i]);
-    }
-    put_byte(to, '\n');
-}
-
 /* The data split by the table's own length, and both forms checked. */
 static bool check_data(const uint8_t *data, size_t len, struct table *table, const uint8_t **image, uint32_t *answer)
 {
@@ -661,14 +649,11 @@ void reference_listing(const uint8_t *data, size_t data_len, uint8_t *out, size_
 {
     struct table t;
     const uint8_t *image;
-    uint32_t refusal[8];
-    bool accepted = check_data(data, data_len, &t, &image, refusal);
-    size_t len = accepted ? listing_len(&t, number(image + IMAGE_POSITION, 4)) : refusal_len(refusal);
+    if (!check_data(data, data_len, &t, &image, answer))
+        return;
+    size_t len = listing_len(&t, number(image + IMAGE_POSITION, 4));
     if (!room(out_len, len, answer))
         return;
-    if (accepted)
-        put_listing(out, &t, image);
-    else
-        put_refusal(out, refusal);
+    put_listing(out, &t, image);
     succeed(answer, len);
 }

@@ -18,9 +18,9 @@ const char *const call_names[CALLS] = {"check_element", "check_table", "check_im
                                        "write_state",   "label",       "difference",  "apply",      "join",
                                        "turn_back",     "receive",     "listing"};
 
-/* The codes that each call can give; of listing, those in its refusal lines. */
+/* The codes that each call can give. */
 static const uint32_t codes[CALLS] = {
-    [CHECK_ELEMENT] = CODE(0) | CODE(5) | CODE(8) | CODE(10) | CODE(11) | CODE(12),
+    [CHECK_ELEMENT] = CODE(0) | CODE(3) | CODE(5) | CODE(8) | CODE(10) | CODE(11) | CODE(12),
     [CHECK_TABLE] = UP_TO(8),
     [CHECK_IMAGE] = UP_TO(12),
     [CHECK_LIST] = UP_TO(15),
@@ -108,8 +108,8 @@ static void fail(const struct request *request, const char *what)
     print_form("table", request->table);
     print_form("first", request->first);
     print_form("second", request->second);
-    printf(" type=%u number=%u kind=%" PRIu32 " position=%" PRIu32 " room=%zu\n", request->type, request->object,
-           request->kind, request->position, request->room);
+    printf(" catalogue=%u.%u type=%u number=%u kind=%" PRIu32 " position=%" PRIu32 " room=%zu\n", request->x,
+           request->y, request->type, request->object, request->kind, request->position, request->room);
 }
 
 void hold(bool law, const char *name)
@@ -142,14 +142,14 @@ static void call_face(const struct face *face, const struct request *r, struct b
     uint32_t *fields = (uint32_t *)(void *)lend_copy(&b->fields, r->fields, 128);
     uint32_t *standing = (uint32_t *)(void *)lend_copy(&b->standing, r->standing, 16);
     memset(answer, b->answer.guard, 32);
-    if (r->call == READ_STATE)
-        memset(fields, b->fields.guard, 128);
+    for (size_t i = 0; i < 128 && r->call == READ_STATE; i++)
+        b->fields.bytes[i] = before_call(i);
     for (size_t i = 0; i < room; i++)
         out[i] = before_call(i);
     running.face = face;
     running.call = r->call;
     switch (r->call) {
-    case CHECK_ELEMENT: face->check_element(r->type, table, table_len, answer); break;
+    case CHECK_ELEMENT: face->check_element(r->x, r->y, r->type, table, table_len, answer); break;
     case CHECK_TABLE: face->check_table(table, table_len, answer); break;
     case CHECK_IMAGE: face->check_image(table, table_len, first, first_len, answer); break;
     case CHECK_LIST: face->check_list(table, table_len, first, first_len, answer); break;
@@ -190,16 +190,12 @@ struct outcome perform(const struct face *face, const struct request *request)
             fail(request, "the output is changed behind its front");
             break;
         }
+    for (size_t i = 0; i < 128 && request->call == READ_STATE && outcome.answer[0] != 0; i++)
+        if (b->fields.bytes[i] != before_call(i)) {
+            fail(request, "a refused read changes the fields");
+            break;
+        }
     return outcome;
-}
-
-/* A listing's code is that of its refusal line. */
-static uint32_t code_of(const struct request *request, const struct outcome *outcome)
-{
-    uint32_t code = outcome->answer[0];
-    if (request->call == LISTING && code == 0 && outcome->out[0] == 'r')
-        code = (uint32_t)strtoul((const char *)outcome->out + sizeof "refused", NULL, 10);
-    return code;
 }
 
 /* Runs a request on a face and holds what it leaves to what the reference left. */
@@ -226,7 +222,7 @@ struct outcome compare(const struct request *request)
     unsigned long before = failed;
     struct outcome expected = perform(&reference, request);
     compared++;
-    uint32_t code = code_of(request, &expected);
+    uint32_t code = expected.answer[0];
     if (code < CODES)
         counts[request->call][code]++;
     compare_face(&library, request, &expected);

@@ -26,7 +26,7 @@ enum call {
 struct request {
     enum call call;
     const struct form *table, *first, *second;
-    uint8_t type;
+    uint8_t x, y, type;
     uint16_t object;
     uint32_t kind, position, fields[32], standing[4];
     size_t room;

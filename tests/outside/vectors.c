@@ -1,7 +1,8 @@
 /* Runs the requests of a vectors file against a face: vectors library|handmade|reference FILE.
    A line is: CALL name=value .. > CODE OBJECT BIT LENGTH name=value .., inputs on the left, outputs on the right.
    Bytes are lower-case hex, - where empty; a lent output stands whole, at entry on the left and at exit on the right. A
-   state is TYPE:v,v,.. or none, a standing applied,late,gap,other. A listing's numbers are those of its refusal. */
+   state is TYPE:v,v,.. or none, a standing applied,late,gap,other. An element's catalogue is 1.0 where none is named. A
+   listing's text is what the program prints: of a refusal the line that is made from its numbers. */
 #include "faces.h"
 
 #include <inttypes.h>
@@ -36,14 +37,22 @@ static void malformed(const char *what)
 
 /* Values by name */
 
-static const char *text_of(const struct side *side, const char *name)
+/* NULL where there is none. */
+static const char *text_if_any(const struct side *side, const char *name)
 {
     size_t len = strlen(name);
     for (size_t i = 0; i < side->count; i++)
         if (strncmp(side->words[i], name, len) == 0 && side->words[i][len] == '=')
             return side->words[i] + len + 1;
-    malformed(name);
     return NULL;
+}
+
+static const char *text_of(const struct side *side, const char *name)
+{
+    const char *text = text_if_any(side, name);
+    if (text == NULL)
+        malformed(name);
+    return text;
 }
 
 static uint32_t number_of(const struct side *side, const char *name)
@@ -150,37 +159,62 @@ static void run_label(const struct face *face, const struct side *in, const stru
     struct lent label = bytes_of(out, "label");
     memset(answer, 0xFF, sizeof answer);
     face->label(table.bytes, table.len, (uint16_t)number_of(in, "number"), answer);
-    expected[4] = number_of(out, "offset");
-    expected[5] = (uint32_t)label.len;
+    expected[5] = number_of(out, "offset");
+    expected[6] = (uint32_t)label.len;
     hold_numbers(answer, expected, 8, "answer");
-    if (line_good && memcmp(table.bytes + answer[4], label.bytes, label.len) != 0)
+    if (line_good && memcmp(table.bytes + answer[5], label.bytes, label.len) != 0)
         differs("label");
     free(label.whole);
     hold(table, bytes_of(in, "table"), "table");
 }
 
-/* The text with room to spare, with none, one byte short and into nothing. */
-static void run_listing(const struct face *face, const struct side *in, const struct side *out)
+/* What the program prints is the text, or the line of these numbers. */
+static void hold_printed(const struct lent *text, const uint32_t *numbers)
+{
+    char line[64];
+    size_t len = (size_t)snprintf(line, sizeof line, "refused %" PRIu32 " %" PRIu32 " %" PRIu32 "\n", numbers[0],
+                                  numbers[1], numbers[2]);
+    if (numbers[0] == 0 ? numbers[3] != text->len : len != text->len || memcmp(line, text->bytes, len) != 0)
+        differs("text and numbers of the line");
+}
+
+/* The text with room to spare, with none, one byte short and into nothing; a refusal is the same in each. */
+static void run_listing(const struct face *face, const struct side *in, const struct side *out, const uint32_t *numbers)
 {
     struct lent text = bytes_of(out, "text");
     const size_t rooms[] = {text.len + 3, text.len, text.len - 1, 0};
+    hold_printed(&text, numbers);
     for (size_t i = 0; i < sizeof rooms / sizeof *rooms; i++) {
-        uint32_t answer[8];
-        uint32_t expected[8] = {0, 65535, 255, (uint32_t)text.len, 0, 0, 0, 0};
+        uint32_t answer[8], expected[8];
         struct lent data = bytes_of(in, "data");
         struct lent written = lend(rooms[i]);
         struct lent expected_text = lend(rooms[i]);
         memset(answer, 0xFF, sizeof answer);
+        memcpy(expected, numbers, sizeof expected);
         face->listing(data.bytes, data.len, written.bytes, written.len, answer);
-        if (rooms[i] < text.len)
+        if (numbers[0] == 0 && rooms[i] < text.len)
             expected[0] = 21;
-        else
+        else if (numbers[0] == 0)
             memcpy(expected_text.bytes, text.bytes, text.len);
         hold_numbers(answer, expected, 8, "answer");
         hold(written, expected_text, "text");
         hold(data, bytes_of(in, "data"), "data");
     }
     free(text.whole);
+}
+
+static void run_element(const struct face *face, const struct side *in, const uint32_t *expected)
+{
+    uint32_t answer[8];
+    unsigned x = 1, y = 0;
+    struct lent word = bytes_of(in, "word");
+    const char *catalogue = text_if_any(in, "catalogue");
+    if (catalogue != NULL && sscanf(catalogue, "%u.%u", &x, &y) != 2)
+        malformed("catalogue");
+    memset(answer, 0xFF, sizeof answer);
+    face->check_element((uint8_t)x, (uint8_t)y, (uint8_t)number_of(in, "type"), word.bytes, word.len, answer);
+    hold(word, bytes_of(in, "word"), "word");
+    hold_numbers(answer, expected, 8, "answer");
 }
 
 static void run(const struct face *face, const struct side *in, const struct side *out)
@@ -192,7 +226,7 @@ static void run(const struct face *face, const struct side *in, const struct sid
     for (size_t i = 0; i < 4; i++)
         expected[i] = (uint32_t)strtoul(out->words[i], NULL, 10);
     if (strcmp(call, "listing") == 0) {
-        run_listing(face, in, out);
+        run_listing(face, in, out, expected);
         return;
     }
     if (strcmp(call, "label") == 0) {
@@ -200,16 +234,13 @@ static void run(const struct face *face, const struct side *in, const struct sid
         return;
     }
 
-    memset(answer, 0xFF, sizeof answer);
     if (strcmp(call, "check_element") == 0) {
-        struct lent word = bytes_of(in, "word");
-        face->check_element((uint8_t)number_of(in, "type"), word.bytes, word.len, answer);
-        hold(word, bytes_of(in, "word"), "word");
-        hold_numbers(answer, expected, 8, "answer");
+        run_element(face, in, expected);
         return;
     }
 
     /* the others take a table and one or two forms more */
+    memset(answer, 0xFF, sizeof answer);
     static const struct {
         const char *call, *first, *second;
         bool writes;
@@ -239,8 +270,10 @@ static void run(const struct face *face, const struct side *in, const struct sid
     case 3: {
         const char *state = text_of(out, "state");
         memset(fields, 0xFF, sizeof fields);
-        if (strcmp(state, "none") != 0) {
-            expected[4] = (uint32_t)strtoul(state, NULL, 10);
+        if (strcmp(state, "none") == 0) {
+            memcpy(expected_fields, fields, sizeof fields);
+        } else {
+            expected[5] = (uint32_t)strtoul(state, NULL, 10);
             numbers_in(strchr(state, ':') + 1, expected_fields, 32);
         }
         face->read_state(t, table.len, f, first.len, (uint16_t)number_of(in, "number"), fields, answer);
