@@ -23,7 +23,7 @@ pub data NamesAlone (k : Kind) : (code object bit : ℕ) → Type 0 where
   its-field : {code bit : ℕ} → Refuses k code bit → NamesAlone k code 65535 bit
 
 code-of : {k : Kind} {code object bit : ℕ} → NamesAlone k code object bit → IsCode code
-code-of (nothing h) = one-of (3 ∷ 5 ∷ 8 ∷ []) _ refl h
+code-of (nothing {code} h) = one-of (3 ∷ 5 ∷ 8 ∷ []) code refl h
 code-of (its-field r) = field-code r
 
 module _ (x y type : ℕ) (b : List ℕ) where
