@@ -10,7 +10,6 @@ cases.tsv has a line for each named case of each enum: enum, value, case, meanin
 The names are held to the annex by law files that are kept by hand: proofs/Annex.antt of cases and states is left as it is.
 """
 import os
-import re
 import shutil
 import subprocess
 import sys
@@ -123,12 +122,22 @@ def ties(crate, path):
 
 # ---- rows: the table and the layouts
 
-def rows_source(old):
+def rows_source():
     body = ''
     for l in LAYOUTS:
         for r in l.rows:
             body += f'    {l.number}, {r.low}, {r.width}, {r.top}, // {l.mnemonic} {"reserved" if r.reserved else r.field}\n'
-    return re.sub(r'const ROWS: \[u8; \d+\] = \[\n.*?\];', f'const ROWS: [u8; {4 * TOTAL}] = [\n{body}];', old, flags=re.S)
+    return f'''// Every row of every layout. Written by catalogue/write.py from catalogue/fields.tsv.
+
+// How many rows there are.
+pub const ROW_TOTAL: usize = {TOTAL};
+
+// Their numbers: of each row the layout, the lowest bit, the width and the highest admitted value (0: reserved).
+pub type Cells = [u8; 4 * ROW_TOTAL];
+
+pub const ROWS: Cells = [
+{body}];
+'''
 
 
 def rows_table():
@@ -857,10 +866,10 @@ returns c =
 {spec_end('glance-by', ['(λ c κs. (omega arith, omega arith))', CALL, 'returns'])}'''
 
 
-def files(source):
-    """The files by their path below crates/, from the present text of those that are written in part."""
+def files():
+    """The files by their path below crates/."""
     out = {
-        'rows/src/lib.rt': rows_source(source('rows/src/lib.rt')),
+        'rows/src/catalogue.rt': rows_source(),
         'rows/specs/Table.antt': rows_table(),
         'cases/src/lib.rt': cases_source(),
         'cases/specs/Lib.antt': 'pub mod Cases\n',
@@ -914,11 +923,7 @@ def clear(folder):
 
 
 def write(root):
-    def source(path):
-        with open(os.path.join(root, 'crates', path)) as f:
-            return f.read()
-
-    paths = files(source)
+    paths = files()
     for crate in ('cases', 'states', 'kinds'):
         clear(os.path.join(root, 'crates', crate, 'proofs'))
     for path, text in paths.items():

@@ -1,4 +1,5 @@
 // The rows first, first + 1, .. walked with their values.
+use rows::Cells;
 use rows::Finding;
 use rows::Refusal;
 ghost use mathlib.Core.Path.{_≡_};
@@ -69,14 +70,14 @@ pub fn check_rows(values: [u32; 24], first: usize, count: usize) -> Finding
 }
 
 // The highest value that a row admits (0: it is reserved), and its lowest bit.
-fn highest(rows: &[u8; 428], row: usize) -> u32
+fn highest(rows: &Cells, row: usize) -> u32
     requires { ⌜ (now rows ≡ table) × (row < rowTotal) ⌝ }
     ensures { λ r. ⌜ r ≡ rowAt row .top ⌝ }
 {
     rows::cell(rows, 4 * row + 3) as u32
 }
 
-fn lowest(rows: &[u8; 428], row: usize) -> u8
+fn lowest(rows: &Cells, row: usize) -> u8
     requires { ⌜ (now rows ≡ table) × (row < rowTotal) ⌝ }
     ensures { λ r. ⌜ r ≡ rowAt row .low ⌝ }
 {

@@ -11,7 +11,7 @@ use lib.Dec.{leb, eqb}
 use lib.ListN.{length, getD, set, drop, replicate, length-append}
 use borrow.Author.Tests.{eq-eqb, ne-eqb}
 use lib.Seq.{set-append-seam, append-snoc, drop-cons}
-use Rattle.rows.specs.Table.{Row, rowAt, rowsFrom, numberAt}
+use Rattle.rows.specs.Table.{Row, rowTotal, rowAt, rowsFrom, numberAt}
 use Rattle.rows.specs.Fields.{fieldOf, fieldRead, onField, findingOf, checkRows, valuesOf, composeOf, filled, padded, onFinding, fieldsRead, refusedFields, bearing}
 use Rattle.rows.specs.declared.Fields.{Fields}
 use Rattle.rows.specs.declared.Refusal.{Refusal}
@@ -73,27 +73,27 @@ checked {w} c e = sym (c .to-come ∙ ap (checkRows w) e)
 
 -- the rows that bear a number, with the next in front, or none
 module _ (number i : ℕ) where
-  bears : (b : Bool) → eqb (numberAt i) number ≡ b → i < 107
-      → bearing number i (107 - i) ≡ cond b (rowAt i ∷ bearing number (i + 1) (107 - (i + 1))) []
+  bears : (b : Bool) → eqb (numberAt i) number ≡ b → i < rowTotal
+      → bearing number i (rowTotal - i) ≡ cond b (rowAt i ∷ bearing number (i + 1) (rowTotal - (i + 1))) []
   bears b e h =
-      let n : 107 - i ≡ suc (107 - (i + 1)) = omega arith in
+      let n : rowTotal - i ≡ suc (rowTotal - (i + 1)) = omega arith in
       let i-is : suc i ≡ i + 1 = omega arith in
       ap (bearing number i) n
-      ∙ ap₂ (λ (b : Bool) (j : ℕ). cond b (rowAt i ∷ bearing number j (107 - (i + 1))) []) e i-is
+      ∙ ap₂ (λ (b : Bool) (j : ℕ). cond b (rowAt i ∷ bearing number j (rowTotal - (i + 1))) []) e i-is
 
-  pub bears-next : {n : ℕ} → i < 107 → n ≡ numberAt i → n ≡ number → bearing number i (107 - i) ≡ rowAt i ∷ bearing number (i + 1) (107 - (i + 1))
+  pub bears-next : {n : ℕ} → i < rowTotal → n ≡ numberAt i → n ≡ number → bearing number i (rowTotal - i) ≡ rowAt i ∷ bearing number (i + 1) (rowTotal - (i + 1))
   bears-next h is e = bears true (eq-eqb (numberAt i) number (sym is ∙ e)) h
 
-  pub bears-none : {n : ℕ} → i < 107 → n ≡ numberAt i → (n ≡ number → ⊥) → bearing number i (107 - i) ≡ []
+  pub bears-none : {n : ℕ} → i < rowTotal → n ≡ numberAt i → (n ≡ number → ⊥) → bearing number i (rowTotal - i) ≡ []
   bears-none h is e = bears false (ne-eqb (numberAt i) number (λ z. e (is ∙ z))) h
 
-  pub bears-end : 107 ≤ i → bearing number i (107 - i) ≡ []
+  pub bears-end : rowTotal ≤ i → bearing number i (rowTotal - i) ≡ []
   bears-end h =
-      let z : 107 - i ≡ 0 = omega arith in
+      let z : rowTotal - i ≡ 0 = omega arith in
       ap (bearing number i) z
 
   -- the next row's field is refused
-  pub stops : {w n : ℕ} {all : List Row} {f : Field} {x : Refusal} → Checking w all (bearing number i (107 - i)) → i < 107 → n ≡ numberAt i → n ≡ number
+  pub stops : {w n : ℕ} {all : List Row} {f : Field} {x : Refusal} → Checking w all (bearing number i (rowTotal - i)) → i < rowTotal → n ≡ numberAt i → n ≡ number
       → f ≡ fieldRead w (rowAt i) → f ≡ Field.Refused x → findingOf f ≡ checkRows w all
   stops c h is e q t = ap findingOf t ∙ sym (next c (bears-next h is e) q t)
 

@@ -4,16 +4,17 @@ use borrow.Author.Needs.{needs}
 use Prim.Native.Nat.{_-_}
 use mathlib.Core.Path.{_∙_, refl}
 use native.Mathlib.Omega.{arith}
+use Rattle.rows.specs.Table.{rowTotal}
 use Rattle.rows.specs.Fields.{bearing}
 use Rattle.rows.proofs.Loops.{Checking, goes-on, stops, checked, bears-next, bears-none, bears-end}
 use Rattle.rows.proofs.check_rows.Statement.{statement}
 use Rattle.rows.proofs.check_rows.Tie as tie
 
 abbrev Inv-loop : tie.InvT-loop
-Inv-loop word number first rows row₀ row = Checking word (bearing number first (107 - first)) (bearing number row (107 - row))
+Inv-loop word number first rows row₀ row = Checking word (bearing number first (rowTotal - first)) (bearing number row (rowTotal - row))
 
 abbrev μ-loop : tie.MeasureT-loop
-μ-loop word number first rows row₀ row = 107 - row
+μ-loop word number first rows row₀ row = rowTotal - row
 
 returns : tie.Need-returns Inv-loop μ-loop
 returns c = search (checked, bears-none)
