@@ -101,7 +101,7 @@ def spec_end(name, answers):
     return f'pub {name}-spec : {{M : Type 1}} → statement M\n{name}-spec = tie.close (tie.spec {" ".join(answers)})\n'
 
 
-SEARCH, CALL = '(λ c. search needs)', '(λ c κs. tt)'
+CAST, CALL = '(λ c. tt)', '(λ c κs. tt)'
 LISTED = '(λ c κs. lit< tt)'
 
 
@@ -279,62 +279,26 @@ unlisted c = sym (List·getD-eq-default {l}Cases _ (past _ {n} (c .match .rest))
 {spec_end('of', keys + ['unlisted'])}'''
 
 
-def case_number_proof(e):
-    n, l = len(ENUMS[e]), low(e)
-    arms = [f'(λ c. sym (ap {l}No (c .{nth("enum-told", i)} .given .1)))' for i in range(1, n + 1)]
-    return f'''-- `cases::{e}::number` meets its contract, arm by arm.
--- Written by catalogue/write.py. Assumes nothing.
-use mathlib.Core.Path.{{sym, ap}}
-use Rattle.cases.specs.Cases.{{{l}No}}
-{ties('cases', e + '.number')}
-{spec_end('number', each(told(n), arms))}'''
-
-
 # ---- states: a struct for each layout
 
+def module(struct):
+    return ''.join('_' + c.lower() if c.isupper() else c for c in struct)[1:]
+
+
 def states_source():
-    text = '// The floor of states: a struct for each layout with its named fields, its width in bytes and its state without data, and the\n'
-    text += '// way between a state and its fields\' values in the rows\' order. Written by catalogue/write.py from catalogue/fields.tsv.\n'
-    text += '// It checks nothing; the annex\'s mnemonic stands beside each field. All bits are read in one place, `bits_of`: the check of a\n'
-    text += '// function costs its steps times its locals, and a field that is copied from there costs neither.\n'
-    text += ''.join(f'use cases::{e};\n' for e in ENUMS)
-    text += f'''
-ghost use mathlib.Core.Path.{{_≡_}};
-ghost use mathlib.Core.List.{{[]}};
+    text = '''// The floor of states: a struct for each layout with its named fields, its width in bytes and its state without data, and the
+// way between a state and its fields' values in the rows' order, each in a module of its own. Written by catalogue/write.py from
+// catalogue/fields.tsv. It checks nothing; the annex's mnemonic stands beside each field. All bits are read in one place, `bits_of`:
+// the check of a function costs its steps times its locals, and a field that is copied from there costs neither.
+'''
+    text += ''.join(f'mod {module(s)};\n' for s in sorted(STRUCTS)) + '\n'
+    text += ''.join(f'pub use {module(s)}::{s};\n' for s in sorted(STRUCTS))
+    return text + f'''ghost use mathlib.Core.Path.{{_≡_}};
 ghost use Prim.Native.Nat.{{_<_}};
 ghost use lib.Dec.{{eqb}};
 ghost use lib.ListN.{{getD}};
-ghost use Rattle.rows.specs.Fields.{{padded}};
-ghost use Rattle.states.specs.States.{{bitsOf, {names(l.key + x for l in LAYOUTS for x in ('Of', 'Values'))}}};
-'''
-    for l in LAYOUTS:
-        text += f'\n// Layout {l.number}: {l.mnemonic}.\npub struct {l.struct} {{\n'
-        text += ''.join(f'    pub {r.name}: {r.type}, // {r.field}\n' for r in l.fields) + '}\n'
-        text += f'\nimpl {l.struct} {{\n    pub const WIDTH: usize = {l.bytes};\n'
-        if l.dat:
-            text += f'\n    pub const WITHOUT_DATA: {l.struct} = {l.struct} {{\n'
-            text += ''.join(f'        {r.name}: {"false" if r.bit else r.type + "::" + ENUMS[r.type][0][0]},\n' for r in l.fields)
-            text += f'''    }};
+ghost use Rattle.states.specs.States.{{bitsOf}};
 
-    pub fn without_data() -> {l.struct}
-        ensures {{ λ r. ⌜ r ≡ {l.key}Of [] ⌝ }}
-    {{
-        {l.struct}::WITHOUT_DATA
-    }}
-'''
-        text += f'\n    pub fn of_values(values: [u32; 24]) -> {l.struct}\n        ensures {{ λ r. ⌜ r ≡ {l.key}Of values ⌝ }}\n    {{\n'
-        text += '        let bits = bits_of(values);\n'
-        text += ''.join(f'        let {r.name} = {r.type}::of(value(values, {r.place}));\n' for r in l.named)
-        text += f'        {l.struct} {{\n'
-        text += ''.join(f'            {r.name}: bits.b{r.place},\n' if r.bit else f'            {r.name},\n' for r in l.fields)
-        text += f'        }}\n    }}\n\n    pub fn values(self) -> [u32; 24]\n        ensures {{ λ r. ⌜ r ≡ padded ({l.key}Values self) ⌝ }}\n    {{\n'
-        text += ''.join(f'        let {r.name} = self.{r.name};\n' for r in l.named)
-        text += '        [\n'
-        for r in l.rows:
-            value = '0' if r.reserved else f'self.{r.name} as u32' if r.bit else f'{r.name}.number()'
-            text += f'            {value},\n'
-        text += '            0,\n' * (24 - len(l.rows)) + '        ]\n    }\n}\n'
-    text += f'''
 // The value at a place.
 fn value(values: [u32; 24], place: usize) -> u32
     requires {{ ⌜ place < 24 ⌝ }}
@@ -362,7 +326,43 @@ fn bits_of(values: [u32; 24]) -> Bits
 {''.join(f"        b{k}: bit(values, {k}),{chr(10)}" for k in BITS)}    }}
 }}
 '''
-    return text
+
+
+def state_source(l):
+    text = f'// Layout {l.number}: {l.mnemonic}. Written by catalogue/write.py.\n'
+    text += ''.join(f'use cases::{e};\n' for e in sorted({r.type for r in l.named}))
+    text += 'use crate::bits_of;\n' + ('use crate::value;\n' if l.named else '')
+    text += 'ghost use mathlib.Core.Path.{_≡_};\n' + ('ghost use mathlib.Core.List.{[]};\n' if l.dat else '')
+    text += f'''ghost use Rattle.rows.specs.Fields.{{padded}};
+ghost use Rattle.states.specs.States.{{{l.key}Of, {l.key}Values}};
+
+pub struct {l.struct} {{
+'''
+    text += ''.join(f'    pub {r.name}: {r.type}, // {r.field}\n' for r in l.fields) + '}\n'
+    text += f'\nimpl {l.struct} {{\n    pub const WIDTH: usize = {l.bytes};\n'
+    if l.dat:
+        text += f'\n    pub const WITHOUT_DATA: {l.struct} = {l.struct} {{\n'
+        text += ''.join(f'        {r.name}: {"false" if r.bit else r.type + "::" + ENUMS[r.type][0][0]},\n' for r in l.fields)
+        text += f'''    }};
+
+    pub fn without_data() -> {l.struct}
+        ensures {{ λ r. ⌜ r ≡ {l.key}Of [] ⌝ }}
+    {{
+        {l.struct}::WITHOUT_DATA
+    }}
+'''
+    text += f'\n    pub fn of_values(values: [u32; 24]) -> {l.struct}\n        ensures {{ λ r. ⌜ r ≡ {l.key}Of values ⌝ }}\n    {{\n'
+    text += '        let bits = bits_of(values);\n'
+    text += ''.join(f'        let {r.name} = {r.type}::of(value(values, {r.place}));\n' for r in l.named)
+    text += f'        {l.struct} {{\n'
+    text += ''.join(f'            {r.name}: bits.b{r.place},\n' if r.bit else f'            {r.name},\n' for r in l.fields)
+    text += f'        }}\n    }}\n\n    pub fn values(self) -> [u32; 24]\n        ensures {{ λ r. ⌜ r ≡ padded ({l.key}Values self) ⌝ }}\n    {{\n'
+    text += ''.join(f'        let {r.name} = self.{r.name};\n' for r in l.named)
+    text += '        [\n'
+    for r in l.rows:
+        value = '0' if r.reserved else f'self.{r.name} as u32' if r.bit else f'{r.name}.number()'
+        text += f'            {value},\n'
+    return text + '            0,\n' * (24 - len(l.rows)) + '        ]\n    }\n}\n'
 
 
 def states_specs():
@@ -375,8 +375,9 @@ use lib.Dec.{eqb}
 use Rattle.rows.specs.Fields.{bitNo}
 '''
     text += f'use Rattle.cases.specs.Cases.{{{names(low(e) + x for e in ENUMS for x in ("Of", "No"))}}}\n'
-    for s in STRUCTS + ['Bits']:
-        text += f'use Rattle.states.specs.declared.{s}.{{{s}}}\n'
+    text += 'use Rattle.states.specs.declared.Bits.{Bits}\n'
+    for s in STRUCTS:
+        text += f'use Rattle.states.specs.declared.{module(s)}.{s}.{{{s}}}\n'
     text += '\n-- b3 is whether the value of row 3 is 1: for each place among the rows at which some type has a field of one bit\nabbrev pub bitsOf : List ℕ → Bits\nbitsOf vs = record {\n'
     text += ''.join(f'  b{k} = eqb (getD vs {k} 0) 1;\n' for k in BITS) + '}\n'
     for l in LAYOUTS:
@@ -406,7 +407,7 @@ use Rattle.rows.proofs.Listed.{listedFrom, bit-listed, bit-back, reserved-liste
     text += f'use Rattle.cases.proofs.CaseLaws.{{{names(low(e) + x for e in ENUMS for x in ("-listed", "-back"))}}}\n'
     text += f'use Rattle.states.specs.States.{{{names(l.key + x for l in LAYOUTS for x in ("Of", "Values"))}}}\n'
     for s in STRUCTS:
-        text += f'use Rattle.states.specs.declared.{s}.{{{s}}}\n'
+        text += f'use Rattle.states.specs.declared.{module(s)}.{s}.{{{s}}}\n'
     for l in LAYOUTS:
         text += f'\npub {l.key}-listed : (vs : List ℕ) → {l.key}Values ({l.key}Of vs) ≡ listedFrom 0 (rowsFrom {l.first} {len(l.rows)}) vs\n'
         text += f'unfolding table\n{l.key}-listed vs =\n    λ i.\n'
@@ -434,7 +435,7 @@ use Rattle.cases.specs.Cases.{{{names(dict.fromkeys(low(r.type) + 'Of' for r in
 ''' if l.named else ''
     text = f'''-- `states::{l.struct}::of_values` meets its contract: each field by what its reader ensures.
 -- Written by catalogue/write.py. Assumes nothing.
-{uses}{ties('states', l.struct + '.of_values')}
+{uses}{ties('states', f'{module(l.struct)}.{l.struct}.of_values')}
 returns : tie.Need-returns
 returns c =
 {lines}    λ i.
@@ -476,7 +477,7 @@ def values_proof(l):
             parts.append('0')
         elif r.bit:
             parts.append(f'bitNo (s .{r.key})')
-            answers.append(SEARCH)
+            answers.append(CAST)
         else:
             done += 1
             parts.append(f'({at[l.fields.index(r)]} .{nth("number", done)} .ensures) i')
@@ -484,9 +485,8 @@ def values_proof(l):
     return f'''-- `states::{l.struct}::values` meets its contract: each named field by what its number ensures.
 -- Written by catalogue/write.py. Assumes nothing.
 use mathlib.Core.List.{{[], _∷_}}
-use borrow.Author.Needs.{{needs}}
 use Rattle.rows.specs.Fields.{{padded, bitNo}}
-{ties('states', l.struct + '.values')}
+{ties('states', f'{module(l.struct)}.{l.struct}.values')}
 returns : tie.Need-returns
 returns c =
 {lines}    let s = {at[0]} .before .args .self in
@@ -905,11 +905,10 @@ def files():
     out['states/proofs/bits_of/Proof.antt'] = bits_of_proof()
     for e in ENUMS:
         out[f'cases/proofs/{e}/of/Proof.antt'] = case_of_proof(e)
-        out[f'cases/proofs/{e}/number/Proof.antt'] = case_number_proof(e)
     for l in LAYOUTS:
-        out[f'states/proofs/{l.struct}/of_values/Proof.antt'] = of_values_proof(l)
-        if l.named:
-            out[f'states/proofs/{l.struct}/values/Proof.antt'] = values_proof(l)
+        out[f'states/src/{module(l.struct)}.rt'] = state_source(l)
+        out[f'states/proofs/{module(l.struct)}/{l.struct}/of_values/Proof.antt'] = of_values_proof(l)
+        out[f'states/proofs/{module(l.struct)}/{l.struct}/values/Proof.antt'] = values_proof(l)
     return out
 
 

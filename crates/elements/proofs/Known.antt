@@ -15,7 +15,7 @@ use Rattle.cases.specs.declared.SignalKind.{SignalKind}
 use Rattle.cases.specs.declared.SignalAspect.{SignalAspect}
 use Rattle.cases.specs.declared.MixedGaugeIndication.{MixedGaugeIndication}
 use Rattle.cases.specs.declared.AutoRouteIndication.{AutoRouteIndication}
-use Rattle.states.specs.declared.Signal.{Signal}
+use Rattle.states.specs.declared.signal.Signal.{Signal}
 use Rattle.elements.specs.Elements.{kindOf, datRule, elementCheck, stateOf}
 use Rattle.elements.specs.Known.{known, found, said, wide, printed}
 use Rattle.kinds.specs.declared.Kind.{Kind}

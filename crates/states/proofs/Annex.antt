@@ -30,17 +30,17 @@ use Rattle.cases.specs.declared.HeaterIndication.{HeaterIndication}
 use Rattle.cases.specs.declared.EarthFaultIndication.{EarthFaultIndication}
 use Rattle.cases.specs.declared.BoundaryMovement.{BoundaryMovement}
 use Rattle.states.specs.States.{signalOf, changerSignalOf, virtualBoardOf, lineTrackCircuitOf, pointsTrackCircuitOf, crossingTrackCircuitOf, dualDetectionOf, pointsOf, electricLockOf, generalNoticesOf, controlBoundaryOf}
-use Rattle.states.specs.declared.Signal.{Signal}
-use Rattle.states.specs.declared.ChangerSignal.{ChangerSignal}
-use Rattle.states.specs.declared.VirtualBoard.{VirtualBoard}
-use Rattle.states.specs.declared.LineTrackCircuit.{LineTrackCircuit}
-use Rattle.states.specs.declared.PointsTrackCircuit.{PointsTrackCircuit}
-use Rattle.states.specs.declared.CrossingTrackCircuit.{CrossingTrackCircuit}
-use Rattle.states.specs.declared.DualDetection.{DualDetection}
-use Rattle.states.specs.declared.Points.{Points}
-use Rattle.states.specs.declared.ElectricLock.{ElectricLock}
-use Rattle.states.specs.declared.GeneralNotices.{GeneralNotices}
-use Rattle.states.specs.declared.ControlBoundary.{ControlBoundary}
+use Rattle.states.specs.declared.signal.Signal.{Signal}
+use Rattle.states.specs.declared.changer_signal.ChangerSignal.{ChangerSignal}
+use Rattle.states.specs.declared.virtual_board.VirtualBoard.{VirtualBoard}
+use Rattle.states.specs.declared.line_track_circuit.LineTrackCircuit.{LineTrackCircuit}
+use Rattle.states.specs.declared.points_track_circuit.PointsTrackCircuit.{PointsTrackCircuit}
+use Rattle.states.specs.declared.crossing_track_circuit.CrossingTrackCircuit.{CrossingTrackCircuit}
+use Rattle.states.specs.declared.dual_detection.DualDetection.{DualDetection}
+use Rattle.states.specs.declared.points.Points.{Points}
+use Rattle.states.specs.declared.electric_lock.ElectricLock.{ElectricLock}
+use Rattle.states.specs.declared.general_notices.GeneralNotices.{GeneralNotices}
+use Rattle.states.specs.declared.control_boundary.ControlBoundary.{ControlBoundary}
 
 -- whether a bit of the word w is 1
 abbrev bit : ℕ → ℕ → Bool

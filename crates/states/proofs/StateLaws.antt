@@ -9,17 +9,17 @@ use Rattle.rows.specs.Fields.{padded}
 use Rattle.rows.proofs.Listed.{listedFrom, bit-listed, bit-back, reserved-listed}
 use Rattle.cases.proofs.CaseLaws.{signalKind-listed, signalKind-back, signalAspect-listed, signalAspect-back, mixedGaugeIndication-listed, mixedGaugeIndication-back, autoRouteIndication-listed, autoRouteIndication-back, changerAspect-listed, changerAspect-back, boardAspect-listed, boardAspect-back, sectionOccupancy-listed, sectionOccupancy-back, overlap-listed, overlap-back, gaugePresence-listed, gaugePresence-back, pointsSectionOccupancy-listed, pointsSectionOccupancy-back, legOccupancy-listed, legOccupancy-back, legShown-listed, legShown-back, pointsDetection-listed, pointsDetection-back, pointsLocking-listed, pointsLocking-back, heaterIndication-listed, heaterIndication-back, earthFaultIndication-listed, earthFaultIndication-back, boundaryMovement-listed, boundaryMovement-back}
 use Rattle.states.specs.States.{signalOf, signalValues, changerSignalOf, changerSignalValues, virtualBoardOf, virtualBoardValues, lineTrackCircuitOf, lineTrackCircuitValues, pointsTrackCircuitOf, pointsTrackCircuitValues, crossingTrackCircuitOf, crossingTrackCircuitValues, dualDetectionOf, dualDetectionValues, pointsOf, pointsValues, electricLockOf, electricLockValues, generalNoticesOf, generalNoticesValues, controlBoundaryOf, controlBoundaryValues}
-use Rattle.states.specs.declared.Signal.{Signal}
-use Rattle.states.specs.declared.ChangerSignal.{ChangerSignal}
-use Rattle.states.specs.declared.VirtualBoard.{VirtualBoard}
-use Rattle.states.specs.declared.LineTrackCircuit.{LineTrackCircuit}
-use Rattle.states.specs.declared.PointsTrackCircuit.{PointsTrackCircuit}
-use Rattle.states.specs.declared.CrossingTrackCircuit.{CrossingTrackCircuit}
-use Rattle.states.specs.declared.DualDetection.{DualDetection}
-use Rattle.states.specs.declared.Points.{Points}
-use Rattle.states.specs.declared.ElectricLock.{ElectricLock}
-use Rattle.states.specs.declared.GeneralNotices.{GeneralNotices}
-use Rattle.states.specs.declared.ControlBoundary.{ControlBoundary}
+use Rattle.states.specs.declared.signal.Signal.{Signal}
+use Rattle.states.specs.declared.changer_signal.ChangerSignal.{ChangerSignal}
+use Rattle.states.specs.declared.virtual_board.VirtualBoard.{VirtualBoard}
+use Rattle.states.specs.declared.line_track_circuit.LineTrackCircuit.{LineTrackCircuit}
+use Rattle.states.specs.declared.points_track_circuit.PointsTrackCircuit.{PointsTrackCircuit}
+use Rattle.states.specs.declared.crossing_track_circuit.CrossingTrackCircuit.{CrossingTrackCircuit}
+use Rattle.states.specs.declared.dual_detection.DualDetection.{DualDetection}
+use Rattle.states.specs.declared.points.Points.{Points}
+use Rattle.states.specs.declared.electric_lock.ElectricLock.{ElectricLock}
+use Rattle.states.specs.declared.general_notices.GeneralNotices.{GeneralNotices}
+use Rattle.states.specs.declared.control_boundary.ControlBoundary.{ControlBoundary}
 
 pub signal-listed : (vs : List ℕ) → signalValues (signalOf vs) ≡ listedFrom 0 (rowsFrom 0 24) vs
 unfolding table

@@ -6,18 +6,18 @@ use lib.ListN.{getD}
 use lib.Dec.{eqb}
 use Rattle.rows.specs.Fields.{bitNo}
 use Rattle.cases.specs.Cases.{signalKindOf, signalKindNo, signalAspectOf, signalAspectNo, mixedGaugeIndicationOf, mixedGaugeIndicationNo, autoRouteIndicationOf, autoRouteIndicationNo, changerAspectOf, changerAspectNo, boardAspectOf, boardAspectNo, sectionOccupancyOf, sectionOccupancyNo, overlapOf, overlapNo, gaugePresenceOf, gaugePresenceNo, pointsSectionOccupancyOf, pointsSectionOccupancyNo, legOccupancyOf, legOccupancyNo, legShownOf, legShownNo, pointsDetectionOf, pointsDetectionNo, pointsLockingOf, pointsLockingNo, heaterIndicationOf, heaterIndicationNo, earthFaultIndicationOf, earthFaultIndicationNo, boundaryMovementOf, boundaryMovementNo}
-use Rattle.states.specs.declared.Signal.{Signal}
-use Rattle.states.specs.declared.ChangerSignal.{ChangerSignal}
-use Rattle.states.specs.declared.VirtualBoard.{VirtualBoard}
-use Rattle.states.specs.declared.LineTrackCircuit.{LineTrackCircuit}
-use Rattle.states.specs.declared.PointsTrackCircuit.{PointsTrackCircuit}
-use Rattle.states.specs.declared.CrossingTrackCircuit.{CrossingTrackCircuit}
-use Rattle.states.specs.declared.DualDetection.{DualDetection}
-use Rattle.states.specs.declared.Points.{Points}
-use Rattle.states.specs.declared.ElectricLock.{ElectricLock}
-use Rattle.states.specs.declared.GeneralNotices.{GeneralNotices}
-use Rattle.states.specs.declared.ControlBoundary.{ControlBoundary}
 use Rattle.states.specs.declared.Bits.{Bits}
+use Rattle.states.specs.declared.signal.Signal.{Signal}
+use Rattle.states.specs.declared.changer_signal.ChangerSignal.{ChangerSignal}
+use Rattle.states.specs.declared.virtual_board.VirtualBoard.{VirtualBoard}
+use Rattle.states.specs.declared.line_track_circuit.LineTrackCircuit.{LineTrackCircuit}
+use Rattle.states.specs.declared.points_track_circuit.PointsTrackCircuit.{PointsTrackCircuit}
+use Rattle.states.specs.declared.crossing_track_circuit.CrossingTrackCircuit.{CrossingTrackCircuit}
+use Rattle.states.specs.declared.dual_detection.DualDetection.{DualDetection}
+use Rattle.states.specs.declared.points.Points.{Points}
+use Rattle.states.specs.declared.electric_lock.ElectricLock.{ElectricLock}
+use Rattle.states.specs.declared.general_notices.GeneralNotices.{GeneralNotices}
+use Rattle.states.specs.declared.control_boundary.ControlBoundary.{ControlBoundary}
 
 -- b3 is whether the value of row 3 is 1: for each place among the rows at which some type has a field of one bit
 abbrev pub bitsOf : List ℕ → Bits
