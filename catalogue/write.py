@@ -18,8 +18,10 @@ import tempfile
 HERE = os.path.dirname(os.path.abspath(__file__))
 ROOT = os.path.dirname(HERE)
 WITHOUT_DAT = {'GeneralNotices'}  # type 22 has no DAT
-CRATES = ['rows', 'cases', 'states', 'kinds']
+CRATES = ['rows', 'cases', 'states', 'kinds']  # which have files that are written
 BY_HAND = 'Annex.antt'
+# folders in which nothing else stands but BY_HAND
+WHOLE = [f'{crate}/{part}' for crate in ('cases', 'states', 'kinds') for part in ('src', 'specs', 'proofs')]
 
 
 def table(name):
@@ -912,28 +914,30 @@ def files():
     return out
 
 
-def clear(folder):
-    """Removes what was written there before."""
-    for entry in os.scandir(folder):
-        if entry.is_dir():
-            shutil.rmtree(entry.path)
-        elif entry.name != BY_HAND:
-            os.remove(entry.path)
+def remove_left(root, paths):
+    """Removes what is no longer written in the folders that are written whole, but for the law files kept by hand."""
+    crates = os.path.join(root, 'crates')
+    for part in WHOLE:
+        for folder, _, found in os.walk(os.path.join(crates, part), topdown=False):
+            for name in found:
+                full = os.path.join(folder, name)
+                if os.path.relpath(full, crates) not in paths and name != BY_HAND:
+                    os.remove(full)
+            if not os.listdir(folder):
+                os.rmdir(folder)
 
 
 def write(root):
     paths = files()
-    for crate in ('cases', 'states', 'kinds'):
-        clear(os.path.join(root, 'crates', crate, 'proofs'))
     for path, text in paths.items():
         full = os.path.join(root, 'crates', path)
         os.makedirs(os.path.dirname(full), exist_ok=True)
         with open(full, 'w') as f:
             f.write(text)
+    remove_left(root, paths)
     done = subprocess.run(['rt', 'fmt'], cwd=root, capture_output=True, text=True)
     if done.returncode:
         sys.exit(done.stdout + done.stderr)
-    return paths
 
 
 def check():
