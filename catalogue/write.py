@@ -1,5 +1,5 @@
 #!/usr/bin/env python3
-"""Writes what repeats by type in the catalogue's crates from fields.tsv and cases.tsv.
+"""Writes what repeats by type in the catalogue's crates from fields.tsv, cases.tsv and types.tsv.
 
     catalogue/write.py            write the files, laid out by rt fmt
     catalogue/write.py --check    say which files are not as written (exit status 1), and write nothing
@@ -7,6 +7,7 @@
 fields.tsv has a line for each row of each layout: layout number, mnemonic of the annex, struct, field of the annex,
 lowest bit, width, highest admitted value, English name, type (bool, an enum of cases.tsv, or - where reserved).
 cases.tsv has a line for each named case of each enum: enum, value, case, meaning.
+types.tsv has a line for each type that is carried: X of the catalogue, type, number of its layout.
 The names are held to the annex by law files that are kept by hand: proofs/Annex.antt of cases and states is left as it is.
 """
 import os
@@ -17,11 +18,10 @@ import tempfile
 
 HERE = os.path.dirname(os.path.abspath(__file__))
 ROOT = os.path.dirname(HERE)
-WITHOUT_DAT = {'GeneralNotices'}  # type 22 has no DAT
-CRATES = ['rows', 'cases', 'states', 'kinds']  # which have files that are written
+CRATES = ['rows', 'cases', 'states', 'kinds', 'elements']  # which have files that are written
 BY_HAND = 'Annex.antt'
 # folders in which nothing else stands but BY_HAND
-WHOLE = [f'{crate}/{part}' for crate in ('cases', 'states', 'kinds') for part in ('src', 'specs', 'proofs')]
+WHOLE = [f'{crate}/{part}' for crate in ('cases', 'states', 'kinds') for part in ('src', 'specs', 'proofs')] + ['elements/proofs/types']
 
 
 def table(name):
@@ -45,7 +45,7 @@ class Layout:
         self.place, self.number, self.mnemonic, self.struct = place, number, mnemonic, struct
         self.first, self.rows = first, rows
         self.bytes = (rows[-1].low + rows[-1].width) // 8
-        self.dat = struct not in WITHOUT_DAT
+        self.dat = rows[0].field == 'DAT'
         self.key = low(struct)
         self.fields = [r for r in rows if not r.reserved]
         self.named = [r for r in rows if r.named]
@@ -74,10 +74,15 @@ def read():
     for l in layouts:
         for r in l.named:
             assert len(enums[r.type]) == r.top + 1, (l.struct, r.field)
-    return layouts, enums
+    catalogues = {}
+    for line in table('types.tsv'):
+        types = catalogues.setdefault(int(line['x']), {})
+        assert line['type'] not in types, line
+        types[line['type']] = next(l for l in layouts if l.number == int(line['layout']))
+    return layouts, enums, catalogues
 
 
-LAYOUTS, ENUMS = read()
+LAYOUTS, ENUMS, CATALOGUES = read()
 TOTAL = sum(len(l.rows) for l in LAYOUTS)
 STRUCTS = [l.struct for l in LAYOUTS]
 BITS = sorted({r.place for l in LAYOUTS for r in l.fields if r.bit})
@@ -616,7 +621,7 @@ def kinds_specs():
 -- its fields' values.
 -- Written by catalogue/write.py.
 use mathlib.Core.Bool.{cond}
-use mathlib.Core.List.{List, [], _∷_}
+use mathlib.Core.List.{List, [], _∷_, map}
 use Prim.Native.Nat.{ℕ}
 use lib.Dec.{eqb}
 use Rattle.rows.specs.Table.{Row, layoutAt}
@@ -646,13 +651,25 @@ widthOf k = layoutOf k .bytes
 abbrev pub rowsOf : Kind → List Row
 rowsOf k = layoutRows (layoutOf k)
 
--- the kind whose layout has a number
-abbrev pub sortIn : ℕ → List Kind → Sort
+-- a number, and the kind that it stands for
+pub record Line : Type 0 where
+  pub number : ℕ
+  pub kind : Kind
+
+abbrev pub line : ℕ → Kind → Line
+line number kind = record {{ number = number; kind = kind }}
+
+-- the kind of a number
+abbrev pub sortIn : ℕ → List Line → Sort
 sortIn n [] = Sort.Other
-sortIn n (k ∷ ks) = cond (eqb n (layoutNo k)) (Sort.Carried k) (sortIn n ks)
+sortIn n (l ∷ ls) = cond (eqb n (l .number)) (Sort.Carried (l .kind)) (sortIn n ls)
+
+-- each kind by the number of its layout
+abbrev pub numbered : List Line
+numbered = map (λ (k : Kind). line (layoutNo k) k) kinds
 
 abbrev pub sortNumbered : ℕ → Sort
-sortNumbered n = sortIn n kinds
+sortNumbered n = sortIn n numbered
 
 abbrev pub elementOf : Kind → List ℕ → Element
 {''.join(f"elementOf Kind.{l.struct} vs = Element.{l.struct} ({l.key}Of vs){chr(10)}" for l in LAYOUTS)}
@@ -684,24 +701,42 @@ pub record Glanced (k : Kind) (b : List ℕ) (at : ℕ) (r : Glance) : Type 0 wh
 
 
 def lookup_law():
-    return '''-- A number is looked up among the kinds: in vain where it is none of theirs.
+    return '''-- A number is looked up among lines: in vain where it is none of theirs; and what a test says of every line holds of what is found.
 -- Written by catalogue/write.py. Assumes nothing.
-use mathlib.Core.Path.{_≡_, _∙_, refl, sym, ap}
-use mathlib.Core.Bool.{Bool, cond}
+use mathlib.Core.Path.{_≡_, _∙_, refl, sym, ap, subst, subst⁻¹}
+use mathlib.Core.Bool.{Bool, true, false, cond, _&&_}
 use mathlib.Core.List.{List, [], _∷_}
 use Prim.Native.Nat.{ℕ}
-use borrow.Author.Tests.{ne-eqb}
-use Rattle.kinds.specs.Kinds.{layoutNo, sortIn}
+use native.Mathlib.Omega.{arith}
+use lib.Dec.{T, eqb}
+use borrow.Author.Tests.{ne-eqb, eqb-true}
+use Rattle.rows.proofs.Tests.{both-left, both-right}
+use Rattle.kinds.specs.Kinds.{Line, sortIn}
 use Rattle.kinds.specs.declared.Kind.{Kind}
 use Rattle.kinds.specs.declared.Sort.{Sort}
 
-abbrev pub Apart : ℕ → List Kind → Type 0
+abbrev pub Apart : ℕ → List Line → Type 0
 Apart n [] = Unit
-Apart n (k ∷ ks) = (n ≡ layoutNo k → ⊥) × Apart n ks
+Apart n (l ∷ ls) = (n ≡ l .number → ⊥) × Apart n ls
 
-pub vain : (n : ℕ) (ks : List Kind) → Apart n ks → Sort.Other ≡ sortIn n ks
+pub vain : (n : ℕ) (ls : List Line) → Apart n ls → Sort.Other ≡ sortIn n ls
 vain n [] a = refl
-vain n (k ∷ ks) a = vain n ks (a .1) ∙ sym (ap (λ (b : Bool). cond b (Sort.Carried k) (sortIn n ks)) (ne-eqb n (layoutNo k) (a .0)))
+vain n (l ∷ ls) a = vain n ls (a .1) ∙ sym (ap (λ (b : Bool). cond b (Sort.Carried (l .kind)) (sortIn n ls)) (ne-eqb n (l .number) (a .0)))
+
+abbrev pub allLines : (ℕ → Kind → Bool) → List Line → Bool
+allLines test [] = true
+allLines test (l ∷ ls) = test (l .number) (l .kind) && allLines test ls
+
+pub every-line : (test : ℕ → Kind → Bool) (n : ℕ) (ls : List Line) → T (allLines test ls) → {k : Kind} → sortIn n ls ≡ Sort.Carried k → T (test n k)
+every-line test n [] t e = absurd (let z : _≡_ {A = ℕ} 0 1 = cc in omega arith)
+every-line test n (l ∷ ls) t {k} e = at (eqb n (l .number)) refl (every-line test n ls (both-right (test (l .number) (l .kind)) (allLines test ls) t)) e
+  where
+    here : (j : Kind) → T (test (l .number) j) → Sort.Carried j ≡ Sort.Carried k → n ≡ l .number → T (test n k)
+    here j h e q = subst⁻¹ (λ (m : ℕ). T (test m k)) q (let same : j ≡ k = cc in subst (λ (j : Kind). T (test (l .number) j)) same h)
+
+    at : (b : Bool) → eqb n (l .number) ≡ b → (sortIn n ls ≡ Sort.Carried k → T (test n k)) → cond b (Sort.Carried (l .kind)) (sortIn n ls) ≡ Sort.Carried k → T (test n k)
+    at true q rest e = here (l .kind) (both-left (test (l .number) (l .kind)) (allLines test ls) t) e (eqb-true n (l .number) q)
+    at false q rest e = rest e
 '''
 
 
@@ -709,20 +744,23 @@ def kinds_laws():
     text = '''-- Of each kind: its place, that its number finds it, and that a state keeps the listed values and its own values make it again.
 -- Written by catalogue/write.py. Assumes nothing.
 use mathlib.Core.Path.{_≡_, refl, ap}
-use mathlib.Core.List.{List, []}
+use mathlib.Core.List.{List, [], map}
 use Prim.Native.Nat.{ℕ, _<_}
 use lib.Dec.{lit<}
-use lib.ListN.{length}
+use lib.ListN.{length, getD}
 use Rattle.rows.specs.Table.{table, layouts}
 use Rattle.rows.specs.Fields.{padded, valuesOf}
 use Rattle.rows.proofs.Listed.{listedFrom}
 '''
     text += f'use Rattle.states.proofs.StateLaws.{{{names(l.key + x for l in LAYOUTS for x in ("-listed", "-back"))}}}\n'
-    text += f'''use Rattle.kinds.specs.Kinds.{{place, layoutNo, rowsOf, sortNumbered, elementOf, elementValues, kindIn}}
+    text += f'''use Rattle.kinds.specs.Kinds.{{kinds, place, layoutNo, rowsOf, sortNumbered, elementOf, elementValues, kindIn}}
 use Rattle.kinds.specs.declared.Kind.{{Kind}}
 use Rattle.kinds.specs.declared.Element.{{Element}}
 use Rattle.kinds.specs.declared.Sort.{{Sort}}
 
+-- two functions that agree on the list of all kinds agree on each: a table of a line per kind is one computation
+pub every-kind : {{A : Type 0}} (f g : Kind → A) → map f kinds ≡ map g kinds → (k : Kind) → f k ≡ g k
+{''.join(f"every-kind {{A}} f g e Kind.{l.struct} = ap (λ (l : List A). getD l {l.place} (f Kind.{l.struct})) e{chr(10)}" for l in LAYOUTS)}
 pub placed : (k : Kind) → place k < length layouts
 unfolding layouts
 {''.join(f"placed Kind.{s} = lit< tt{chr(10)}" for s in STRUCTS)}
@@ -756,25 +794,35 @@ use mathlib.Core.Path.{{sym, ap}}
     return text + (end.replace('statement M\n', f'statement M\nunfolding {opens}\n') if opens else end)
 
 
-def sort_proof():
-    n = len(LAYOUTS)
+def refuted(n):
+    """In the last arm of a match on a number: that it is none of the n before, the first in front."""
     rest = 'tt'
     for i in reversed(range(n)):
         rest = f'(c .match .rest{" .0" * (n - 1 - i)} .1, {rest})'
-    keys = [f'(λ c. sym (ap sortNumbered (c .match .keys{i + 1})))' for i in range(n)]
-    end = spec_end('sort-numbered', keys + ['other']).replace('statement M\n', 'statement M\nunfolding layouts\n')
-    return f'''-- `kinds::sort_numbered` meets its contract: a number that is none of the layouts' is looked up in vain.
+    return rest
+
+
+def lookup_proof(crate, fn, says, uses, lines, n, opens, number):
+    """Of a match on a number that has an arm for each of n lines, and one for what is looked up in vain."""
+    answers = [f'(λ c. sym (ap (λ (n : ℕ). sortIn n {lines}) (c .match .keys{i + 1})))' for i in range(n)]
+    opened = f'unfolding {opens}\n' if opens else ''
+    name = fn.split('.')[-1].replace('_', '-')
+    return f'''-- `{crate}::{fn.replace('.', '::')}` meets its contract: {says}.
 -- Written by catalogue/write.py. Assumes nothing.
 use mathlib.Core.Path.{{sym, ap}}
-use Rattle.rows.specs.Table.{{layouts}}
-use Rattle.kinds.specs.Kinds.{{kinds, sortNumbered}}
-use Rattle.kinds.proofs.Lookup.{{vain}}
-{ties('kinds', 'sort_numbered')}
+use Prim.Native.Nat.{{ℕ}}
+{uses}{ties(crate, fn)}
 other : tie.Need-{returns(n + 1)}
-unfolding layouts
-other c = vain (c .before .args .number) kinds {rest}
+{opened}other c = vain (c .before .args .{number}) {lines} {refuted(n)}
 
-{end}'''
+{spec_end(name, answers + ['other']).replace('statement M' + chr(10), 'statement M' + chr(10) + opened)}'''
+
+
+def sort_numbered_proof():
+    return lookup_proof(
+        'kinds', 'sort_numbered', "a number that is none of the layouts' is looked up in vain",
+        'use Rattle.rows.specs.Table.{layouts}\nuse Rattle.kinds.specs.Kinds.{sortIn, numbered}\nuse Rattle.kinds.proofs.Lookup.{vain}\n',
+        'numbered', len(LAYOUTS), 'layouts', 'number')
 
 
 def per_kind_proof(fn, uses, answer):
@@ -868,6 +916,100 @@ returns c =
 {spec_end('glance-by', ['(λ c κs. (omega arith, omega arith))', CALL, 'returns'])}'''
 
 
+# ---- elements: which types are carried
+
+def types_source():
+    text = f'''// Which types are carried under which catalogue's X, and by which kind. Written by catalogue/write.py from catalogue/types.tsv.
+use kinds::Kind;
+use kinds::Sort;
+ghost use mathlib.Core.Path.{{_≡_}};
+ghost use Rattle.kinds.specs.Kinds.{{sortIn}};
+ghost use Rattle.elements.specs.Types.{{{names([f"typesUnder{x}" for x in CATALOGUES] + ["sortOf"])}}};
+
+// The kind of a type under a catalogue's X, if it is carried.
+pub fn sort_of(x: u8, ty: u8) -> Sort
+    ensures {{ λ r. ⌜ r ≡ sortOf x ty ⌝ }}
+{{
+    match x {{
+{''.join(f"        {x} => return under_{x}(ty),{chr(10)}" for x in CATALOGUES)}        _ => return Sort::Other,
+    }}
+}}
+'''
+    for x, types in CATALOGUES.items():
+        text += f'''
+fn under_{x}(ty: u8) -> Sort
+    ensures {{ λ r. ⌜ r ≡ sortIn ty typesUnder{x} ⌝ }}
+{{
+    match ty {{
+{''.join(f"        {t} => return Sort::Carried(Kind::{l.struct}),{chr(10)}" for t, l in types.items())}        _ => return Sort::Other,
+    }}
+}}
+'''
+    return text
+
+
+def types_specs():
+    text = '''-- Which types are carried under which catalogue's X, and by which kind. All others are not carried.
+-- Written by catalogue/write.py.
+use mathlib.Core.Bool.{cond}
+use mathlib.Core.List.{List, [], _∷_}
+use Prim.Native.Nat.{ℕ}
+use lib.Dec.{eqb}
+use Rattle.kinds.specs.Kinds.{Line, line, sortIn}
+use Rattle.kinds.specs.declared.Kind.{Kind}
+use Rattle.kinds.specs.declared.Sort.{Sort}
+'''
+    for x, types in CATALOGUES.items():
+        text += f'\n-- the types that are carried under X = {x}, each with its kind\nabbrev pub typesUnder{x} : List Line\ntypesUnder{x} =\n'
+        text += ''.join(f'    line {t} Kind.{l.struct} ∷\n' for t, l in types.items()) + '    []\n'
+    text += f'''
+-- catalogues by their X, each with its types
+pub record Catalogue : Type 0 where
+  pub x : ℕ
+  pub types : List Line
+
+abbrev catalogue : ℕ → List Line → Catalogue
+catalogue x types = record {{ x = x; types = types }}
+
+abbrev pub catalogues : List Catalogue
+catalogues = {' ∷ '.join(f"catalogue {x} typesUnder{x}" for x in CATALOGUES)} ∷ []
+
+-- the kind of a type under an X
+abbrev pub sortUnder : ℕ → ℕ → List Catalogue → Sort
+sortUnder x type [] = Sort.Other
+sortUnder x type (c ∷ cs) = cond (eqb x (c .x)) (sortIn type (c .types)) (sortUnder x type cs)
+
+abbrev pub sortOf : ℕ → ℕ → Sort
+sortOf x type = sortUnder x type catalogues
+'''
+    return text
+
+
+def under_proof(x):
+    return lookup_proof(
+        'elements', f'types.under_{x}', 'a type that is not carried is looked up in vain',
+        f'use Rattle.kinds.specs.Kinds.{{sortIn}}\nuse Rattle.kinds.proofs.Lookup.{{vain}}\nuse Rattle.elements.specs.Types.{{typesUnder{x}}}\n',
+        f'typesUnder{x}', len(CATALOGUES[x]), '', 'ty')
+
+
+def sort_of_proof():
+    n = len(CATALOGUES)
+    text = f'''-- `elements::types::sort_of` meets its contract: each catalogue by its own function, and an X that is none's is looked up in vain.
+-- Written by catalogue/write.py. Assumes nothing.
+use mathlib.Core.Path.{{_∙_, sym, ap}}
+use Prim.Native.Nat.{{ℕ}}
+use Rattle.elements.specs.Types.{{catalogues, sortOf}}
+use Rattle.elements.proofs.TypeLaws.{{not-carried}}
+{ties('elements', 'types.sort_of')}'''
+    for i, x in enumerate(CATALOGUES, 1):
+        text += (f'\n{returns(i)} : tie.Need-{returns(i)}\n'
+                 f'{returns(i)} c = c .under-{x} .ensures ∙ sym (ap (λ (x : ℕ). sortOf x (c .before .before .args .ty)) (c .before .match .keys{i}))\n')
+    text += f'\nother : tie.Need-{returns(n + 1)}\nother c = not-carried (c .before .args .x) (c .before .args .ty) catalogues {refuted(n)}\n\n'
+    return text + spec_end('sort-of', each([CALL] * n, [returns(i) for i in range(1, n + 1)]) + ['other'])
+
+
+# ---- files
+
 def files():
     """The files by their path below crates/."""
     out = {
@@ -896,17 +1038,22 @@ def files():
         'kinds/proofs/shows_listed/Proof.antt': shows_listed_proof(),
         'kinds/proofs/glance_at/Proof.antt': glance_at_proof(),
         'kinds/proofs/glance_by/Proof.antt': glance_by_proof(),
-        'kinds/proofs/sort_numbered/Proof.antt': sort_proof(),
+        'kinds/proofs/sort_numbered/Proof.antt': sort_numbered_proof(),
         'kinds/proofs/element_of/Proof.antt': per_kind_proof(
             'element_of',
             'use Rattle.kinds.specs.Kinds.{elementOf}\nuse Rattle.kinds.specs.declared.Kind.{Kind}\n', element_of_answer),
         'kinds/proofs/values_of/Proof.antt': per_kind_proof(
             'values_of',
             'use Rattle.rows.specs.Fields.{padded}\nuse Rattle.kinds.specs.Kinds.{elementValues}\n', values_of_answer),
+        'elements/src/types.rt': types_source(),
+        'elements/specs/Types.antt': types_specs(),
+        'elements/proofs/types/sort_of/Proof.antt': sort_of_proof(),
     }
     out['states/proofs/bits_of/Proof.antt'] = bits_of_proof()
     for e in ENUMS:
         out[f'cases/proofs/{e}/of/Proof.antt'] = case_of_proof(e)
+    for x in CATALOGUES:
+        out[f'elements/proofs/types/under_{x}/Proof.antt'] = under_proof(x)
     for l in LAYOUTS:
         out[f'states/src/{module(l.struct)}.rt'] = state_source(l)
         out[f'states/proofs/{module(l.struct)}/{l.struct}/of_values/Proof.antt'] = of_values_proof(l)

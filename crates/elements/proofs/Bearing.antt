@@ -6,17 +6,8 @@ use Rattle.rows.specs.Fields.{bearing}
 use Rattle.rows.specs.Table.{table, layouts, rowTotal}
 use Rattle.kinds.specs.Kinds.{layoutOf, layoutNo, rowsOf}
 use Rattle.kinds.specs.declared.Kind.{Kind}
+use Rattle.kinds.proofs.KindLaws.{every-kind}
 
 pub bearing-rows : (k : Kind) → bearing (layoutNo k) (layoutOf k .first) (rowTotal - layoutOf k .first) ≡ rowsOf k
 unfolding table layouts
-bearing-rows Kind.Signal = refl
-bearing-rows Kind.ChangerSignal = refl
-bearing-rows Kind.VirtualBoard = refl
-bearing-rows Kind.LineTrackCircuit = refl
-bearing-rows Kind.PointsTrackCircuit = refl
-bearing-rows Kind.CrossingTrackCircuit = refl
-bearing-rows Kind.DualDetection = refl
-bearing-rows Kind.Points = refl
-bearing-rows Kind.ElectricLock = refl
-bearing-rows Kind.GeneralNotices = refl
-bearing-rows Kind.ControlBoundary = refl
+bearing-rows = every-kind (λ k. bearing (layoutNo k) (layoutOf k .first) (rowTotal - layoutOf k .first)) rowsOf refl

@@ -4,5 +4,6 @@ pub mod DatLaws
 pub mod Findings
 pub mod Answers
 pub mod Bearing
+pub mod TypeLaws
 pub mod Known
 pub mod Annex

@@ -8,13 +8,10 @@ use Rattle.kinds.specs.Kinds.{layoutOf, layoutNo, rowsOf, sortNumbered, element
 use Rattle.kinds.specs.declared.Kind.{Kind}
 use Rattle.kinds.specs.declared.Element.{Element}
 use Rattle.kinds.specs.declared.Sort.{Sort}
+use Rattle.elements.specs.Types.{sortOf}
 use Rattle.elements.specs.declared.State.{State}
 
 -- ---- what is carried
-
--- of a type under a catalogue's X: in catalogue 1.0 a layout has its type's number
-abbrev pub sortOf : ℕ → ℕ → Sort
-sortOf x type = cond (eqb x 1) (sortNumbered type) Sort.Other
 
 abbrev pub isCarried : Sort → Bool
 isCarried (Sort.Carried k) = true

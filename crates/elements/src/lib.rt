@@ -1,12 +1,15 @@
 // The floor of elements: which types are carried, the check of an element, and a state as a number and back. It goes by the rows of a
 // kind's layout, at a glance where that is enough, and names no kind but the one that stands for none. It knows no image and writes
 // nothing.
+mod types;
+
 use kinds::Element;
 use kinds::Kind;
 use kinds::Sort;
 use rows::Fields;
 use rows::Finding;
 use rows::Refusal;
+use types::sort_of;
 ghost use mathlib.Core.Path.{_≡_};
 ghost use mathlib.Core.Bool.{cond};
 ghost use Prim.Native.Nat.{_+_, _≤_};
@@ -15,7 +18,7 @@ ghost use Rattle.octets.specs.Octets.{number};
 ghost use Rattle.rows.specs.declared.Finding.{Finding};
 ghost use Rattle.rows.specs.Fields.{codeAt, checkRows, fieldsRead};
 ghost use Rattle.kinds.specs.Kinds.{layoutNo, widthOf, rowsOf};
-ghost use Rattle.elements.specs.Elements.{sortOf, carried, kindOf, kindNumbered, sameKind, datRule, elementCheck, stateRead, wordOf};
+ghost use Rattle.elements.specs.Elements.{carried, kindOf, kindNumbered, sameKind, datRule, elementCheck, stateRead, wordOf};
 
 // What reading an element as a state gives.
 pub enum State {
@@ -177,13 +180,4 @@ fn is_stale(word: u32, kind: Kind) -> bool
         return false;
     }
     kinds::layout(kind).dat
-}
-
-fn sort_of(x: u8, ty: u8) -> Sort
-    ensures { λ r. ⌜ r ≡ sortOf x ty ⌝ }
-{
-    if x != 1 {
-        return Sort::Other;
-    }
-    kinds::sort_numbered(ty)
 }

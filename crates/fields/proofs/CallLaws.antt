@@ -5,17 +5,18 @@ use native.Mathlib.Omega.{arith}
 use mathlib.Core.Path.{_≡_, refl, sym, ap, _∙_}
 use mathlib.Core.Bool.{Bool, true, false, cond}
 use mathlib.Core.List.{List, [], _∷_}
-use lib.Dec.{eqb, ltb}
+use lib.Dec.{eqb, ltb, eqb→eq, ltb→lt}
 use lib.ListN.{length, getD}
-use borrow.Author.Tests.{eq-eqb, ne-eqb, eqb-true}
+use borrow.Author.Tests.{eq-eqb, ne-eqb, eqb-true, ltb-true}
 use Rattle.rows.specs.Table.{layouts}
 use Rattle.rows.specs.declared.Finding.{Finding}
 use Rattle.rows.specs.declared.Refusal.{Refusal}
-use Rattle.kinds.specs.Kinds.{layoutNo, rowsOf, kindIn, kinds, sortIn, sortNumbered, elementOf}
+use Rattle.kinds.specs.Kinds.{layoutNo, rowsOf, kindIn, numbered, sortNumbered, elementOf}
 use Rattle.kinds.specs.declared.Kind.{Kind}
 use Rattle.kinds.specs.declared.Element.{Element}
 use Rattle.kinds.specs.declared.Sort.{Sort}
-use Rattle.kinds.proofs.KindLaws.{kind-found, element-kind}
+use Rattle.kinds.proofs.Lookup.{every-line}
+use Rattle.kinds.proofs.KindLaws.{every-kind, kind-found, element-kind}
 use Rattle.elements.specs.Elements.{sameKind, wordOf}
 use Rattle.history.specs.declared.Answer.{Answer}
 use Rattle.history.specs.Verdict.{Verdict, refused, done, then, refusalAt, _unless_⨾_, numbers, told}
@@ -44,20 +45,10 @@ all-refuse f (done s) h = h s
 
 -- ---- numbers of kinds
 
-sort-no : (n : ℕ) {k : Kind} (ks : List Kind) → sortIn n ks ≡ Sort.Carried k → n ≡ layoutNo k
-sort-no n [] e = absurd (let z : _≡_ {A = ℕ} 0 1 = cc in omega arith)
-sort-no n {k} (j ∷ js) e = at (eqb n (layoutNo j)) refl (sort-no n js) e
-  where
-    at : (b : Bool) → eqb n (layoutNo j) ≡ b → (sortIn n js ≡ Sort.Carried k → n ≡ layoutNo k) → cond b (Sort.Carried j) (sortIn n js) ≡ Sort.Carried k → n ≡ layoutNo k
-    at true q rest e = eqb-true n (layoutNo j) q ∙ ap layoutNo (the-kind e)
-      where
-        the-kind : Sort.Carried j ≡ Sort.Carried k → j ≡ k
-        the-kind e = cc
-    at false q rest e = rest e
-
 -- a carried number is its kind's, and no other kind has it
 its-number : {n : ℕ} {k : Kind} → sortNumbered n ≡ Sort.Carried k → n ≡ layoutNo k
-its-number {n} e = sort-no n kinds e
+unfolding layouts
+its-number {n} e = eqb→eq _ _ (every-line (λ n k. eqb n (layoutNo k)) n numbered tt e)
 
 its-kind : {n : ℕ} {k : Kind} (j : Kind) → sortNumbered n ≡ Sort.Carried k → n ≡ layoutNo j → j ≡ k
 its-kind j e q =
@@ -68,28 +59,21 @@ its-kind j e q =
 not-its : (n : ℕ) (j : Kind) → sortNumbered n ≡ Sort.Other → eqb n (layoutNo j) ≡ false
 not-its n j e = ne-eqb n (layoutNo j) (λ q. let s : Sort.Carried j ≡ Sort.Other = sym (kind-found j) ∙ ap sortNumbered (sym q) ∙ e in absurd (let z : _≡_ {A = ℕ} 0 1 = cc in omega arith))
 
-numbers-small : (k : Kind) → (1 ≤ layoutNo k) × (layoutNo k < 256)
+-- no kind has the number 0, nor one above 255
+number-some : (k : Kind) → 0 < layoutNo k
 unfolding layouts
-numbers-small Kind.Signal = omega arith
-numbers-small Kind.ChangerSignal = omega arith
-numbers-small Kind.VirtualBoard = omega arith
-numbers-small Kind.LineTrackCircuit = omega arith
-numbers-small Kind.PointsTrackCircuit = omega arith
-numbers-small Kind.CrossingTrackCircuit = omega arith
-numbers-small Kind.DualDetection = omega arith
-numbers-small Kind.Points = omega arith
-numbers-small Kind.ElectricLock = omega arith
-numbers-small Kind.GeneralNotices = omega arith
-numbers-small Kind.ControlBoundary = omega arith
-
-none-large : (n : ℕ) → 255 < n → (ks : List Kind) → sortIn n ks ≡ Sort.Other
-none-large n h [] = refl
-none-large n h (k ∷ ks) =
-    ap (λ (b : Bool). cond b (Sort.Carried k) (sortIn n ks)) (ne-eqb n (layoutNo k) (λ e. omega (arith, numbers-small k)))
-    ∙ none-large n h ks
+number-some k = ltb-true 0 (layoutNo k) (every-kind (λ k. ltb 0 (layoutNo k)) (λ k. true) refl k)
 
 pub no-sort : (n : ℕ) → 255 < n → Sort.Other ≡ sortNumbered n
-no-sort n h = sym (none-large n h kinds)
+unfolding layouts
+no-sort n h = at (sortNumbered n) refl
+  where
+    small : {k : Kind} → sortNumbered n ≡ Sort.Carried k → n < 256
+    small e = ltb→lt _ _ (every-line (λ n k. ltb n 256) n numbered tt e)
+
+    at : (s : Sort) → sortNumbered n ≡ s → Sort.Other ≡ s
+    at (Sort.Carried k) e = absurd (omega (arith, small e))
+    at Sort.Other e = refl
 
 -- ---- a state of which something is refused
 
@@ -101,7 +85,7 @@ module _ (i number code bit : ℕ) where
   told-before : (v : Verdict Element) {x : Plain} → x ≡ plainOf (readingOf v) → x .kind ≡ 0 → x .answer ≡ told (refused-by v)
   unfolding told readingOf plainOf shownOf refused-by
   told-before (refused c o b) e z = ap (λ (x : Plain). x .answer) e
-  told-before (done s) e z = absurd (let q = numbers-small (kindIn s) in let w = ap (λ (x : Plain). x .kind) e in omega arith)
+  told-before (done s) e z = absurd (let q = number-some (kindIn s) in let w = ap (λ (x : Plain). x .kind) e in omega arith)
 
   told-after : (v : Verdict Element) {x : Plain} {r : Answer} → x ≡ plainOf (readingOf v) → (x .kind ≡ 0 → ⊥) → (b : Bool) → eqb number (x .kind) ≡ b
       → r ≡ told {A = List ℕ} (refusalAt 22 i unless b ⨾ refused code i bit) → r ≡ told (refused-by v)

@@ -1,18 +1,32 @@
 -- Of each kind: its place, that its number finds it, and that a state keeps the listed values and its own values make it again.
 -- Written by catalogue/write.py. Assumes nothing.
 use mathlib.Core.Path.{_≡_, refl, ap}
-use mathlib.Core.List.{List, []}
+use mathlib.Core.List.{List, [], map}
 use Prim.Native.Nat.{ℕ, _<_}
 use lib.Dec.{lit<}
-use lib.ListN.{length}
+use lib.ListN.{length, getD}
 use Rattle.rows.specs.Table.{table, layouts}
 use Rattle.rows.specs.Fields.{padded, valuesOf}
 use Rattle.rows.proofs.Listed.{listedFrom}
 use Rattle.states.proofs.StateLaws.{signal-listed, signal-back, changerSignal-listed, changerSignal-back, virtualBoard-listed, virtualBoard-back, lineTrackCircuit-listed, lineTrackCircuit-back, pointsTrackCircuit-listed, pointsTrackCircuit-back, crossingTrackCircuit-listed, crossingTrackCircuit-back, dualDetection-listed, dualDetection-back, points-listed, points-back, electricLock-listed, electricLock-back, generalNotices-listed, generalNotices-back, controlBoundary-listed, controlBoundary-back}
-use Rattle.kinds.specs.Kinds.{place, layoutNo, rowsOf, sortNumbered, elementOf, elementValues, kindIn}
+use Rattle.kinds.specs.Kinds.{kinds, place, layoutNo, rowsOf, sortNumbered, elementOf, elementValues, kindIn}
 use Rattle.kinds.specs.declared.Kind.{Kind}
 use Rattle.kinds.specs.declared.Element.{Element}
 use Rattle.kinds.specs.declared.Sort.{Sort}
+
+-- two functions that agree on the list of all kinds agree on each: a table of a line per kind is one computation
+pub every-kind : {A : Type 0} (f g : Kind → A) → map f kinds ≡ map g kinds → (k : Kind) → f k ≡ g k
+every-kind {A} f g e Kind.Signal = ap (λ (l : List A). getD l 0 (f Kind.Signal)) e
+every-kind {A} f g e Kind.ChangerSignal = ap (λ (l : List A). getD l 1 (f Kind.ChangerSignal)) e
+every-kind {A} f g e Kind.VirtualBoard = ap (λ (l : List A). getD l 2 (f Kind.VirtualBoard)) e
+every-kind {A} f g e Kind.LineTrackCircuit = ap (λ (l : List A). getD l 3 (f Kind.LineTrackCircuit)) e
+every-kind {A} f g e Kind.PointsTrackCircuit = ap (λ (l : List A). getD l 4 (f Kind.PointsTrackCircuit)) e
+every-kind {A} f g e Kind.CrossingTrackCircuit = ap (λ (l : List A). getD l 5 (f Kind.CrossingTrackCircuit)) e
+every-kind {A} f g e Kind.DualDetection = ap (λ (l : List A). getD l 6 (f Kind.DualDetection)) e
+every-kind {A} f g e Kind.Points = ap (λ (l : List A). getD l 7 (f Kind.Points)) e
+every-kind {A} f g e Kind.ElectricLock = ap (λ (l : List A). getD l 8 (f Kind.ElectricLock)) e
+every-kind {A} f g e Kind.GeneralNotices = ap (λ (l : List A). getD l 9 (f Kind.GeneralNotices)) e
+every-kind {A} f g e Kind.ControlBoundary = ap (λ (l : List A). getD l 10 (f Kind.ControlBoundary)) e
 
 pub placed : (k : Kind) → place k < length layouts
 unfolding layouts

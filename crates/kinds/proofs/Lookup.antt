@@ -1,18 +1,36 @@
--- A number is looked up among the kinds: in vain where it is none of theirs.
+-- A number is looked up among lines: in vain where it is none of theirs; and what a test says of every line holds of what is found.
 -- Written by catalogue/write.py. Assumes nothing.
-use mathlib.Core.Path.{_≡_, _∙_, refl, sym, ap}
-use mathlib.Core.Bool.{Bool, cond}
+use mathlib.Core.Path.{_≡_, _∙_, refl, sym, ap, subst, subst⁻¹}
+use mathlib.Core.Bool.{Bool, true, false, cond, _&&_}
 use mathlib.Core.List.{List, [], _∷_}
 use Prim.Native.Nat.{ℕ}
-use borrow.Author.Tests.{ne-eqb}
-use Rattle.kinds.specs.Kinds.{layoutNo, sortIn}
+use native.Mathlib.Omega.{arith}
+use lib.Dec.{T, eqb}
+use borrow.Author.Tests.{ne-eqb, eqb-true}
+use Rattle.rows.proofs.Tests.{both-left, both-right}
+use Rattle.kinds.specs.Kinds.{Line, sortIn}
 use Rattle.kinds.specs.declared.Kind.{Kind}
 use Rattle.kinds.specs.declared.Sort.{Sort}
 
-abbrev pub Apart : ℕ → List Kind → Type 0
+abbrev pub Apart : ℕ → List Line → Type 0
 Apart n [] = Unit
-Apart n (k ∷ ks) = (n ≡ layoutNo k → ⊥) × Apart n ks
+Apart n (l ∷ ls) = (n ≡ l .number → ⊥) × Apart n ls
 
-pub vain : (n : ℕ) (ks : List Kind) → Apart n ks → Sort.Other ≡ sortIn n ks
+pub vain : (n : ℕ) (ls : List Line) → Apart n ls → Sort.Other ≡ sortIn n ls
 vain n [] a = refl
-vain n (k ∷ ks) a = vain n ks (a .1) ∙ sym (ap (λ (b : Bool). cond b (Sort.Carried k) (sortIn n ks)) (ne-eqb n (layoutNo k) (a .0)))
+vain n (l ∷ ls) a = vain n ls (a .1) ∙ sym (ap (λ (b : Bool). cond b (Sort.Carried (l .kind)) (sortIn n ls)) (ne-eqb n (l .number) (a .0)))
+
+abbrev pub allLines : (ℕ → Kind → Bool) → List Line → Bool
+allLines test [] = true
+allLines test (l ∷ ls) = test (l .number) (l .kind) && allLines test ls
+
+pub every-line : (test : ℕ → Kind → Bool) (n : ℕ) (ls : List Line) → T (allLines test ls) → {k : Kind} → sortIn n ls ≡ Sort.Carried k → T (test n k)
+every-line test n [] t e = absurd (let z : _≡_ {A = ℕ} 0 1 = cc in omega arith)
+every-line test n (l ∷ ls) t {k} e = at (eqb n (l .number)) refl (every-line test n ls (both-right (test (l .number) (l .kind)) (allLines test ls) t)) e
+  where
+    here : (j : Kind) → T (test (l .number) j) → Sort.Carried j ≡ Sort.Carried k → n ≡ l .number → T (test n k)
+    here j h e q = subst⁻¹ (λ (m : ℕ). T (test m k)) q (let same : j ≡ k = cc in subst (λ (j : Kind). T (test (l .number) j)) same h)
+
+    at : (b : Bool) → eqb n (l .number) ≡ b → (sortIn n ls ≡ Sort.Carried k → T (test n k)) → cond b (Sort.Carried (l .kind)) (sortIn n ls) ≡ Sort.Carried k → T (test n k)
+    at true q rest e = here (l .kind) (both-left (test (l .number) (l .kind)) (allLines test ls) t) e (eqb-true n (l .number) q)
+    at false q rest e = rest e

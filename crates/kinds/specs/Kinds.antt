@@ -2,7 +2,7 @@
 -- its fields' values.
 -- Written by catalogue/write.py.
 use mathlib.Core.Bool.{cond}
-use mathlib.Core.List.{List, [], _∷_}
+use mathlib.Core.List.{List, [], _∷_, map}
 use Prim.Native.Nat.{ℕ}
 use lib.Dec.{eqb}
 use Rattle.rows.specs.Table.{Row, layoutAt}
@@ -42,13 +42,25 @@ widthOf k = layoutOf k .bytes
 abbrev pub rowsOf : Kind → List Row
 rowsOf k = layoutRows (layoutOf k)
 
--- the kind whose layout has a number
-abbrev pub sortIn : ℕ → List Kind → Sort
+-- a number, and the kind that it stands for
+pub record Line : Type 0 where
+  pub number : ℕ
+  pub kind : Kind
+
+abbrev pub line : ℕ → Kind → Line
+line number kind = record { number = number; kind = kind }
+
+-- the kind of a number
+abbrev pub sortIn : ℕ → List Line → Sort
 sortIn n [] = Sort.Other
-sortIn n (k ∷ ks) = cond (eqb n (layoutNo k)) (Sort.Carried k) (sortIn n ks)
+sortIn n (l ∷ ls) = cond (eqb n (l .number)) (Sort.Carried (l .kind)) (sortIn n ls)
+
+-- each kind by the number of its layout
+abbrev pub numbered : List Line
+numbered = map (λ (k : Kind). line (layoutNo k) k) kinds
 
 abbrev pub sortNumbered : ℕ → Sort
-sortNumbered n = sortIn n kinds
+sortNumbered n = sortIn n numbered
 
 abbrev pub elementOf : Kind → List ℕ → Element
 elementOf Kind.Signal vs = Element.Signal (signalOf vs)

@@ -6,19 +6,19 @@ use native.Mathlib.Omega.{arith}
 use mathlib.Core.Path.{_≡_, refl, ap, _∙_}
 use mathlib.Core.Bool.{Bool, true, false, cond}
 use mathlib.Core.List.{List, [], _∷_, map}
-use lib.Dec.{eqb, leb, ltb}
+use lib.Dec.{leb, ltb, leb→le}
 use lib.ListN.{length, getD, take, drop, length-append}
 use lib.Seq.{length-sets}
 use mir.Syntax.{w32}
 use mir.Val.{Fits}
-use borrow.Author.Tests.{ltb-true, ltb-false, eqb-true}
+use borrow.Author.Tests.{ltb-true, ltb-false}
 use Rattle.octets.specs.Octets.{bytes}
 use Rattle.octets.proofs.NumberLaws.{length-bytes}
 use Rattle.rows.specs.Table.{layouts}
-use Rattle.kinds.specs.Kinds.{layoutNo, widthOf, kinds, sortIn, sortNumbered}
+use Rattle.kinds.specs.Kinds.{widthOf}
 use Rattle.kinds.specs.declared.Kind.{Kind}
-use Rattle.kinds.specs.declared.Sort.{Sort}
-use Rattle.elements.specs.Elements.{isCarried, carriedKind, carried, kindOf}
+use Rattle.elements.specs.Elements.{carried, kindOf}
+use Rattle.elements.proofs.TypeLaws.{every-carried}
 use Rattle.history.specs.Verdict.{Verdict, refused, done}
 use Rattle.history.specs.Table.{Object, Table, object, labelLimit, planOf, readTable}
 use Rattle.history.specs.Image.{Image, readImage}
@@ -70,36 +70,12 @@ digits-next i n h = digits-at (ltb i 10) (ltb i 100) (ltb i 1000) i n refl refl 
 
 -- ---- a type and its element: nine digits together, since only types of one digit have four bytes
 
-kind-few : (k : Kind) → length (decimal (layoutNo k)) + 2 * widthOf k ≤ 9
-unfolding layouts decimal decimalIn
-kind-few Kind.Signal = omega arith
-kind-few Kind.ChangerSignal = omega arith
-kind-few Kind.VirtualBoard = omega arith
-kind-few Kind.LineTrackCircuit = omega arith
-kind-few Kind.PointsTrackCircuit = omega arith
-kind-few Kind.CrossingTrackCircuit = omega arith
-kind-few Kind.DualDetection = omega arith
-kind-few Kind.Points = omega arith
-kind-few Kind.ElectricLock = omega arith
-kind-few Kind.GeneralNotices = omega arith
-kind-few Kind.ControlBoundary = omega arith
-
-found-at : (n : ℕ) (k : Kind) (s : Sort) (t : Bool) → eqb n (layoutNo k) ≡ t → (isCarried s ≡ true → length (decimal n) + 2 * widthOf (carriedKind s) ≤ 9)
-    → isCarried (cond t (Sort.Carried k) s) ≡ true → length (decimal n) + 2 * widthOf (carriedKind (cond t (Sort.Carried k) s)) ≤ 9
-found-at n k s true q rest e = rw (eqb-true n (layoutNo k) q) (kind-few k)
-found-at n k s false q rest e = rest e
-
-found-few : (n : ℕ) (ks : List Kind) → isCarried (sortIn n ks) ≡ true → length (decimal n) + 2 * widthOf (carriedKind (sortIn n ks)) ≤ 9
-found-few n [] e = absurd (let z : _≡_ {A = ℕ} 0 1 = cc in omega arith)
-found-few n (k ∷ ks) e = found-at n k (sortIn n ks) (eqb n (layoutNo k)) refl (found-few n ks) e
+abbrev few : ℕ → ℕ → Kind → Bool
+few x type k = leb (length (decimal type) + 2 * widthOf k) 9
 
 type-few : (x type : ℕ) → carried x type ≡ true → length (decimal type) + 2 * widthOf (kindOf x type) ≤ 9
-unfolding carried kindOf
-type-few x type = at (eqb x 1)
-  where
-    at : (t : Bool) → isCarried (cond t (sortNumbered type) Sort.Other) ≡ true → length (decimal type) + 2 * widthOf (carriedKind (cond t (sortNumbered type) Sort.Other)) ≤ 9
-    at true e = found-few type kinds e
-    at false e = absurd (let z : _≡_ {A = ℕ} 0 1 = cc in omega arith)
+unfolding layouts decimal decimalIn
+type-few x type e = leb→le _ _ (every-carried few tt x type e)
 
 -- ---- lines
 

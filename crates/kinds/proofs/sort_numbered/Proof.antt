@@ -1,16 +1,17 @@
 -- `kinds::sort_numbered` meets its contract: a number that is none of the layouts' is looked up in vain.
 -- Written by catalogue/write.py. Assumes nothing.
 use mathlib.Core.Path.{sym, ap}
+use Prim.Native.Nat.{ℕ}
 use Rattle.rows.specs.Table.{layouts}
-use Rattle.kinds.specs.Kinds.{kinds, sortNumbered}
+use Rattle.kinds.specs.Kinds.{sortIn, numbered}
 use Rattle.kinds.proofs.Lookup.{vain}
 use Rattle.kinds.proofs.sort_numbered.Statement.{statement}
 use Rattle.kinds.proofs.sort_numbered.Tie as tie
 
 other : tie.Need-returns-12
 unfolding layouts
-other c = vain (c .before .args .number) kinds (c .match .rest .0 .0 .0 .0 .0 .0 .0 .0 .0 .0 .1, (c .match .rest .0 .0 .0 .0 .0 .0 .0 .0 .0 .1, (c .match .rest .0 .0 .0 .0 .0 .0 .0 .0 .1, (c .match .rest .0 .0 .0 .0 .0 .0 .0 .1, (c .match .rest .0 .0 .0 .0 .0 .0 .1, (c .match .rest .0 .0 .0 .0 .0 .1, (c .match .rest .0 .0 .0 .0 .1, (c .match .rest .0 .0 .0 .1, (c .match .rest .0 .0 .1, (c .match .rest .0 .1, (c .match .rest .1, tt)))))))))))
+other c = vain (c .before .args .number) numbered (c .match .rest .0 .0 .0 .0 .0 .0 .0 .0 .0 .0 .1, (c .match .rest .0 .0 .0 .0 .0 .0 .0 .0 .0 .1, (c .match .rest .0 .0 .0 .0 .0 .0 .0 .0 .1, (c .match .rest .0 .0 .0 .0 .0 .0 .0 .1, (c .match .rest .0 .0 .0 .0 .0 .0 .1, (c .match .rest .0 .0 .0 .0 .0 .1, (c .match .rest .0 .0 .0 .0 .1, (c .match .rest .0 .0 .0 .1, (c .match .rest .0 .0 .1, (c .match .rest .0 .1, (c .match .rest .1, tt)))))))))))
 
 pub sort-numbered-spec : {M : Type 1} → statement M
 unfolding layouts
-sort-numbered-spec = tie.close (tie.spec (λ c. sym (ap sortNumbered (c .match .keys1))) (λ c. sym (ap sortNumbered (c .match .keys2))) (λ c. sym (ap sortNumbered (c .match .keys3))) (λ c. sym (ap sortNumbered (c .match .keys4))) (λ c. sym (ap sortNumbered (c .match .keys5))) (λ c. sym (ap sortNumbered (c .match .keys6))) (λ c. sym (ap sortNumbered (c .match .keys7))) (λ c. sym (ap sortNumbered (c .match .keys8))) (λ c. sym (ap sortNumbered (c .match .keys9))) (λ c. sym (ap sortNumbered (c .match .keys10))) (λ c. sym (ap sortNumbered (c .match .keys11))) other)
+sort-numbered-spec = tie.close (tie.spec (λ c. sym (ap (λ (n : ℕ). sortIn n numbered) (c .match .keys1))) (λ c. sym (ap (λ (n : ℕ). sortIn n numbered) (c .match .keys2))) (λ c. sym (ap (λ (n : ℕ). sortIn n numbered) (c .match .keys3))) (λ c. sym (ap (λ (n : ℕ). sortIn n numbered) (c .match .keys4))) (λ c. sym (ap (λ (n : ℕ). sortIn n numbered) (c .match .keys5))) (λ c. sym (ap (λ (n : ℕ). sortIn n numbered) (c .match .keys6))) (λ c. sym (ap (λ (n : ℕ). sortIn n numbered) (c .match .keys7))) (λ c. sym (ap (λ (n : ℕ). sortIn n numbered) (c .match .keys8))) (λ c. sym (ap (λ (n : ℕ). sortIn n numbered) (c .match .keys9))) (λ c. sym (ap (λ (n : ℕ). sortIn n numbered) (c .match .keys10))) (λ c. sym (ap (λ (n : ℕ). sortIn n numbered) (c .match .keys11))) other)

@@ -1,0 +1,17 @@
+-- `elements::types::sort_of` meets its contract: each catalogue by its own function, and an X that is none's is looked up in vain.
+-- Written by catalogue/write.py. Assumes nothing.
+use mathlib.Core.Path.{_∙_, sym, ap}
+use Prim.Native.Nat.{ℕ}
+use Rattle.elements.specs.Types.{catalogues, sortOf}
+use Rattle.elements.proofs.TypeLaws.{not-carried}
+use Rattle.elements.proofs.types.sort_of.Statement.{statement}
+use Rattle.elements.proofs.types.sort_of.Tie as tie
+
+returns : tie.Need-returns
+returns c = c .under-1 .ensures ∙ sym (ap (λ (x : ℕ). sortOf x (c .before .before .args .ty)) (c .before .match .keys1))
+
+other : tie.Need-returns-2
+other c = not-carried (c .before .args .x) (c .before .args .ty) catalogues (c .match .rest .1, tt)
+
+pub sort-of-spec : {M : Type 1} → statement M
+sort-of-spec = tie.close (tie.spec (λ c κs. tt) returns other)

@@ -1,0 +1,44 @@
+-- Which types are carried under which catalogue's X, and by which kind. All others are not carried.
+-- Written by catalogue/write.py.
+use mathlib.Core.Bool.{cond}
+use mathlib.Core.List.{List, [], _∷_}
+use Prim.Native.Nat.{ℕ}
+use lib.Dec.{eqb}
+use Rattle.kinds.specs.Kinds.{Line, line, sortIn}
+use Rattle.kinds.specs.declared.Kind.{Kind}
+use Rattle.kinds.specs.declared.Sort.{Sort}
+
+-- the types that are carried under X = 1, each with its kind
+abbrev pub typesUnder1 : List Line
+typesUnder1 =
+    line 1 Kind.Signal ∷
+    line 2 Kind.ChangerSignal ∷
+    line 3 Kind.VirtualBoard ∷
+    line 4 Kind.LineTrackCircuit ∷
+    line 5 Kind.PointsTrackCircuit ∷
+    line 6 Kind.CrossingTrackCircuit ∷
+    line 7 Kind.DualDetection ∷
+    line 8 Kind.Points ∷
+    line 9 Kind.ElectricLock ∷
+    line 22 Kind.GeneralNotices ∷
+    line 23 Kind.ControlBoundary ∷
+    []
+
+-- catalogues by their X, each with its types
+pub record Catalogue : Type 0 where
+  pub x : ℕ
+  pub types : List Line
+
+abbrev catalogue : ℕ → List Line → Catalogue
+catalogue x types = record { x = x; types = types }
+
+abbrev pub catalogues : List Catalogue
+catalogues = catalogue 1 typesUnder1 ∷ []
+
+-- the kind of a type under an X
+abbrev pub sortUnder : ℕ → ℕ → List Catalogue → Sort
+sortUnder x type [] = Sort.Other
+sortUnder x type (c ∷ cs) = cond (eqb x (c .x)) (sortIn type (c .types)) (sortUnder x type cs)
+
+abbrev pub sortOf : ℕ → ℕ → Sort
+sortOf x type = sortUnder x type catalogues
