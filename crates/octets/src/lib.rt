@@ -44,17 +44,32 @@ fn get_next(s: &[u8], at: usize, i: usize, value: u32) -> u32
     value * 256 + s[at + i] as u32
 }
 
-// Fills the part with the number's bytes; what is too large for it loses its highest bytes.
+// Fills the part, of at most four bytes, with the number's bytes; what is too large for it loses its highest bytes. From the last byte
+// on the four steps are spelled out, as in `get_at`.
 pub fn put(part: &mut [u8], value: u32)
+    requires { ⌜ length (now part) ≤ 4 ⌝ }
     ensures { λ _. ⌜ now (part .exit) ≡ bytes (length (now (part .entry))) value ⌝ }
 {
-    let mut i = part.len();
-    let mut rest = value;
-    while 0 < i {
-        i -= 1;
-        part[i] = (rest % 256) as u8;
-        rest = rest / 256;
+    let size = part.len();
+    if size < 1 {
+        return;
     }
+    part[size - 1] = (value % 256) as u8;
+    if size < 2 {
+        return;
+    }
+    let above = value / 256;
+    part[size - 2] = (above % 256) as u8;
+    if size < 3 {
+        return;
+    }
+    let higher = above / 256;
+    part[size - 3] = (higher % 256) as u8;
+    if size < 4 {
+        return;
+    }
+    let highest = higher / 256;
+    part[size - 4] = (highest % 256) as u8;
 }
 
 // Fills the part with the bytes given.

@@ -14,7 +14,7 @@ use tables::refused_bit;
 use tables::short;
 use tables::written;
 ghost use mathlib.Core.Path.{_≡_};
-ghost use Prim.Native.Nat.{_≤_, _-_};
+ghost use Prim.Native.Nat.{_+_, _≤_, _-_};
 ghost use lib.ListN.{length};
 ghost use Rattle.history.specs.Verdict.{done, told, settled};
 ghost use Rattle.history.specs.Calls.{checkState, writeStateUnder, writeStateCall};
@@ -128,7 +128,7 @@ fn put_image(
     word: u32,
     out: &mut [u8],
 ) -> Answer
-    requires { ⌜ (11 ≤ at) × (at ≤ end) × (end ≤ length (now image)) × (length (now image) ≤ 4107) ⌝ }
+    requires { ⌜ (11 ≤ at) × (at ≤ end) × (end ≤ at + 4) × (end ≤ length (now image)) × (length (now image) ≤ 4107) ⌝ }
     ensures { λ r. ⌜ r ≡ settled (done (imageAnew (now (image .entry)) position at (end - at) word)) (now (out .entry)) .answer ⌝ }
     ensures { λ _. ⌜ now (out .exit) ≡ settled (done (imageAnew (now (image .entry)) position at (end - at) word)) (now (out .entry)) .output ⌝ }
 {
@@ -142,7 +142,7 @@ fn put_image(
 
 // Fills the part with the image, then with the new position, then with the new element.
 fn renew(part: &mut [u8], image: &[u8], position: u32, at: usize, end: usize, word: u32)
-    requires { ⌜ (11 ≤ at) × (at ≤ end) × (end ≤ length (now image)) × (length (now part) ≡ length (now image)) ⌝ }
+    requires { ⌜ (11 ≤ at) × (at ≤ end) × (end ≤ at + 4) × (end ≤ length (now image)) × (length (now part) ≡ length (now image)) ⌝ }
     ensures { λ _. ⌜ now (part .exit) ≡ imageAnew (now (image .entry)) position at (end - at) word ⌝ }
 {
     octets::copy(part, image);

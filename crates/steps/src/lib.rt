@@ -174,6 +174,7 @@ pub fn put_change(part: &mut [u8], object: u32, width: usize, change: Change)
 
 // Fills the part with the new element, where there is one.
 pub fn put_new(part: &mut [u8], change: Change)
+    requires { ⌜ length (now part) ≤ 4 ⌝ }
     ensures { λ _. ⌜ now (part .exit) ≡ renewed change (now (part .entry)) ⌝ }
 {
     if let Change::Swap(_, new) = change {
