@@ -51,19 +51,8 @@ fn write_difference(x: u8, y: u8, kinds: &[u8], a: &[u8], b: &[u8], out: &mut [u
     let to = octets::get_at(b, 7, 4);
     let old = elements_of(a);
     let new = elements_of(b);
-    let known = walks::measure(Walk::Difference, kinds, old, new);
-    outputs::write_list(
-        Walk::Difference,
-        x,
-        y,
-        kinds,
-        from,
-        to,
-        old,
-        new,
-        known.size,
-        out,
-    )
+    let size = walks::measure_difference(kinds, old, new);
+    outputs::write_list(Walk::Difference, x, y, kinds, from, to, old, new, size, out)
 }
 
 // The image after the list: 16, 17, 18.
@@ -97,7 +86,7 @@ fn write_joined(x: u8, y: u8, kinds: &[u8], first: &[u8], second: &[u8], out: &m
     }
     let one = entries_of(first);
     let other = entries_of(second);
-    let known = walks::measure(Walk::Join, kinds, one, other);
+    let known = walks::measure_join(kinds, one, other);
     let object = known.misfit;
     if object < kinds.len() {
         return refused_at(20, object as u16);

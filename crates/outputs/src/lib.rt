@@ -11,7 +11,7 @@ ghost use lib.ListN.{length};
 ghost use Rattle.history.specs.Verdict.{done, settled};
 ghost use Rattle.history.specs.Image.{widths};
 ghost use Rattle.tables.specs.Outlines.{kindsOf};
-ghost use Rattle.walks.specs.Walks.{Measured, renewal};
+ghost use Rattle.walks.specs.Walks.{Asked, Measured, renewal};
 ghost use Rattle.outputs.specs.Outputs.{opening, listHead, walkList, imageAfter};
 
 // The list of a walk's changes, of which the size is known.
@@ -28,6 +28,7 @@ pub fn write_list(
     out: &mut [u8],
 ) -> Answer
     requires { ⌜ length (now kinds) ≤ 1024 ⌝ }
+    requires { ⌜ Asked walk (now kinds) (now first) (now second) ⌝ }
     requires { ⌜ Measured walk (kindsOf (now kinds)) (now first) (now second) (size .count) (size .bytes) ⌝ }
     ensures { λ r. ⌜ r ≡ settled (done (walkList walk x y (now (kinds .entry)) from to (now (first .entry)) (now (second .entry)))) (now (out .entry)) .answer ⌝ }
     ensures { λ _. ⌜ now (out .exit) ≡ settled (done (walkList walk x y (now (kinds .entry)) from to (now (first .entry)) (now (second .entry)))) (now (out .entry)) .output ⌝ }

@@ -3,7 +3,7 @@
 use Prim.Native.Nat.{ℕ, _+_, _-_, _≤_, _<_}
 use native.Mathlib.Omega.{arith}
 use mathlib.Core.Path.{_≡_, refl, sym, ap, ap₂, _∙_}
-use mathlib.Core.Bool.{Bool, true, false, cond}
+use mathlib.Core.Bool.{Bool, true, false, cond, not, _&&_}
 use mathlib.Core.List.{List, [], _∷_, _++_, append-assoc}
 use lib.Dec.{eqb, leb}
 use lib.ListN.{length, take, drop, length-drop}
@@ -14,21 +14,17 @@ use Rattle.octets.specs.Octets.{bytes, number}
 use Rattle.octets.proofs.Writing.{start, append-put, filled}
 use Rattle.history.specs.declared.Change.{Change}
 use Rattle.history.specs.declared.Change.the-variants.{Keep as keep, Swap as swap}
+use Rattle.history.specs.Changes.{entries}
 use Rattle.history.specs.Operations.{differ, meets, joined, back}
 use Rattle.steps.specs.declared.Walk.{Walk}
-use Rattle.steps.specs.declared.Step.{Step}
-use Rattle.steps.specs.Steps.{span, entryBytes, changeAt, reach, stepOf, Stepped, Silent, Idle, renewed}
+use Rattle.steps.specs.Steps.{span, entryBytes, names, countIf, sizeIf, saidIf, changeAt, isSwap, reach, Step, stepOf, Stepped, Silent, Idle, renewed}
 
 -- ---- an element at a cursor
 
-module _ (l : List ℕ) (at w : ℕ) where
-  pub reach-cut : length l - at < w → 0 ≡ reach w (drop at l)
-  unfolding reach
-  reach-cut h = rw (length-drop, lt-leb w (length l - at) h)
-
-  pub reach-whole : w ≤ length l - at → w ≡ reach w (drop at l)
-  unfolding reach
-  reach-whole h = rw (length-drop, le-leb w (length l - at) h)
+-- it is not cut
+reach-whole : (w p : ℕ) (b : List ℕ) → p + w ≤ length b → reach w (drop p b) ≡ w
+unfolding reach
+reach-whole w p b h = rw (length-drop, le-leb w (length b - p) (omega arith))
 
 reach-room : (w : ℕ) (b : List ℕ) → reach w b ≤ length b
 unfolding reach
@@ -40,49 +36,138 @@ reach-room w b = go (leb w (length b)) refl
 
 -- ---- an entry at a cursor
 
-either : {A : Type 0} (t : Bool) (x : A) → cond t x x ≡ x
-either true x = refl
-either false x = refl
-
 -- entries of which the first names another object say nothing of this one
 pub says-nothing : (b : List ℕ) (i w : ℕ) {n : ℕ} → n ≡ number (take 2 b) → (n ≡ i → ⊥) → changeAt i w b ≡ keep
-unfolding changeAt
-says-nothing b i w {n} e g = rw (← e, ne-eqb n i g) (either (leb (2 + (w + w)) (length b)) keep)
+unfolding changeAt names
+says-nothing b i w {n} e g = rw (← e, ne-eqb n i g, never (leb (2 + (w + w)) (length b)))
+  where
+    never : (t : Bool) → (t && false) ≡ false
+    never true = refl
+    never false = refl
+
+-- nor do entries that are cut
+pub says-cut : (b : List ℕ) (i w : ℕ) → length b < 2 + (w + w) → changeAt i w b ≡ keep
+unfolding changeAt names
+says-cut b i w h = rw (lt-leb (2 + (w + w)) (length b) h)
 
 module _ (l : List ℕ) (at i w : ℕ) where
-  pub entry-cut : length l - at < 2 + (w + w) → keep ≡ changeAt i w (drop at l)
-  unfolding changeAt
-  entry-cut h = rw (length-drop, lt-leb (2 + (w + w)) (length l - at) h)
+  pub names-cut : length l - at < 2 + (w + w) → false ≡ names i w (drop at l)
+  unfolding names
+  names-cut h = rw (length-drop, lt-leb (2 + (w + w)) (length l - at) h)
 
-  module _ (n : ℕ) (e : n ≡ number (take 2 (drop at l))) where
-    pub entry-other : (n ≡ i → ⊥) → keep ≡ changeAt i w (drop at l)
-    entry-other g = sym (says-nothing (drop at l) i w e g)
+  pub names-whole : {n : ℕ} → 2 + (w + w) ≤ length l - at → n ≡ number (take 2 (drop at l)) → eqb n i ≡ names i w (drop at l)
+  unfolding names
+  names-whole h e = rw (length-drop, le-leb (2 + (w + w)) (length l - at) h, ← e)
 
-    pub entry-named : 2 + (w + w) ≤ length l - at → n ≡ i → (old new : ℕ) → old ≡ number (take w (drop (at + 2) l)) → new ≡ number (take w (drop (at + 2 + w) l))
-        → swap old new ≡ changeAt i w (drop at l)
-    unfolding changeAt
-    entry-named h g old new o m =
-        let s : at + (2 + w) ≡ at + 2 + w = omega arith in
-        rw (length-drop, le-leb (2 + (w + w)) (length l - at) h, ← e, eq-eqb n i g, drop-drop 2 at l, drop-drop (2 + w) at l, s, ← o, ← m)
-
-pub span-room : (i w : ℕ) (b : List ℕ) → span w (changeAt i w b) ≤ length b
-unfolding changeAt
-span-room i w b = go (leb (2 + (w + w)) (length b)) (eqb (number (take 2 b)) i) refl
+size-room : (i w : ℕ) (b : List ℕ) → sizeIf (names i w b) w ≤ length b
+unfolding names
+size-room i w b = go (leb (2 + (w + w)) (length b)) (eqb (number (take 2 b)) i) refl
   where
-    go : (t u : Bool) → leb (2 + (w + w)) (length b) ≡ t
-        → span w (cond t (cond u (swap (number (take w (drop 2 b))) (number (take w (drop (2 + w) b)))) keep) keep) ≤ length b
+    go : (t u : Bool) → leb (2 + (w + w)) (length b) ≡ t → sizeIf (t && u) w ≤ length b
     go true true e = leb-true _ _ e
     go true false e = omega arith
     go false u e = omega arith
 
--- ---- an object in both lists
+span-said : (t : Bool) (w : ℕ) (b : List ℕ) → span w (saidIf t w b) ≡ sizeIf t w
+span-said true w b = refl
+span-said false w b = refl
 
-module _ {c d : Change} {old mid mid′ new : ℕ} (e : c ≡ swap old mid) (f : d ≡ swap mid′ new) where
-  pub joined-both : {r : Change} → r ≡ differ old new → r ≡ joined c d
-  joined-both p = p ∙ sym (ap₂ joined e f)
+span-room : (i w : ℕ) (b : List ℕ) → span w (changeAt i w b) ≤ length b
+unfolding changeAt
+span-room i w b = omega (arith, size-room i w b, span-said (names i w b) w b)
 
-  pub meets-both : eqb mid mid′ ≡ meets c d
-  meets-both = sym (ap₂ meets e f)
+-- the entry is inside, where the cursor stands at p
+pub said-inside : (l : List ℕ) (p i w : ℕ) {c : Change} {m : ℕ} → p ≤ length l → c ≡ changeAt i w (drop p l) → m ≡ span w c → p + m ≤ length l
+said-inside l p i w h ec em = omega (arith, span-room i w (drop p l), length-drop p l, em ∙ ap (span w) ec)
+
+pub names-inside : (l : List ℕ) (p i w : ℕ) {t : Bool} → p ≤ length l → t ≡ names i w (drop p l) → p + sizeIf t w ≤ length l
+names-inside l p i w h e = omega (arith, size-room i w (drop p l), length-drop p l, ap (λ (u : Bool). sizeIf u w) e)
+
+-- where it is known to be there: its old element, its new one, and both
+module _ {t : Bool} (e : t ≡ true) (w p n : ℕ) (h : p + sizeIf t w ≤ n) where
+  whole : p + (2 + (w + w)) ≤ n
+  whole = rw e at h
+
+  pub old-there : p + 2 + w ≤ n
+  old-there = omega (arith, whole)
+
+  pub new-there : p + 2 + w + w ≤ n
+  new-there = omega (arith, whole)
+
+pub said-swap : {t : Bool} → t ≡ true → (w p : ℕ) (l : List ℕ) {old new : ℕ} → old ≡ number (take w (drop (p + 2) l)) → new ≡ number (take w (drop (p + 2 + w) l))
+    → swap old new ≡ saidIf t w (drop p l)
+said-swap e w p l o m =
+    let s : p + (2 + w) ≡ p + 2 + w = omega arith in
+    rw (e, drop-drop 2 p l, drop-drop (2 + w) p l, s, o, m)
+
+pub said-keep : {t : Bool} (w : ℕ) (b : List ℕ) → t ≡ false → keep ≡ saidIf t w b
+said-keep w b e = rw e
+
+pub size-keep : {t : Bool} (w : ℕ) → t ≡ false → 0 ≡ sizeIf t w
+size-keep w e = rw e
+
+pub size-whole : {t : Bool} (w : ℕ) → t ≡ true → 2 + (w + w) ≡ sizeIf t w
+size-whole w e = rw e
+
+pub count-keep : {t : Bool} → t ≡ false → 0 ≡ countIf t
+count-keep e = rw e
+
+pub count-whole : {t : Bool} → t ≡ true → 1 ≡ countIf t
+count-whole e = rw e
+
+pub said-at : (i w : ℕ) (b : List ℕ) {t : Bool} {c : Change} → t ≡ names i w b → c ≡ saidIf t w b → c ≡ changeAt i w b
+unfolding changeAt
+said-at i w b e f = f ∙ ap (λ (u : Bool). saidIf u w b) e
+
+-- ---- an object in two lists
+
+-- not in the first
+module _ {one : Bool} (e : one ≡ false) (w : ℕ) (f s : List ℕ) (other : Bool) where
+  pub second-meets : true ≡ meets (saidIf one w f) (saidIf other w s)
+  second-meets = rw e
+
+  pub second-joins : other ≡ isSwap (joined (saidIf one w f) (saidIf other w s))
+  second-joins = rw e (swaps other)
+    where
+      swaps : (t : Bool) → t ≡ isSwap (saidIf t w s)
+      swaps true = refl
+      swaps false = refl
+
+  pub second-joined : {r : Change} → r ≡ saidIf other w s → r ≡ joined (saidIf one w f) (saidIf other w s)
+  second-joined p = rw e p
+
+-- in the first and not in the second
+module _ {one other : Bool} (e : one ≡ true) (g : other ≡ false) (w : ℕ) (f s : List ℕ) where
+  pub first-meets : true ≡ meets (saidIf one w f) (saidIf other w s)
+  first-meets = rw (e, g)
+
+  pub first-joins : true ≡ isSwap (joined (saidIf one w f) (saidIf other w s))
+  first-joins = rw (e, g)
+
+  pub first-joined : {r : Change} → r ≡ saidIf one w f → r ≡ joined (saidIf one w f) (saidIf other w s)
+  first-joined p = p ∙ rw (e, g)
+
+-- in both
+module _ {one other : Bool} (e : one ≡ true) (g : other ≡ true) (w p q : ℕ) (f s : List ℕ) where
+  places : (n : ℕ) → n + (2 + w) ≡ n + 2 + w
+  places n = omega arith
+
+  pub both-meet : {new old : ℕ} → new ≡ number (take w (drop (p + 2 + w) f)) → old ≡ number (take w (drop (q + 2) s)) → eqb new old ≡ meets (saidIf one w (drop p f)) (saidIf other w (drop q s))
+  both-meet a b = rw (e, g, drop-drop (2 + w) p f, places p, drop-drop 2 q s, a, b)
+
+  module _ {old new : ℕ} (a : old ≡ number (take w (drop (p + 2) f))) (b : new ≡ number (take w (drop (q + 2 + w) s))) where
+    both-are : joined (saidIf one w (drop p f)) (saidIf other w (drop q s)) ≡ differ old new
+    both-are = rw (e, g, drop-drop 2 p f, drop-drop (2 + w) q s, places q, a, b)
+
+    pub both-join : not (eqb old new) ≡ isSwap (joined (saidIf one w (drop p f)) (saidIf other w (drop q s)))
+    both-join = differs (eqb old new) ∙ sym (ap isSwap both-are)
+      where
+        differs : (t : Bool) → not t ≡ isSwap (cond t keep (swap old new))
+        differs true = refl
+        differs false = refl
+
+    pub both-joined : {r : Change} → r ≡ differ old new → r ≡ joined (saidIf one w (drop p f)) (saidIf other w (drop q s))
+    both-joined p = p ∙ sym both-are
 
 -- ---- the step
 
@@ -108,23 +193,35 @@ stepped {walk} {i} {w} {f} {p} {s} {q} {r} h k e = record {
 }
 
 -- each walk's step, from what its functions ensure
-module _ {walk : Walk} {i w : ℕ} {f : List ℕ} {p : ℕ} {s : List ℕ} {q : ℕ} (h : p ≤ length f) (k : q ≤ length s) where
-  pub difference-step : walk ≡ Walk.Difference → {m n a b : ℕ} {c : Change}
-      → m ≡ reach w (drop p f) → n ≡ reach w (drop q s) → a ≡ number (take m (drop p f)) → b ≡ number (take n (drop q s)) → c ≡ differ a b
-      → Stepped walk i w f p s q (record { change = c; agrees = true; first = m; second = n })
+module _ {i w : ℕ} {f : List ℕ} {p : ℕ} {s : List ℕ} {q : ℕ} where
+  pub difference-step : p + w ≤ length f → q + w ≤ length s → {a b : ℕ} {c : Change}
+      → a ≡ number (take w (drop p f)) → b ≡ number (take w (drop q s)) → c ≡ differ a b
+      → Stepped Walk.Difference i w f p s q (record { change = c; agrees = true; first = w; second = w })
   unfolding stepOf
-  difference-step t em en ea eb ec = stepped h k (rw (t, ec, ea, eb, em, en))
+  difference-step h k ea eb ec = stepped (omega arith) (omega arith) (rw (reach-whole w p f h, reach-whole w q s k, ec, ea, eb))
 
-  module _ {c : Change} (ec : c ≡ changeAt i w (drop p f)) where
-    pub join-step : walk ≡ Walk.Join → {d e : Change} {t : Bool} {m n : ℕ} → d ≡ changeAt i w (drop q s) → e ≡ joined c d → t ≡ meets c d → m ≡ span w c → n ≡ span w d
-        → Stepped walk i w f p s q (record { change = e; agrees = t; first = m; second = n })
-    unfolding stepOf
-    join-step t ed ee et em en = stepped h k (rw (t, ee, et, em, en, ec, ed))
+  pub join-step : p ≤ length f → q ≤ length s → {one other : Bool} → one ≡ names i w (drop p f) → other ≡ names i w (drop q s)
+      → {e : Change} {t : Bool} {m n : ℕ}
+      → e ≡ joined (saidIf one w (drop p f)) (saidIf other w (drop q s)) → t ≡ meets (saidIf one w (drop p f)) (saidIf other w (drop q s))
+      → m ≡ sizeIf one w → n ≡ sizeIf other w
+      → Stepped Walk.Join i w f p s q (record { change = e; agrees = t; first = m; second = n })
+  unfolding stepOf changeAt
+  join-step h k {one} {other} eo es ee et em en =
+      stepped h k (rw (ee, et, em, en, ← span-said one w (drop p f), ← span-said other w (drop q s), eo, es))
 
-    pub turn-step : walk ≡ Walk.Turn → {d : Change} {m : ℕ} → d ≡ back c → m ≡ span w c
-        → Stepped walk i w f p s q (record { change = d; agrees = true; first = m; second = 0 })
-    unfolding stepOf
-    turn-step t ed em = stepped h k (rw (t, ed, em, ec))
+  pub turn-step : p ≤ length f → q ≤ length s → {c d : Change} {m : ℕ} → c ≡ changeAt i w (drop p f) → d ≡ back c → m ≡ span w c
+      → Stepped Walk.Turn i w f p s q (record { change = d; agrees = true; first = m; second = 0 })
+  unfolding stepOf
+  turn-step h k ec ed em = stepped h k (rw (ed, em, ec))
+
+-- an entry counts by whether there is one
+pub count-swap : (c : Change) → countIf (isSwap c) ≡ entries (c ∷ [])
+count-swap keep = refl
+count-swap (swap old new) = refl
+
+pub size-swap : (w : ℕ) (c : Change) → sizeIf (isSwap c) w ≡ span w c
+size-swap w keep = refl
+size-swap w (swap old new) = refl
 
 -- ---- an element and an entry as they are written
 
@@ -173,7 +270,7 @@ module _ (part : List ℕ) (w : ℕ) {old new : ℕ} {c : Change} (l : length pa
 module _ (l : List ℕ) (at i n : ℕ) (h : i ≤ n) where
   -- no entry is left
   pub silent-cut : length l - at < 2 → Silent i n n (drop at l)
-  silent-cut c = record { on = h; within = omega arith; says = λ k w _ _. sym (entry-cut l at k w (omega arith)) }
+  silent-cut c = record { on = h; within = omega arith; says = λ k w _ _. says-cut (drop at l) k w (rw length-drop (omega arith)) }
 
   -- the next entry names an object that is passed, one past the end, or one between
   module _ {m : ℕ} (e : m ≡ number (take 2 (drop at l))) where
@@ -190,14 +287,14 @@ module _ (l : List ℕ) (at i n : ℕ) (h : i ≤ n) where
 pub idle-none : (walk : Walk) (i n : ℕ) (f s : List ℕ) → i ≤ n → Idle walk i i n f s
 idle-none walk i n f s h = record { on = omega arith; within = h; is = λ k w a b. absurd (omega arith) }
 
-pub idle-join : {walk : Walk} {i m n j : ℕ} {f s : List ℕ} → walk ≡ Walk.Join → Silent i m n f → Silent i j m s → Idle walk i j n f s
+pub idle-join : {i m n j : ℕ} {f s : List ℕ} → Silent i m n f → Silent i j m s → Idle Walk.Join i j n f s
 unfolding stepOf
-idle-join t a b = record {
+idle-join a b = record {
   on = b .on;
   within = omega (arith, a .within, b .within);
-  is = λ k w g h. rw (t, a .says k w g (omega (arith, b .within)), b .says k w g h);
+  is = λ k w g h. rw (a .says k w g (omega (arith, b .within)), b .says k w g h);
 }
 
-pub idle-turn : {walk : Walk} {i j n : ℕ} {f : List ℕ} (s : List ℕ) → walk ≡ Walk.Turn → Silent i j n f → Idle walk i j n f s
+pub idle-turn : {i j n : ℕ} {f : List ℕ} (s : List ℕ) → Silent i j n f → Idle Walk.Turn i j n f s
 unfolding stepOf
-idle-turn s t a = record { on = a .on; within = a .within; is = λ k w g h. rw (t, a .says k w g h) }
+idle-turn s a = record { on = a .on; within = a .within; is = λ k w g h. rw (a .says k w g h) }

@@ -2,7 +2,7 @@
 -- tie it to the meaning where the bytes are those of accepted forms.
 use Prim.Native.Nat.{ℕ, _+_, _≤_, _<_}
 use mathlib.Core.Path.{_≡_}
-use mathlib.Core.Bool.{true, cond}
+use mathlib.Core.Bool.{Bool, true, false, cond, _&&_}
 use mathlib.Core.List.{List, [], _++_}
 use lib.Dec.{eqb, leb}
 use lib.ListN.{length, take, drop}
@@ -11,7 +11,6 @@ use Rattle.history.specs.declared.Change.{Change}
 use Rattle.history.specs.declared.Change.the-variants.{Keep as keep, Swap as swap}
 use Rattle.history.specs.Operations.{differ, meets, joined, back}
 use Rattle.steps.specs.declared.Walk.{Walk}
-use Rattle.steps.specs.declared.Step.{Step}
 
 -- the bytes that an object's entry takes, and the entry itself
 abbrev pub span : ℕ → Change → ℕ
@@ -22,12 +21,28 @@ abbrev pub entryBytes : ℕ → ℕ → Change → List ℕ
 entryBytes i w keep = []
 entryBytes i w (swap old new) = bytes 2 i ++ (bytes w old ++ bytes w new)
 
--- what the entries b say of object i: their first entry, where it is whole and names the object
+-- the first entry of b is whole and names object i
+unfoldable pub names : ℕ → ℕ → List ℕ → Bool
+names i w b = leb (2 + (w + w)) (length b) && eqb (number (take 2 b)) i
+
+-- one where there is an entry; the bytes that it takes; and what it says
+abbrev pub countIf : Bool → ℕ
+countIf t = cond t 1 0
+
+abbrev pub sizeIf : Bool → ℕ → ℕ
+sizeIf t w = cond t (2 + (w + w)) 0
+
+abbrev pub saidIf : Bool → ℕ → List ℕ → Change
+saidIf t w b = cond t (swap (number (take w (drop 2 b))) (number (take w (drop (2 + w) b)))) keep
+
+-- what the entries b say of object i
 unfoldable pub changeAt : ℕ → ℕ → List ℕ → Change
-changeAt i w b =
-    cond (leb (2 + (w + w)) (length b))
-    (cond (eqb (number (take 2 b)) i) (swap (number (take w (drop 2 b))) (number (take w (drop (2 + w) b)))) keep)
-    keep
+changeAt i w b = saidIf (names i w b) w b
+
+-- there is an entry
+abbrev pub isSwap : Change → Bool
+isSwap keep = false
+isSwap (swap old new) = true
 
 -- the bytes that the first element of b takes, none where it is cut; and the element
 unfoldable pub reach : ℕ → List ℕ → ℕ
@@ -41,6 +56,13 @@ abbrev pub renewed : Change → List ℕ → List ℕ
 renewed keep b = b
 renewed (swap old new) b = bytes (length b) new
 
+-- at one object: its change, whether the two forms agree on it, and how far the cursor into each of them moves
+pub record Step : Type 0 where
+  pub change : Change
+  pub agrees : Bool
+  pub first : ℕ
+  pub second : ℕ
+
 -- the step at object i, of width w, where f and s are left of the two forms
 unfoldable pub stepOf : Walk → ℕ → ℕ → List ℕ → List ℕ → Step
 stepOf Walk.Difference i w f s = record { change = differ (wordAt w f) (wordAt w s); agrees = true; first = reach w f; second = reach w s }
@@ -52,7 +74,7 @@ stepOf Walk.Join i w f s = record {
 }
 stepOf Walk.Turn i w f s = record { change = back (changeAt i w f); agrees = true; first = span w (changeAt i w f); second = 0 }
 
--- a step of the code, where the cursors stand at p and q: neither leaves its form
+-- the step taken where the cursors stand at p and q: neither leaves its form
 pub record Stepped (walk : Walk) (i w : ℕ) (f : List ℕ) (p : ℕ) (s : List ℕ) (q : ℕ) (r : Step) : Type 0 where
   pub is : r ≡ stepOf walk i w (drop p f) (drop q s)
   pub near : p + r .first ≤ length f

@@ -12,7 +12,7 @@ ghost use Rattle.history.specs.Table.{kindAt};
 ghost use Rattle.history.specs.Changes.{entries};
 ghost use Rattle.history.specs.Operations.{differ, fits, meets, joined, back};
 ghost use Rattle.tables.specs.Outlines.{kindsOf};
-ghost use Rattle.steps.specs.Steps.{span, entryBytes, changeAt, reach, Stepped, Silent, Idle, renewed};
+ghost use Rattle.steps.specs.Steps.{span, entryBytes, names, countIf, sizeIf, saidIf, changeAt, isSwap, Silent, Idle, renewed};
 
 // What is walked for: the operations that make a list.
 pub enum Walk {
@@ -21,67 +21,10 @@ pub enum Walk {
     Turn,
 }
 
-// At one object: its change, whether the two forms agree on it, and how far the cursor into each of them moves.
-pub struct Step {
-    pub change: Change,
-    pub agrees: bool,
-    pub first: usize,
-    pub second: usize,
-}
+// ---- which object is next
 
-// An object's step, where the cursors stand at near in the first form and at far in the second.
-pub fn step_at(
-    walk: Walk,
-    object: usize,
-    width: usize,
-    first: &[u8],
-    near: usize,
-    second: &[u8],
-    far: usize,
-) -> Step
-    requires { ⌜ (near ≤ length (now first)) × (far ≤ length (now second)) × (width ≤ 4) ⌝ }
-    ensures { λ r. ⌜ Stepped walk object width (now (first .entry)) near (now (second .entry)) far r ⌝ }
-{
-    match walk {
-        Walk::Difference => {
-            let old = reach(first, near, width);
-            let new = reach(second, far, width);
-            Step {
-                change: differ(
-                    octets::get_at(first, near, old),
-                    octets::get_at(second, far, new),
-                ),
-                agrees: true,
-                first: old,
-                second: new,
-            }
-        }
-        Walk::Join => {
-            let one = change_at(first, near, object, width);
-            let other = change_at(second, far, object, width);
-            Step {
-                change: joined(one, other),
-                agrees: meets(one, other),
-                first: span(width, one),
-                second: span(width, other),
-            }
-        }
-        Walk::Turn => {
-            let one = change_at(first, near, object, width);
-            Step {
-                change: back(one),
-                agrees: true,
-                first: span(width, one),
-                second: 0,
-            }
-        }
-    }
-}
-
-// The next object from the given one on at which there may be something to do, or the end. Of images each object is compared; lists
-// jump to the next one that they name.
+// The next object from the given one on that one of two lists names, or the end.
 pub fn next(
-    walk: Walk,
     object: usize,
     end: usize,
     first: &[u8],
@@ -90,16 +33,10 @@ pub fn next(
     far: usize,
 ) -> usize
     requires { ⌜ (near ≤ length (now first)) × (far ≤ length (now second)) × (object ≤ end) ⌝ }
-    ensures { λ r. ⌜ Idle walk object r end (drop near (now (first .entry))) (drop far (now (second .entry))) ⌝ }
+    ensures { λ r. ⌜ Idle Walk.Join object r end (drop near (now (first .entry))) (drop far (now (second .entry))) ⌝ }
 {
-    match walk {
-        Walk::Difference => object,
-        Walk::Join => {
-            let one = named(first, near, object, end);
-            named(second, far, object, one)
-        }
-        Walk::Turn => named(first, near, object, end),
-    }
+    let one = named(first, near, object, end);
+    named(second, far, object, one)
 }
 
 // The object that the entries from a place on name first, or the end if it is not between the given object and the end.
@@ -120,15 +57,46 @@ pub fn named(entries: &[u8], at: usize, object: usize, end: usize) -> usize
     name
 }
 
-// What the entries from a place on say of the object.
-pub fn change_at(entries: &[u8], at: usize, object: usize, width: usize) -> Change
+// ---- what is said of an object
+
+// Whether the entry at a place is whole and names the object.
+pub fn names(entries: &[u8], at: usize, object: usize, width: usize) -> bool
     requires { ⌜ (at ≤ length (now entries)) × (width ≤ 4) ⌝ }
-    ensures { λ r. ⌜ r ≡ changeAt object width (drop at (now (entries .entry))) ⌝ }
+    ensures { λ r. ⌜ r ≡ names object width (drop at (now (entries .entry))) ⌝ }
 {
     if entries.len() - at < 2 + (width + width) {
-        return Change::Keep;
+        return false;
     }
-    if octets::get_at(entries, at, 2) as usize != object {
+    octets::get_at(entries, at, 2) as usize == object
+}
+
+// One where there is an entry.
+pub fn count_if(named: bool) -> usize
+    ensures { λ r. ⌜ (r ≡ countIf named) × (r ≤ 1) ⌝ }
+{
+    if !named {
+        return 0;
+    }
+    1
+}
+
+// How many bytes it takes.
+pub fn size_if(named: bool, width: usize) -> usize
+    requires { ⌜ width ≤ 4 ⌝ }
+    ensures { λ r. ⌜ (r ≡ sizeIf named width) × (r ≤ 10) ⌝ }
+{
+    if !named {
+        return 0;
+    }
+    2 + (width + width)
+}
+
+// What it says.
+fn said_if(named: bool, entries: &[u8], at: usize, width: usize) -> Change
+    requires { ⌜ (at + sizeIf named width ≤ length (now entries)) × (width ≤ 4) ⌝ }
+    ensures { λ r. ⌜ r ≡ saidIf named width (drop at (now (entries .entry))) ⌝ }
+{
+    if !named {
         return Change::Keep;
     }
     let middle = at + 2;
@@ -139,15 +107,87 @@ pub fn change_at(entries: &[u8], at: usize, object: usize, width: usize) -> Chan
     )
 }
 
-// How many bytes the element at a place takes: none where it is cut.
-fn reach(elements: &[u8], at: usize, width: usize) -> usize
-    requires { ⌜ at ≤ length (now elements) ⌝ }
-    ensures { λ r. ⌜ (r ≡ reach width (drop at (now (elements .entry)))) × (at + r ≤ length (now (elements .entry))) × (r ≤ width) ⌝ }
+// What the entries from a place on say of the object.
+pub fn change_at(entries: &[u8], at: usize, object: usize, width: usize) -> Change
+    requires { ⌜ (at ≤ length (now entries)) × (width ≤ 4) ⌝ }
+    ensures { λ r. ⌜ r ≡ changeAt object width (drop at (now (entries .entry))) ⌝ }
 {
-    if elements.len() - at < width {
-        return 0;
+    let named = names(entries, at, object, width);
+    said_if(named, entries, at, width)
+}
+
+// ---- an object in two lists, where it is known which of them name it: the elements are read only where they are compared or kept
+
+// In both: the first's new is the second's old.
+pub fn meet_at(
+    one: bool,
+    other: bool,
+    width: usize,
+    first: &[u8],
+    near: usize,
+    second: &[u8],
+    far: usize,
+) -> bool
+    requires { ⌜ (near + sizeIf one width ≤ length (now first)) × (far + sizeIf other width ≤ length (now second)) × (width ≤ 4) ⌝ }
+    ensures { λ r. ⌜ r ≡ meets (saidIf one width (drop near (now (first .entry)))) (saidIf other width (drop far (now (second .entry)))) ⌝ }
+{
+    if !one {
+        return true;
     }
-    width
+    if !other {
+        return true;
+    }
+    let new = octets::get_at(first, near + 2 + width, width);
+    let old = octets::get_at(second, far + 2, width);
+    new == old
+}
+
+// Whether the join names it: not where both do and the first's old is the second's new.
+pub fn joins_at(
+    one: bool,
+    other: bool,
+    width: usize,
+    first: &[u8],
+    near: usize,
+    second: &[u8],
+    far: usize,
+) -> bool
+    requires { ⌜ (near + sizeIf one width ≤ length (now first)) × (far + sizeIf other width ≤ length (now second)) × (width ≤ 4) ⌝ }
+    ensures { λ r. ⌜ r ≡ isSwap (joined (saidIf one width (drop near (now (first .entry)))) (saidIf other width (drop far (now (second .entry))))) ⌝ }
+{
+    if !one {
+        return other;
+    }
+    if !other {
+        return true;
+    }
+    let old = octets::get_at(first, near + 2, width);
+    let new = octets::get_at(second, far + 2 + width, width);
+    old != new
+}
+
+// In both: the first's old and the second's new, dropped if these are equal; in one: copied.
+pub fn joined_at(
+    one: bool,
+    other: bool,
+    width: usize,
+    first: &[u8],
+    near: usize,
+    second: &[u8],
+    far: usize,
+) -> Change
+    requires { ⌜ (near + sizeIf one width ≤ length (now first)) × (far + sizeIf other width ≤ length (now second)) × (width ≤ 4) ⌝ }
+    ensures { λ r. ⌜ r ≡ joined (saidIf one width (drop near (now (first .entry)))) (saidIf other width (drop far (now (second .entry)))) ⌝ }
+{
+    if !one {
+        return said_if(other, second, far, width);
+    }
+    if !other {
+        return said_if(one, first, near, width);
+    }
+    let before = octets::get_at(first, near + 2, width);
+    let after = octets::get_at(second, far + 2 + width, width);
+    differ(before, after)
 }
 
 // How many bytes the object's element takes.
@@ -206,7 +246,7 @@ pub fn count_of(change: Change) -> usize
 }
 
 // Old differs from new.
-fn differ(old: u32, new: u32) -> Change
+pub fn differ(old: u32, new: u32) -> Change
     ensures { λ r. ⌜ r ≡ differ old new ⌝ }
 {
     if old != new {
@@ -215,34 +255,8 @@ fn differ(old: u32, new: u32) -> Change
     Change::Keep
 }
 
-// In both: the first's old and the second's new, dropped if these are equal; in one: copied.
-fn joined(first: Change, second: Change) -> Change
-    ensures { λ r. ⌜ r ≡ joined first second ⌝ }
-{
-    let Change::Swap(old, _) = first else {
-        return second;
-    };
-    let Change::Swap(_, new) = second else {
-        return first;
-    };
-    differ(old, new)
-}
-
-// In both: the first's new is the second's old.
-fn meets(first: Change, second: Change) -> bool
-    ensures { λ r. ⌜ r ≡ meets first second ⌝ }
-{
-    let Change::Swap(_, new) = first else {
-        return true;
-    };
-    let Change::Swap(old, _) = second else {
-        return true;
-    };
-    new == old
-}
-
 // Old with new.
-fn back(change: Change) -> Change
+pub fn back(change: Change) -> Change
     ensures { λ r. ⌜ r ≡ back change ⌝ }
 {
     let Change::Swap(old, new) = change else {

@@ -24,7 +24,7 @@ use Rattle.octets.proofs.Writing.{Filling, begin, along, keeps, write, ended, u
 use Rattle.tables.specs.Outlines.{kindsOf}
 use Rattle.forms.proofs.KindLaws.{kinds-next, kinds-end}
 use Rattle.steps.specs.Steps.{span, changeAt, Silent, renewed}
-use Rattle.steps.proofs.Leaves.{span-room}
+use Rattle.steps.proofs.Leaves.{said-inside}
 use Rattle.walks.specs.Walks.{unfit, renewal}
 use Rattle.walks.proofs.Runs.{pass}
 
@@ -50,7 +50,7 @@ module _ {ns e : List ℕ} {n at p i : ℕ} (z : Places ns e n at p i) where
     module _ {m : ℕ} {c : Change} (ec : c ≡ changeAt i w (drop p e)) (em : m ≡ span w c) where
       -- .. and so is the entry
       pub entry-inside : p + m ≤ length e
-      entry-inside = omega (arith, span-room i w (drop p e), length-drop p e, em ∙ ap (span w) ec, z .near)
+      entry-inside = said-inside e p i w (z .near) ec em
 
       next-places : Places ns e n (at + w) (p + m) (i + 1)
       next-places = record { inside = omega arith; near = entry-inside; room = omega (arith, z .room, ap widths (kinds-next ns i h)) }

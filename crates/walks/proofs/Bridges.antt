@@ -25,8 +25,8 @@ use Rattle.history.proofs.ChangeLaws.{lawful-swap}
 use Rattle.history.proofs.ElementLaws.{admits-fits}
 use Rattle.history.proofs.ListLaws.{length-entries, entries-few}
 use Rattle.steps.specs.declared.Walk.{Walk}
-use Rattle.steps.specs.Steps.{span, entryBytes, changeAt, reach, stepOf, renewed}
-use Rattle.steps.proofs.Leaves.{says-nothing}
+use Rattle.steps.specs.Steps.{span, entryBytes, names, changeAt, reach, stepOf, renewed}
+use Rattle.steps.proofs.Leaves.{says-nothing, says-cut}
 use Rattle.walks.specs.Walks.{walked, Measured, misfit, unfit, renewal}
 
 -- ---- one object's entry
@@ -44,8 +44,7 @@ length-entry i w (swap old new) = simp (length-append, length-bytes)
 -- later objects' entries say nothing of object i
 none-here : {ks : List Kind} {cs : List Change} (i w j : ℕ) → i < j → j + length ks ≤ 65536 → Every lawful ks cs
     → changeAt i w (entriesBytes j ks cs) ≡ keep
-unfolding changeAt
-none-here i w j h s nil = rw (lt-leb (2 + (w + w)) 0 (omega arith))
+none-here i w j h s nil = says-cut [] i w (omega arith)
 none-here i w j h s (and {b = keep} p ps) = none-here i w (suc j) (omega arith) (omega arith) ps
 none-here i w j h s (and {a = k} {b = swap old new} {xs = ks} {ys = cs} p ps) =
     says-nothing (entriesBytes j (k ∷ ks) (swap old new ∷ cs)) i w (sym (read-bytes 2 j _ (omega arith))) (λ e. omega arith)
@@ -61,7 +60,7 @@ after-entry i k ks c cs = rw (entries-cons i k ks c cs) (drop-at (entryBytes i (
 
 swap-here : (i w old new : ℕ) (r : List ℕ) → i < 65536 → old < 256 ^ w → new < 256 ^ w
     → changeAt i w (bytes 2 i ++ (bytes w old ++ (bytes w new ++ r))) ≡ swap old new
-unfolding changeAt
+unfolding changeAt names
 swap-here i w old new r h ho hn =
     let c : List ℕ = bytes w new ++ r in
     let b : List ℕ = bytes w old ++ c in
@@ -154,12 +153,6 @@ turn-measured {ks} {cs} b h ps = record {
 }
 
 -- ---- the lowest object on which the forms do not agree
-
--- a difference refuses nothing
-pub difference-misfit : (i : ℕ) (ks : List Kind) (f s : List ℕ) → misfit Walk.Difference i ks f s ≡ i + length ks
-unfolding misfit stepOf
-difference-misfit i [] f s = omega arith
-difference-misfit i (k ∷ ks) f s = difference-misfit (suc i) ks _ _ ∙ omega arith
 
 module _ {C : Type 0} (code : ℕ) (value : C) where
   -- m below n is refused; else the value

@@ -18,12 +18,11 @@ use Rattle.history.specs.Table.{kindAt}
 use Rattle.history.specs.Changes.{entriesBytes, entries}
 use Rattle.octets.proofs.Writing.{Filling, begin, along, keeps, has-room, write, ended}
 use Rattle.steps.specs.declared.Walk.{Walk}
-use Rattle.steps.specs.declared.Step.{Step}
 use Rattle.tables.specs.Outlines.{kindsOf}
-use Rattle.steps.specs.Steps.{span, entryBytes, Stepped, idle, Idle}
+use Rattle.steps.specs.Steps.{span, entryBytes, Step, Stepped, idle, Idle}
 use Rattle.walks.specs.declared.Survey.{Survey}
 use Rattle.walks.specs.Walks.{walked, walkBytes, Measured, Surveyed, misfit}
-use Rattle.walks.proofs.Bridges.{entries-cons, length-entry, difference-misfit}
+use Rattle.walks.proofs.Bridges.{entries-cons, length-entry}
 use Rattle.walks.proofs.Runs.{run}
 use Rattle.forms.proofs.KindLaws.{length-kinds, kinds-next, kinds-end}
 
@@ -178,22 +177,16 @@ module _ {walk : Walk} {ns f s : List ℕ} {count size p q i : ℕ} (z : Sizing 
   pub sized-until : i < length ns → {w : ℕ} {r : Step} → w ≡ widthOf (kindAt (kindsOf ns) i) → Stepped walk i w f p s q r → r .agrees ≡ false → Surveyed walk ns f s survey
   sized-until h e t b = record { found = misfit-here (z .seek) h e t b; inside = omega arith; measured = λ k. absurd (omega arith) }
 
-  pub all-sized : length ns ≤ i → length ns ≤ 1024 → Surveyed walk ns f s survey
-  all-sized h few = record {
-    found = all-sought (z .seek) h;
-    inside = z .seek .inside;
-    measured =
-        λ _. record {
-          entries = omega (arith, ap entries (left-end walk ns f s i p q h));
-          bytes = omega (arith, ap length (bytes-end walk ns f s i p q h));
-          few = omega arith;
-          short = omega arith;
-        };
+  pub all-measured : length ns ≤ i → length ns ≤ 1024 → Measured walk (kindsOf ns) f s count size
+  all-measured h few = record {
+    entries = omega (arith, ap entries (left-end walk ns f s i p q h));
+    bytes = omega (arith, ap length (bytes-end walk ns f s i p q h));
+    few = omega arith;
+    short = omega arith;
   }
 
--- a difference is measured to the end
-pub difference-measured : {ns f s : List ℕ} {r : Survey} → Surveyed Walk.Difference ns f s r → Measured Walk.Difference (kindsOf ns) f s (r .size .count) (r .size .bytes)
-difference-measured {ns} {f} {s} y = y .measured (omega (arith, y .found, difference-misfit 0 (kindsOf ns) f s, length-kinds ns))
+  pub all-sized : length ns ≤ i → length ns ≤ 1024 → Surveyed walk ns f s survey
+  all-sized h few = record { found = all-sought (z .seek) h; inside = z .seek .inside; measured = λ _. all-measured h few }
 
 -- ---- writing the entries
 

@@ -11,6 +11,7 @@ use Rattle.kinds.specs.declared.Kind.{Kind}
 use Rattle.history.specs.declared.Change.{Change}
 use Rattle.history.specs.Changes.{entriesBytes, entries}
 use Rattle.history.specs.Operations.{fits}
+use Rattle.history.specs.Image.{widths}
 use Rattle.tables.specs.Outlines.{kindsOf}
 use Rattle.steps.specs.declared.Walk.{Walk}
 use Rattle.steps.specs.Steps.{span, changeAt, stepOf, renewed}
@@ -25,6 +26,17 @@ walked walk i (k ∷ ks) f s =
 
 abbrev pub walkBytes : Walk → ℕ → List Kind → List ℕ → List ℕ → List ℕ
 walkBytes walk i ks f s = entriesBytes i ks (walked walk i ks f s)
+
+-- the two are the elements of images: as many bytes as the objects' elements take
+pub record Elements (ns f s : List ℕ) : Type 0 where
+  pub first : length f ≡ widths (kindsOf ns)
+  pub second : length s ≡ widths (kindsOf ns)
+
+-- what is asked of the two forms
+abbrev pub Asked : Walk → List ℕ → List ℕ → List ℕ → Type 0
+Asked Walk.Difference ns f s = Elements ns f s
+Asked Walk.Join ns f s = Unit {0}
+Asked Walk.Turn ns f s = Unit {0}
 
 -- their size
 pub record Measured (walk : Walk) (ks : List Kind) (f s : List ℕ) (count size : ℕ) : Type 0 where

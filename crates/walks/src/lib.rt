@@ -1,13 +1,13 @@
-// One walk for the operations that make a list: it goes from object to object, with a cursor into each of two forms, and takes the
-// step at each. Application goes along a list's entries and an image's elements. All loops jump over objects of which the lists say
-// nothing. It takes any bytes, refuses nothing and knows no form's head; whoever calls it has checked the forms.
+// The loops over the objects, for each operation on change lists: from object to object, with a cursor into each of two forms. Lists jump
+// over the objects that they don't name. A difference and an application ask that an image's elements are as many bytes as the objects'
+// take; of entries it takes any bytes. It refuses nothing and knows no form's head; whoever calls it has checked the forms.
 use steps::Walk;
 ghost use mathlib.Core.Path.{_≡_};
 ghost use Prim.Native.Nat.{_≤_};
 ghost use lib.ListN.{length};
 ghost use Rattle.history.specs.Image.{widths};
 ghost use Rattle.tables.specs.Outlines.{kindsOf};
-ghost use Rattle.walks.specs.Walks.{walkBytes, Surveyed, unfit, renewal};
+ghost use Rattle.walks.specs.Walks.{walkBytes, Elements, Asked, Measured, Surveyed, unfit, renewal};
 
 // How many entries, and how many bytes they take.
 pub struct Size {
@@ -21,10 +21,35 @@ pub struct Survey {
     pub size: Size,
 }
 
-// Looks for a misfit and measures the changes' entries in one pass.
-pub fn measure(walk: Walk, kinds: &[u8], first: &[u8], second: &[u8]) -> Survey
+// ---- a list measured
+
+// The size of the list from the elements of one image to those of another.
+pub fn measure_difference(kinds: &[u8], old: &[u8], new: &[u8]) -> Size
     requires { ⌜ length (now kinds) ≤ 1024 ⌝ }
-    ensures { λ r. ⌜ Surveyed walk (now (kinds .entry)) (now (first .entry)) (now (second .entry)) r ⌝ }
+    requires { ⌜ Elements (now kinds) (now old) (now new) ⌝ }
+    ensures { λ r. ⌜ Measured Walk.Difference (kindsOf (now (kinds .entry))) (now (old .entry)) (now (new .entry)) (r .count) (r .bytes) ⌝ }
+{
+    let mut count: usize = 0;
+    let mut bytes: usize = 0;
+    let mut at: usize = 0;
+    let mut i: usize = 0;
+    while i < kinds.len() {
+        let width = steps::width_at(kinds, i);
+        let before = octets::get_at(old, at, width);
+        let after = octets::get_at(new, at, width);
+        let change = steps::differ(before, after);
+        count += steps::count_of(change);
+        bytes += steps::span(width, change);
+        at += width;
+        i += 1;
+    }
+    Size { count, bytes }
+}
+
+// Looks for a misfit of two lists and measures their join in one pass.
+pub fn measure_join(kinds: &[u8], first: &[u8], second: &[u8]) -> Survey
+    requires { ⌜ length (now kinds) ≤ 1024 ⌝ }
+    ensures { λ r. ⌜ Surveyed Walk.Join (now (kinds .entry)) (now (first .entry)) (now (second .entry)) r ⌝ }
 {
     let mut count: usize = 0;
     let mut bytes: usize = 0;
@@ -33,19 +58,20 @@ pub fn measure(walk: Walk, kinds: &[u8], first: &[u8], second: &[u8]) -> Survey
     let mut i: usize = 0;
     while i < kinds.len() {
         let width = steps::width_at(kinds, i);
-        let step = steps::step_at(walk, i, width, first, near, second, far);
-        if !step.agrees {
+        let one = steps::names(first, near, i, width);
+        let other = steps::names(second, far, i, width);
+        if !steps::meet_at(one, other, width, first, near, second, far) {
             return Survey {
                 misfit: i,
                 size: Size { count, bytes },
             };
         }
-        let change = step.change;
-        count += steps::count_of(change);
-        bytes += steps::span(width, change);
-        near += step.first;
-        far += step.second;
-        i = steps::next(walk, i + 1, kinds.len(), first, near, second, far);
+        let kept = steps::joins_at(one, other, width, first, near, second, far);
+        count += steps::count_if(kept);
+        bytes += steps::size_if(kept, width);
+        near += steps::size_if(one, width);
+        far += steps::size_if(other, width);
+        i = steps::next(i + 1, kinds.len(), first, near, second, far);
     }
     Survey {
         misfit: i,
@@ -53,11 +79,50 @@ pub fn measure(walk: Walk, kinds: &[u8], first: &[u8], second: &[u8]) -> Survey
     }
 }
 
+// ---- a list written
+
 // Fills the part with the changes' entries.
 pub fn put_changes(part: &mut [u8], walk: Walk, kinds: &[u8], first: &[u8], second: &[u8])
     requires { ⌜ length (now kinds) ≤ 1024 ⌝ }
+    requires { ⌜ Asked walk (now kinds) (now first) (now second) ⌝ }
     requires { ⌜ length (now part) ≡ length (walkBytes walk 0 (kindsOf (now kinds)) (now first) (now second)) ⌝ }
     ensures { λ _. ⌜ now (part .exit) ≡ walkBytes walk 0 (kindsOf (now (kinds .entry))) (now (first .entry)) (now (second .entry)) ⌝ }
+{
+    match walk {
+        Walk::Difference => put_difference(part, kinds, first, second),
+        Walk::Join => put_joined(part, kinds, first, second),
+        Walk::Turn => put_turned(part, kinds, first, second),
+    }
+}
+
+// .. of the changes from the elements of one image to those of another.
+fn put_difference(part: &mut [u8], kinds: &[u8], old: &[u8], new: &[u8])
+    requires { ⌜ length (now kinds) ≤ 1024 ⌝ }
+    requires { ⌜ Elements (now kinds) (now old) (now new) ⌝ }
+    requires { ⌜ length (now part) ≡ length (walkBytes Walk.Difference 0 (kindsOf (now kinds)) (now old) (now new)) ⌝ }
+    ensures { λ _. ⌜ now (part .exit) ≡ walkBytes Walk.Difference 0 (kindsOf (now (kinds .entry))) (now (old .entry)) (now (new .entry)) ⌝ }
+{
+    let mut at: usize = 0;
+    let mut place: usize = 0;
+    let mut i: usize = 0;
+    while i < kinds.len() {
+        let width = steps::width_at(kinds, i);
+        let before = octets::get_at(old, place, width);
+        let after = octets::get_at(new, place, width);
+        let change = steps::differ(before, after);
+        let end = at + steps::span(width, change);
+        steps::put_change(&mut part[at..end], i as u32, width, change);
+        at = end;
+        place += width;
+        i += 1;
+    }
+}
+
+// .. of the join of two lists.
+fn put_joined(part: &mut [u8], kinds: &[u8], first: &[u8], second: &[u8])
+    requires { ⌜ length (now kinds) ≤ 1024 ⌝ }
+    requires { ⌜ length (now part) ≡ length (walkBytes Walk.Join 0 (kindsOf (now kinds)) (now first) (now second)) ⌝ }
+    ensures { λ _. ⌜ now (part .exit) ≡ walkBytes Walk.Join 0 (kindsOf (now (kinds .entry))) (now (first .entry)) (now (second .entry)) ⌝ }
 {
     let mut at: usize = 0;
     let mut near: usize = 0;
@@ -65,16 +130,40 @@ pub fn put_changes(part: &mut [u8], walk: Walk, kinds: &[u8], first: &[u8], seco
     let mut i: usize = 0;
     while i < kinds.len() {
         let width = steps::width_at(kinds, i);
-        let step = steps::step_at(walk, i, width, first, near, second, far);
-        let change = step.change;
+        let one = steps::names(first, near, i, width);
+        let other = steps::names(second, far, i, width);
+        let change = steps::joined_at(one, other, width, first, near, second, far);
         let end = at + steps::span(width, change);
         steps::put_change(&mut part[at..end], i as u32, width, change);
         at = end;
-        near += step.first;
-        far += step.second;
-        i = steps::next(walk, i + 1, kinds.len(), first, near, second, far);
+        near += steps::size_if(one, width);
+        far += steps::size_if(other, width);
+        i = steps::next(i + 1, kinds.len(), first, near, second, far);
     }
 }
+
+// .. of the list turned back; there is no second form.
+fn put_turned(part: &mut [u8], kinds: &[u8], entries: &[u8], none: &[u8])
+    requires { ⌜ length (now kinds) ≤ 1024 ⌝ }
+    requires { ⌜ length (now part) ≡ length (walkBytes Walk.Turn 0 (kindsOf (now kinds)) (now entries) (now none)) ⌝ }
+    ensures { λ _. ⌜ now (part .exit) ≡ walkBytes Walk.Turn 0 (kindsOf (now (kinds .entry))) (now (entries .entry)) (now (none .entry)) ⌝ }
+{
+    let mut at: usize = 0;
+    let mut entry_at: usize = 0;
+    let mut i: usize = 0;
+    while i < kinds.len() {
+        let width = steps::width_at(kinds, i);
+        let said = steps::change_at(entries, entry_at, i, width);
+        let change = steps::back(said);
+        let end = at + steps::span(width, change);
+        steps::put_change(&mut part[at..end], i as u32, width, change);
+        at = end;
+        entry_at += steps::span(width, said);
+        i = steps::named(entries, entry_at, i + 1, kinds.len());
+    }
+}
+
+// ---- a list taken into an image
 
 // The lowest object whose element is not its entry's old one, or the count of objects.
 pub fn find_unfit(kinds: &[u8], entries: &[u8], elements: &[u8]) -> usize

@@ -29,7 +29,7 @@ write-list-spec =
     (λ c. search needs)
     (λ c. search needs)
     (λ c. search needs)
-    (λ c κs. search needs)
+    (λ c κs. (search needs, (search needs, search needs)))
     (λ c. search needs)
     (λ c κs. search needs)
     (λ c. search needs)

@@ -1,7 +1,7 @@
--- `steps::change_at` meets its contract: an entry that is cut, or another object's, says nothing.
+-- `steps::change_at` meets its contract: what the entry at the place says, if it names the object.
 -- Assumes nothing.
 use borrow.Author.Needs.{needs}
-use Rattle.steps.proofs.Leaves.{entry-cut, entry-other, entry-named}
+use Rattle.steps.proofs.Leaves.{names-inside, said-at}
 use Rattle.steps.proofs.change_at.Statement.{statement}
 use Rattle.steps.proofs.change_at.Tie as tie
 
@@ -9,15 +9,6 @@ pub change-at-spec : {M : Type 1} → statement M
 change-at-spec =
     tie.close
     (tie.spec
-    (λ c. search needs)
-    (λ c. search needs)
-    (λ c. search needs)
-    (λ c. search entry-cut)
     (λ c κs. search needs)
-    (λ c. search needs)
-    (λ c. search entry-other)
-    (λ c. search needs)
-    (λ c. search needs)
-    (λ c κs. search needs)
-    (λ c κs. search needs)
-    (λ c. search entry-named))
+    (λ c κs. search (names-inside, needs))
+    (λ c. search said-at))

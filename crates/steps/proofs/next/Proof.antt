@@ -1,7 +1,7 @@
--- `steps::next` meets its contract: an object that neither list names is passed; images pass none.
+-- `steps::next` meets its contract: an object that neither list names is passed.
 -- Assumes nothing.
 use borrow.Author.Needs.{needs}
-use Rattle.steps.proofs.Leaves.{idle-none, idle-join, idle-turn}
+use Rattle.steps.proofs.Leaves.{idle-join}
 use Rattle.steps.proofs.next.Statement.{statement}
 use Rattle.steps.proofs.next.Tie as tie
 
@@ -9,12 +9,6 @@ pub next-spec : {M : Type 1} → statement M
 next-spec =
     tie.close
     (tie.spec
-    (λ c. search needs)
-    (λ c. search needs)
     (λ c κs. search needs)
     (λ c κs. search needs)
-    (λ c. search needs)
-    (λ c κs. search needs)
-    (λ c. search idle-none)
-    (λ c. search idle-join)
-    (λ c. search idle-turn))
+    (λ c. search idle-join))

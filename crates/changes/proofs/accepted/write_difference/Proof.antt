@@ -2,8 +2,7 @@
 -- Assumes nothing.
 use borrow.Author.Needs.{needs}
 use Rattle.history.proofs.OutputLaws.{leaves-as}
-use Rattle.walks.proofs.Turns.{difference-measured}
-use Rattle.changes.proofs.Parts.{image-head}
+use Rattle.changes.proofs.Parts.{image-head, elements-length}
 use Rattle.changes.proofs.Outcomes.{difference-is}
 use Rattle.changes.proofs.accepted.write_difference.Statement.{statement}
 use Rattle.changes.proofs.accepted.write_difference.Tie as tie
@@ -28,7 +27,7 @@ write-difference-spec =
     (λ c κs. search (image-head, needs))
     (λ c κs. search image-head)
     (λ c κs. search image-head)
-    (λ c κs. search needs)
-    (λ c κs. (search needs, search difference-measured))
+    (λ c κs. (search needs, record { first = search elements-length; second = search elements-length }))
+    (λ c κs. (search needs, (record { first = search elements-length; second = search elements-length }, search needs)))
     (λ c. search needs)
     returns)

@@ -27,7 +27,7 @@ returns-3 c =
     let end = start .before in
     let known = end .before .before .before .before .before in
     leaves-as _
-    (join-is _ _ _ (known .pre .0) (known .pre .1 .0) (known .pre .1 .1) (end .get-at .ensures .0) (start .get-at2 .ensures .0) (tested .if1 .left) (first .entries-of .ensures) (second .entries-of2 .ensures) (sized .measure .ensures .found) (agreed .if2 .left) (from .get-at3 .ensures .0) (to .get-at4 .ensures .0))
+    (join-is _ _ _ (known .pre .0) (known .pre .1 .0) (known .pre .1 .1) (end .get-at .ensures .0) (start .get-at2 .ensures .0) (tested .if1 .left) (first .entries-of .ensures) (second .entries-of2 .ensures) (sized .measure-join .ensures .found) (agreed .if2 .left) (from .get-at3 .ensures .0) (to .get-at4 .ensures .0))
     (wrote .write-list .ensures)
 
 pub write-joined-spec : {M : Type 1} → statement M
@@ -46,6 +46,6 @@ write-joined-spec =
     returns-2
     (λ c κs. search (from-inside, needs))
     (λ c κs. search (to-inside, needs))
-    (λ c κs. (search needs, search join-size))
+    (λ c κs. (search needs, (tt {0}, search join-size)))
     (λ c. search needs)
     returns-3)

@@ -23,6 +23,6 @@ write-turned-spec =
     (λ c. search needs)
     (λ c. search needs)
     (λ c. search needs)
-    (λ c κs. (search needs, search turn-size))
+    (λ c κs. (search needs, (tt {0}, search turn-size)))
     (λ c. search needs)
     returns)
