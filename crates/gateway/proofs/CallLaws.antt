@@ -24,7 +24,7 @@ use Rattle.history.specs.Image.{element, _of_⨾_}
 use Rattle.history.specs.Calls.{readStateCall, Place, labelPlace, labelCall}
 use Rattle.history.specs.Legal.{LegalTable}
 use Rattle.history.proofs.OutputLaws.{Leaves}
-use Rattle.history.proofs.CodeLaws.{Coded, read-call-coded}
+use Rattle.history.proofs.CodeLaws.{Coded, not-zero, read-call-coded}
 use Rattle.history.proofs.VerdictLaws.{held, used}
 use Rattle.history.proofs.TableLaws.{nobody, table-is}
 use Rattle.tables.specs.LabelPlaces.{labelTold}
@@ -119,7 +119,7 @@ module _ (fields : List ℕ) {p : Plain} where
 
   show : (v : Verdict Element) → Coded v → p ≡ plainOf (readingOf v) → p .answer .code ≡ 0 → p .fields ≡ fieldsAfter v fields
   unfolding plainOf shownOf readingOf fieldsAfter
-  show (refused code object bit) c e z = absurd (omega (arith, c .0, ap (λ (p : Plain). p .answer .code) e))
+  show (refused code object bit) c e z = not-zero c (sym (ap (λ (p : Plain). p .answer .code) e) ∙ z)
   show (done state) c e z = ap (λ (p : Plain). p .fields) e
 
 module _ (T A : List ℕ) (i : ℕ) (fields : List ℕ) {p : Plain} (is : p ≡ plainOf (readingOf (readStateCall T A i))) where

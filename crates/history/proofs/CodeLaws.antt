@@ -116,7 +116,7 @@ module _ (t : List ℕ) where
 
 -- ---- code 0 tells success
 
-not-zero : {A : Type 0} {code : ℕ} → IsCode code → code ≡ 0 → A
+pub not-zero : {A : Type 0} {code : ℕ} → IsCode code → code ≡ 0 → A
 not-zero h e = absurd (false≢true (sym (ap (oneOf codes) e) ∙ h))
 
 -- of a call that writes: there was room for what it found
