@@ -1,9 +1,10 @@
-// Requests and answers as text, for the programs that run stored requests: where a byte stands, bytes in hex and decimal numbers read,
-// and an answer's numbers and bytes printed. It is proved safe and says no more; it knows no call of the product.
+// Requests and answers as text, for the program that runs stored requests: a named value of a line, bytes in hex and decimal numbers
+// read, and an answer's numbers and bytes printed. It is proved safe and says no more; it knows no call of the product.
 use history::Answer;
 use libc::STDOUT_FILENO;
 ghost use Prim.Native.Nat.{_≤_};
 ghost use lib.ListN.{length};
+ghost use Rattle.io.specs.Counts.{Counts};
 
 // Where a byte stands first from a place on; the end where it doesn't.
 pub fn find(text: &[u8], from: usize, byte: u8) -> usize
@@ -17,6 +18,60 @@ pub fn find(text: &[u8], from: usize, byte: u8) -> usize
         i += 1;
     }
     text.len()
+}
+
+// Does a line begin with a word, which has a byte at least?
+pub fn begins(line: &[u8], word: &[u8]) -> bool {
+    0 < behind(line, 0, word)
+}
+
+// Where a value begins, behind ` name=`; the line's end where the line doesn't name it.
+pub fn value_of(line: &[u8], name: &[u8]) -> usize
+    ensures { λ r. ⌜ r ≤ length (now (line .entry)) ⌝ }
+{
+    let mut i = 0;
+    while i < line.len() {
+        let place = behind(line, i, name);
+        if 0 < place {
+            return place;
+        }
+        i += 1;
+    }
+    line.len()
+}
+
+// The place behind a word that stands at a place of a line; 0 where something else stands there.
+fn behind(line: &[u8], at: usize, word: &[u8]) -> usize
+    ensures { λ r. ⌜ r ≤ length (now (line .entry)) ⌝ }
+{
+    let mut place = at;
+    let mut i = 0;
+    while i < word.len() {
+        if line.len() <= place {
+            return 0;
+        }
+        if line[place] != word[i] {
+            return 0;
+        }
+        place += 1;
+        i += 1;
+    }
+    if line.len() < place {
+        return 0;
+    }
+    place
+}
+
+// The bytes that a line names, in hex, as many as have room; how many.
+pub fn bytes_of(line: &[u8], name: &[u8], out: &mut [u8]) -> usize
+    ensures { λ r. ⌜ Counts r (now (out .exit)) ⌝ }
+{
+    decode(line, value_of(line, name), out)
+}
+
+// The number that a line names, in 32 bits; 0 where it names none.
+pub fn number_of(line: &[u8], name: &[u8]) -> u32 {
+    decimal(line, value_of(line, name))
 }
 
 // The value of a hex digit in lower case; 16 for any other byte.
@@ -39,8 +94,8 @@ fn digit(byte: u8) -> u8
 }
 
 // The bytes that stand in hex from a place on, as many as there are and as have room; how many.
-pub fn decode(text: &[u8], from: usize, out: &mut [u8]) -> usize
-    ensures { λ r. ⌜ r ≤ length (now (out .entry)) ⌝ }
+fn decode(text: &[u8], from: usize, out: &mut [u8]) -> usize
+    ensures { λ r. ⌜ Counts r (now (out .exit)) ⌝ }
 {
     let mut i = from;
     let mut n = 0;
@@ -84,15 +139,37 @@ pub fn decimal(text: &[u8], from: usize) -> u32 {
     (value % 4294967296) as u32
 }
 
+// Numbers with commas between; places behind the last have what comes of reading on.
+pub fn numbers(text: &[u8], from: usize) -> [u32; 32] {
+    let mut values = [0u32; 32];
+    let mut at = from;
+    let mut k: usize = 0;
+    while k < 32 {
+        values[k] = decimal(text, at);
+        at = find(text, at, b',') + 1;
+        k += 1;
+    }
+    values
+}
+
 // Prints the four numbers of an answer, with a space between.
 pub fn print_answer(answer: Answer) {
-    print_number(answer.code as u32);
+    print_four(
+        answer.code as u32,
+        answer.object as u32,
+        answer.bit as u32,
+        answer.length,
+    );
+}
+
+pub fn print_four(code: u32, object: u32, bit: u32, length: u32) {
+    print_number(code);
     print(b" ");
-    print_number(answer.object as u32);
+    print_number(object);
     print(b" ");
-    print_number(answer.bit as u32);
+    print_number(bit);
     print(b" ");
-    print_number(answer.length);
+    print_number(length);
 }
 
 // Prints bytes in hex, `-` where there are none.
@@ -109,6 +186,21 @@ pub fn print_hex(bytes: &[u8]) {
 
 fn print_byte(byte: u8) {
     io::print_hex(STDOUT_FILENO, byte as u64, 2);
+}
+
+// Prints the first numbers, with commas between.
+pub fn print_numbers(values: [u32; 32], count: usize) {
+    let mut k: usize = 0;
+    while k < 32 {
+        if count <= k {
+            return;
+        }
+        if 0 < k {
+            print(b",");
+        }
+        print_number(values[k]);
+        k += 1;
+    }
 }
 
 // Prints a number in decimal.

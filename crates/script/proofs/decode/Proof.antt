@@ -4,6 +4,7 @@ use mathlib.Core.Path.{_≡_}
 use Prim.Native.Nat.{_≤_, _-_}
 use native.Mathlib.Omega.{arith}
 use lib.ListN.{length, length-set}
+use Rattle.io.proofs.Counting.{counts}
 use Rattle.script.proofs.decode.Statement.{statement}
 use Rattle.script.proofs.decode.Tie as tie
 
@@ -20,7 +21,7 @@ same-length : tie.Need-same-length Inv-loop μ-loop
 same-length c = omega arith
 
 returns : tie.Need-returns Inv-loop μ-loop
-returns c = omega arith
+returns c = counts _ _ (omega arith)
 
 sub-if2 : tie.Need-sub-if2 Inv-loop μ-loop
 sub-if2 c = omega arith
@@ -29,7 +30,7 @@ same-length-2 : tie.Need-same-length-2 Inv-loop μ-loop
 same-length-2 c = omega arith
 
 returns-2 : tie.Need-returns-2 Inv-loop μ-loop
-returns-2 c = omega arith
+returns-2 c = counts _ _ (omega arith)
 
 shared-slice-read-digit : tie.Need-shared-slice-read-digit Inv-loop μ-loop
 shared-slice-read-digit c = omega arith
@@ -50,13 +51,13 @@ same-length-3 : tie.Need-same-length-3 Inv-loop μ-loop
 same-length-3 c = omega arith
 
 returns-3 : tie.Need-returns-3 Inv-loop μ-loop
-returns-3 c = omega arith
+returns-3 c = counts _ _ (omega arith)
 
 same-length-4 : tie.Need-same-length-4 Inv-loop μ-loop
 same-length-4 c = omega arith
 
 returns-4 : tie.Need-returns-4 Inv-loop μ-loop
-returns-4 c = omega arith
+returns-4 c = counts _ _ (omega arith)
 
 mul-out : tie.Need-mul-out Inv-loop μ-loop
 mul-out c = omega arith
@@ -83,7 +84,7 @@ same-length-5 : tie.Need-same-length-5 Inv-loop μ-loop
 same-length-5 c = omega arith
 
 returns-5 : tie.Need-returns-5 Inv-loop μ-loop
-returns-5 c = omega arith
+returns-5 c = counts _ _ (omega arith)
 
 pub decode-spec : {M : Type 1} → statement M
 decode-spec =
