@@ -17,10 +17,10 @@ use Rattle.history.proofs.Demands.{has-difference, apply-of-difference, only-li
 
 -- into any buffer of at least n bytes a call writes b: 0, 65535, 255 and b's length, b in front, the rest as it was
 abbrev pub Gives : Verdict (List ℕ) → ℕ → List ℕ → Type 0
-Gives v n b = (out : List ℕ) → n ≤ length out → Success b out (settled v out)
+Gives v n b = (length b ≤ n) × ((out : List ℕ) → length b ≤ length out → Success b out (settled v out))
 
 gives : {v : Verdict (List ℕ)} {n : ℕ} {b : List ℕ} → v ≡ done b → length b ≤ n → Gives v n b
-gives e h out room = succeeds out e (omega arith)
+gives e h = (h, λ out room. succeeds out e room)
 
 -- "Under one accepted table": every call succeeds, and no list takes more room than four images
 pub record Demand3 (T A B C : List ℕ) : Type 0 where

@@ -33,8 +33,8 @@ module _ (t a : List ℕ) (four : 4 ≤ length t) (fills : length t ≡ 4 + numb
   size = ap (λ (b : List ℕ). 4 + number b) (take-append-le 4 t a four) ∙ sym fills
 
   -- it is split where the table ends
-  parted : listingOf (t ++ a) ≡ printed (textOf (readBoth t a))
-  unfolding listingOf listingCall readPanel
+  parted : listingCall (t ++ a) ≡ textOf (readBoth t a)
+  unfolding listingCall readPanel
   parted =
       let all = length-append t a in
       rw (
@@ -45,6 +45,14 @@ module _ (t a : List ℕ) (four : 4 ≤ length t) (fills : length t ≡ 4 + numb
         take-at t a (length t) refl,
         drop-at t a (length t) refl,
       )
+
+  listed-is : listingOf (t ++ a) ≡ printed (textOf (readBoth t a))
+  unfolding listingOf
+  listed-is = ap printed parted
+
+  -- a listing tells what the image's check tells, but for the length
+  pub listing-told : told (listingCall (t ++ a)) ≡ told (imageCall t a)
+  listing-told = ap told parted ∙ sym (both-told t a)
 
 -- ---- by the calls
 
@@ -60,11 +68,11 @@ both-read t a e f = let g = rw e at f in rw (e, g)
 -- an accepted table and image, one behind the other
 pub panel-printed : (t a : List ℕ) {table : Table} {image : Image} → length t + length a ≤ 65536 → tableCall t ≡ done table → imageCall t a ≡ done image
     → listingOf (t ++ a) ≡ panelText table image
-panel-printed t a few e f = let w = table-fills t e in parted t a (w .0) (w .1) few ∙ both-read t a e f
+panel-printed t a few e f = let w = table-fills t e in listed-is t a (w .0) (w .1) few ∙ both-read t a e f
 
 -- a refusal, of either: the numbers are those of the image's check
 pub refusal-printed : (t a : List ℕ) → 4 ≤ length t → length t ≡ 4 + number (take 4 t) → length t + length a ≤ 65536
     → {c : Answer} → c ≡ told (imageCall t a) → (c .code ≡ 0 → ⊥) → listingOf (t ++ a) ≡ refusedLine (c .code) (c .object) (c .bit)
 refusal-printed t a four fills few e n =
     let same = e ∙ both-told t a in
-    parted t a four fills few ∙ line-is (textOf (readBoth t a)) (λ z. n (ap (λ (c : Answer). c .code) same ∙ z)) ∙ ap (λ (c : Answer). refusedLine (c .code) (c .object) (c .bit)) (sym same)
+    listed-is t a four fills few ∙ line-is (textOf (readBoth t a)) (λ z. n (ap (λ (c : Answer). c .code) same ∙ z)) ∙ ap (λ (c : Answer). refusedLine (c .code) (c .object) (c .bit)) (sym same)
