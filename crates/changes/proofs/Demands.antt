@@ -15,7 +15,7 @@ use Rattle.history.proofs.CodeLaws.{delivered, apply-call-coded, join-call-code
 use Rattle.history.proofs.SizeLaws.{OneJoin}
 use Rattle.history.proofs.Demands.{has-difference, apply-of-difference, only-list, join-of-differences, turned-difference, three-lists, difference-not-longer, join-not-longer}
 
--- into any buffer of at least n bytes a call writes b: 0, 65535, 255 and b's length, b in front, the rest as it was
+-- into any buffer with room for b, which n bytes have, a call writes b: 0, 65535, 255 and b's length, b in front, the rest as it was
 abbrev pub Gives : Verdict (List ℕ) → ℕ → List ℕ → Type 0
 Gives v n b = (length b ≤ n) × ((out : List ℕ) → length b ≤ length out → Success b out (settled v out))
 
