@@ -3,9 +3,10 @@
 //     CALL name=value ..                      a request
 //     CODE OBJECT BIT LENGTH name=value ..    its answer
 //
-// Bytes are lower-case hex, `-` where there are none, and numbers decimal. A lent output stands whole: as it is before the call in the
-// request, and after it in the answer. A state is TYPE:v,v,.. (the fields that aren't reserved, from bit 0 up) or none, a standing
-// applied,late,gap,other. An element's catalogue is 1.0 where none is named. A line that begins with # is printed as it is.
+// Bytes are lower-case hex, `-` where there are none; numbers are decimal. A lent output is given whole: in the request
+// as it is before the call, in the answer as it is after. A state is TYPE:v,v,.. (the fields that aren't reserved, from
+// bit 0 up) or none. A standing is applied,late,gap,other. An element's catalogue is 1.0 where none is named. A line
+// that begins with # is printed as it is. It is proved safe and says no more.
 mod objects;
 mod operations;
 mod under_table;
@@ -25,9 +26,9 @@ ghost use lib.ListN.{length};
 const TEXT: usize = 200000;
 // How often text is read, 12 megabytes in all.
 const TURNS: usize = 64;
-// Room for a table, and for an image or a list.
+// Room for a table.
 const TABLE: usize = 52000;
-
+// Room for an image or a list.
 const FORM: usize = 12000;
 
 fn main() {
@@ -51,7 +52,7 @@ fn take_text(text: &mut [u8], held: usize) -> usize {
     keep_rest(text, done, end)
 }
 
-// Answers each line that ends; where the first that doesn't begins.
+// Answers each line that ends; the place where what is left begins.
 fn answer_lines(text: &[u8]) -> usize
     ensures { λ r. ⌜ r ≤ length (now (text .entry)) ⌝ }
 {

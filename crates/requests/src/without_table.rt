@@ -6,11 +6,11 @@ use script::print_four;
 use script::print_hex;
 use script::value_of;
 
-// Room for an element, for a listing's input, which may be a byte longer than is taken, and for its text.
+// Room for an element.
 const ELEMENT: usize = 8;
-
+// Room for a listing's input, one byte more than is taken.
 const DATA: usize = 65537;
-
+// Room for its text.
 const LISTED: usize = 65536;
 
 // By the call for C, which alone takes a catalogue.

@@ -1,5 +1,6 @@
-// Requests and answers as text, for the program that runs stored requests: a named value of a line, bytes in hex and decimal numbers
-// read, and an answer's numbers and bytes printed. It is proved safe and says no more; it knows no call of the product.
+// Requests and answers as text, for the program that runs stored requests: a line's values by their names, bytes in hex
+// and decimal numbers read, and an answer's numbers and bytes printed. It is proved safe and says no more; it knows no
+// call of the product.
 use history::Answer;
 use libc::STDOUT_FILENO;
 ghost use Prim.Native.Nat.{_≤_};
