@@ -1,11 +1,11 @@
 // The floor of the listing: from a table and an image, one behind the other, to their text in a lent buffer. It uses the checks of
 // forms and the writers of text; it keeps nothing, and writes nothing but the text.
+mod both;
 mod lines;
-mod panel;
 
+use both::put_panel;
 use history::Answer;
 use lines::put_refusal;
-use panel::put_panel;
 use tables::refused;
 use tables::short;
 use tables::written;

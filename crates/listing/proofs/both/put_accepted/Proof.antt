@@ -1,11 +1,11 @@
--- `listing::panel::put_accepted` meets its contract: the first line from the heads of both forms, and then the others.
+-- `listing::both::put_accepted` meets its contract: the first line from the heads of both forms, and then the others.
 -- Assumes nothing.
 use native.Mathlib.Omega.{arith}
 use borrow.Author.Needs.{needs}
 use Rattle.listing.proofs.Fits.{lines-room, lines-cast}
 use Rattle.listing.proofs.PanelLaws.{nine, eleven, few, lines-answer, lines-output}
-use Rattle.listing.proofs.panel.put_accepted.Statement.{statement}
-use Rattle.listing.proofs.panel.put_accepted.Tie as tie
+use Rattle.listing.proofs.both.put_accepted.Statement.{statement}
+use Rattle.listing.proofs.both.put_accepted.Tie as tie
 
 put-objects-requires : tie.Need-put-objects-requires
 put-objects-requires c κs = (search, search lines-room)

@@ -1,10 +1,10 @@
--- `listing::panel::put_panel` meets its contract: the first refusal, or the lines of what is accepted.
+-- `listing::both::put_panel` meets its contract: the first refusal, or the lines of what is accepted.
 -- Assumes nothing.
 use borrow.Author.Needs.{needs}
 use Rattle.history.proofs.OutputLaws.{told-leaves}
 use Rattle.listing.proofs.PanelLaws.{table-told, image-told, ready}
-use Rattle.listing.proofs.panel.put_panel.Statement.{statement}
-use Rattle.listing.proofs.panel.put_panel.Tie as tie
+use Rattle.listing.proofs.both.put_panel.Statement.{statement}
+use Rattle.listing.proofs.both.put_panel.Tie as tie
 
 returns : tie.Need-returns
 returns c = told-leaves _ _ (search (table-told, needs)) (c .if1 .taken)
