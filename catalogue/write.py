@@ -8,8 +8,10 @@ fields.tsv has a line for each row of each layout: layout number, mnemonic of th
 lowest bit, width, highest admitted value, English name, type (bool, an enum of cases.tsv, or - where reserved).
 cases.tsv has a line for each named case of each enum: enum, value, case, meaning.
 types.tsv has a line for each type that is carried: X of the catalogue, type, number of its layout.
-The names are held to the annex by law files that are kept by hand: proofs/Annex.antt of cases and states is left as it is.
+A line that doesn't fit is refused. The names are held to the annex by law files that are kept by hand: proofs/Annex.antt of cases, states
+and elements is left as it is.
 """
+import itertools
 import os
 import shutil
 import subprocess
@@ -24,18 +26,41 @@ BY_HAND = 'Annex.antt'
 WHOLE = [f'{crate}/{part}' for crate in ('cases', 'states', 'kinds') for part in ('src', 'specs', 'proofs')] + ['elements/proofs/types']
 
 
+class Line(dict):
+    """A line of a table by its columns, which says where it stands if something is wrong with it."""
+
+    def __init__(self, file, place, head, cells):
+        super().__init__(zip(head, cells))
+        self.file, self.place = file, place
+        self.need(len(cells) == len(head), f'{len(cells)} columns and not {len(head)}')
+        self.need(all(cell and cell == cell.strip() for cell in cells), 'a column is empty or has a blank at its end')
+
+    def need(self, holds, why):
+        if not holds:
+            sys.exit(f'catalogue/{self.file}, line {self.place}: {why}')
+
+    def number(self, column, least, most):
+        text = self[column]
+        self.need(text.isascii() and text.isdigit() and text == str(int(text)) and least <= int(text) <= most,
+                  f'{column} is {text}, which is no number from {least} to {most} (without leading zeros)')
+        return int(text)
+
+
 def table(name):
     with open(os.path.join(HERE, name)) as f:
         lines = [line.rstrip('\n').split('\t') for line in f]
-    return [dict(zip(lines[0], line)) for line in lines[1:]]
+    return [Line(name, place, lines[0], cells) for place, cells in enumerate(lines[1:], 2)]
 
 
 class Row:
     def __init__(self, place, line):
-        self.place = place
+        self.place, self.line = place, line
         self.field, self.name, self.type = line['field'], line['name'], line['type']
-        self.low, self.width, self.top = int(line['low']), int(line['width']), int(line['top'])
+        self.low, self.width = line.number('low', 0, 31), line.number('width', 1, 32)
+        self.top = line.number('top', 0, min(2 ** self.width - 1, 255))
         self.reserved, self.bit = self.type == '-', self.type == 'bool'
+        line.need(self.reserved == (self.top == 0) == (self.name == '-'), 'a reserved row, and no other, has top 0, name - and type -')
+        line.need(self.reserved or self.bit == (self.width == 1), 'a field of one bit, and no other, is a bool')
         self.named = not self.reserved and not self.bit
         self.key = f'«{self.name}»' if '_' in self.name else self.name
 
@@ -58,31 +83,54 @@ def low(name):
     return name[0].lower() + name[1:]
 
 
-def read():
+def read_layouts():
     layouts, first = [], 0
-    lines = table('fields.tsv')
-    for number in dict.fromkeys(line['layout'] for line in lines):
-        own = [line for line in lines if line['layout'] == number]
-        rows = [Row(i, line) for i, line in enumerate(own)]
-        layouts.append(Layout(len(layouts), int(number), own[0]['mnemonic'], own[0]['struct'], first, rows))
+    for _, own in itertools.groupby(table('fields.tsv'), lambda line: line['layout']):
+        rows, end = [Row(i, line) for i, line in enumerate(own)], 0
+        line = rows[0].line
+        number, mnemonic, struct = line.number('layout', 1, 255), line['mnemonic'], line['struct']
+        line.need(all(number != l.number for l in layouts), f'layout {number} begins a second time')
+        line.need(all(struct != l.struct for l in layouts), f'{struct} is the struct of another layout')
+        for r in rows:
+            r.line.need((r.line['mnemonic'], r.line['struct']) == (mnemonic, struct), f'the rows of layout {number} begin with {mnemonic} {struct}')
+            r.line.need(r.low == end, f'low is {r.low}, and the row before ends below bit {end}')
+            end += r.width
+        r.line.need(end in (8, 16, 24, 32) and len(rows) <= 24, f'{end} bits in {len(rows)} rows: not 1 to 4 bytes in at most 24 rows')
+        layouts.append(Layout(len(layouts), number, mnemonic, struct, first, rows))
         first += len(rows)
-    enums = {}
+    return layouts
+
+
+def read_enums(layouts):
+    enums, named = {}, [r for l in layouts for r in l.named]
     for line in table('cases.tsv'):
         cases = enums.setdefault(line['enum'], [])
-        assert int(line['value']) == len(cases), line
+        line.need(any(r.type == line['enum'] for r in named), f'no field is of {line["enum"]}')
+        line.need(line.number('value', 0, 255) == len(cases), f'the next value of {line["enum"]} is {len(cases)}')
         cases.append((line['case'], line['meaning']))
-    for l in layouts:
-        for r in l.named:
-            assert len(enums[r.type]) == r.top + 1, (l.struct, r.field)
-    catalogues = {}
+    for r in named:
+        count = len(enums.get(r.type, []))
+        r.line.need(count == r.top + 1, f'top is {r.top}, and {r.type} has {count} cases')
+    return enums
+
+
+def read_types(layouts):
+    catalogues, carried = {}, set()
     for line in table('types.tsv'):
-        types = catalogues.setdefault(int(line['x']), {})
-        assert line['type'] not in types, line
-        types[line['type']] = next(l for l in layouts if l.number == int(line['layout']))
-    return layouts, enums, catalogues
+        types = catalogues.setdefault(line.number('x', 0, 255), {})
+        number, layout = line.number('type', 0, 255), line.number('layout', 1, 255)
+        line.need(number not in types, f'type {number} stands there already')
+        line.need(any(l.number == layout for l in layouts), f'fields.tsv has no layout {layout}')
+        types[number] = next(l for l in layouts if l.number == layout)
+        carried.add(layout)
+    for l in layouts:
+        l.rows[0].line.need(l.number in carried, f'types.tsv has no type of layout {l.number}')
+    return catalogues
 
 
-LAYOUTS, ENUMS, CATALOGUES = read()
+LAYOUTS = read_layouts()
+ENUMS = read_enums(LAYOUTS)
+CATALOGUES = read_types(LAYOUTS)
 TOTAL = sum(len(l.rows) for l in LAYOUTS)
 STRUCTS = [l.struct for l in LAYOUTS]
 BITS = sorted({r.place for l in LAYOUTS for r in l.fields if r.bit})
@@ -513,8 +561,8 @@ def kinds_source():
 
     kind = lambda l: f'Kind::{l.struct}'
     text = f'''// The floor of kinds: the kinds of element, one for each layout, the state of any kind, and every function that goes by the kind.
-// Written by catalogue/write.py from catalogue/fields.tsv. It refuses nothing: whoever adds a type adds it here, and the floors
-// above go by the layout.
+// Written by catalogue/write.py from catalogue/fields.tsv, where a type is added. It refuses nothing; the floors above go by the
+// layout.
 use rows::Layout;
 use rows::Marks;
 {''.join(f"use states::{s};{chr(10)}" for s in sorted(STRUCTS))}
@@ -1062,16 +1110,19 @@ def files():
 
 
 def remove_left(root, paths):
-    """Removes what is no longer written in the folders that are written whole, but for the law files kept by hand."""
-    crates = os.path.join(root, 'crates')
+    """Removes what is no longer written in the folders that are written whole, but for the law files kept by hand, and gives its paths."""
+    crates, removed = os.path.join(root, 'crates'), []
     for part in WHOLE:
         for folder, _, found in os.walk(os.path.join(crates, part), topdown=False):
             for name in found:
                 full = os.path.join(folder, name)
-                if os.path.relpath(full, crates) not in paths and name != BY_HAND:
+                path = os.path.relpath(full, crates)
+                if path not in paths and name != BY_HAND:
                     os.remove(full)
+                    removed.append(path)
             if not os.listdir(folder):
                 os.rmdir(folder)
+    return removed
 
 
 def write(root):
@@ -1081,10 +1132,11 @@ def write(root):
         os.makedirs(os.path.dirname(full), exist_ok=True)
         with open(full, 'w') as f:
             f.write(text)
-    remove_left(root, paths)
+    removed = remove_left(root, paths)
     done = subprocess.run(['rt', 'fmt'], cwd=root, capture_output=True, text=True)
     if done.returncode:
         sys.exit(done.stdout + done.stderr)
+    return removed
 
 
 def check():
@@ -1111,4 +1163,5 @@ if __name__ == '__main__':
     elif sys.argv[1:]:
         sys.exit(__doc__)
     else:
-        write(ROOT)
+        for path in write(ROOT):
+            print(f'removed crates/{path}')

@@ -1,6 +1,6 @@
 // The floor of kinds: the kinds of element, one for each layout, the state of any kind, and every function that goes by the kind.
-// Written by catalogue/write.py from catalogue/fields.tsv. It refuses nothing: whoever adds a type adds it here, and the floors
-// above go by the layout.
+// Written by catalogue/write.py from catalogue/fields.tsv, where a type is added. It refuses nothing; the floors above go by the
+// layout.
 use rows::Layout;
 use rows::Marks;
 use states::ChangerSignal;
