@@ -2,14 +2,13 @@
 -- faults, of which the lower is named, 12 last; and which kinds have DAT.
 -- Assumes nothing.
 use mathlib.Core.Path.{_≡_, refl}
-use mathlib.Core.Bool.{true, false, not}
+use mathlib.Core.Bool.{Bool, true, false}
 use mathlib.Core.List.{[], _∷_, map}
-use lib.Dec.{eqb}
 use Rattle.octets.specs.Octets.{number}
 use Rattle.rows.specs.Table.{table, layouts}
 use Rattle.rows.specs.Fields.{codeAt}
 use Rattle.rows.specs.declared.Finding.{Finding}
-use Rattle.kinds.specs.Kinds.{layoutOf, layoutNo, kinds}
+use Rattle.kinds.specs.Kinds.{layoutOf, kinds}
 use Rattle.cases.specs.declared.ChangerAspect.{ChangerAspect}
 use Rattle.cases.specs.declared.SignalKind.{SignalKind}
 use Rattle.cases.specs.declared.SignalAspect.{SignalAspect}
@@ -41,7 +40,19 @@ pub two-faults : (elementCheck Kind.ChangerSignal 0x81 ≡ Finding.Refused (code
 unfolding table layouts datRule elementCheck
 two-faults = (refl, refl, refl, refl, refl)
 
--- all but the general notices, type 22
-pub which-have-dat : map (λ (k : Kind). layoutOf k .dat) kinds ≡ map (λ (k : Kind). not (eqb (layoutNo k) 22)) kinds
+-- typed from the annex, a line for each kind: bit 0 of all but AVG is DAT
+pub which-have-dat : map {B = Kind × Bool} (λ (k : Kind). (k, layoutOf k .dat)) kinds ≡
+    (Kind.Signal, true) ∷  -- SIG
+    (Kind.ChangerSignal, true) ∷  -- IC
+    (Kind.VirtualBoard, true) ∷  -- PV
+    (Kind.LineTrackCircuit, true) ∷  -- CV
+    (Kind.PointsTrackCircuit, true) ∷  -- CVA
+    (Kind.CrossingTrackCircuit, true) ∷  -- CVX
+    (Kind.DualDetection, true) ∷  -- SDT
+    (Kind.Points, true) ∷  -- AG
+    (Kind.ElectricLock, true) ∷  -- BOU
+    (Kind.GeneralNotices, false) ∷  -- AVG
+    (Kind.ControlBoundary, true) ∷  -- FRA
+    []
 unfolding table layouts
 which-have-dat = refl
