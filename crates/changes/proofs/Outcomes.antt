@@ -65,7 +65,7 @@ module _ (x y : ℕ) (ns : List ℕ) (few : length ns ≤ 1024) where
   -- ---- joining
 
   -- its size is measured where no object is a misfit
-  pub join-size : {f s : List ℕ} {r : Survey} → Surveyed Walk.Join ns f s r → length ns ≤ r .misfit → Measured Walk.Join (kindsOf ns) f s (r .size .count) (r .size .bytes)
+  pub join-size : {f s : List ℕ} {r : Survey} → Surveyed ns f s r → length ns ≤ r .misfit → Measured Walk.Join (kindsOf ns) f s (r .size .count) (r .size .bytes)
   join-size y h = y .measured h
 
   module _ {L M : List ℕ} (l : AcceptedList (planAs x y ns) L) (m : AcceptedList (planAs x y ns) M) where

@@ -1,7 +1,7 @@
 // The objects' kinds, from their layout numbers.
 use kinds::Kind;
 ghost use mathlib.Core.Path.{_≡_};
-ghost use Prim.Native.Nat.{_+_, _≤_, _<_};
+ghost use Prim.Native.Nat.{_≤_, _<_};
 ghost use lib.ListN.{length};
 ghost use Rattle.history.specs.Table.{kindAt};
 ghost use Rattle.history.specs.Image.{widths};

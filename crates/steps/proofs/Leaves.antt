@@ -2,13 +2,13 @@
 -- Assumes nothing.
 use Prim.Native.Nat.{ℕ, _+_, _-_, _≤_, _<_}
 use native.Mathlib.Omega.{arith}
-use mathlib.Core.Path.{_≡_, refl, sym, ap, ap₂, _∙_}
+use mathlib.Core.Path.{_≡_, refl, sym, ap, _∙_}
 use mathlib.Core.Bool.{Bool, true, false, cond, not, _&&_}
 use mathlib.Core.List.{List, [], _∷_, _++_, append-assoc}
 use lib.Dec.{eqb, leb}
 use lib.ListN.{length, take, drop, length-drop}
 use lib.Seq.{drop-drop}
-use borrow.Author.Tests.{eq-eqb, ne-eqb, le-leb, lt-leb, leb-true}
+use borrow.Author.Tests.{ne-eqb, le-leb, lt-leb, leb-true}
 use borrow.Rule.Slice.PartMut.{putMid, midOf}
 use Rattle.octets.specs.Octets.{bytes, number}
 use Rattle.octets.proofs.Writing.{start, append-put, filled}
@@ -17,22 +17,7 @@ use Rattle.history.specs.declared.Change.the-variants.{Keep as keep, Swap as sw
 use Rattle.history.specs.Changes.{entries}
 use Rattle.history.specs.Operations.{differ, meets, joined, back}
 use Rattle.steps.specs.declared.Walk.{Walk}
-use Rattle.steps.specs.Steps.{span, entryBytes, names, countIf, sizeIf, saidIf, changeAt, isSwap, reach, Step, stepOf, Stepped, Silent, Idle, renewed}
-
--- ---- an element at a cursor
-
--- it is not cut
-reach-whole : (w p : ℕ) (b : List ℕ) → p + w ≤ length b → reach w (drop p b) ≡ w
-unfolding reach
-reach-whole w p b h = rw (length-drop, le-leb w (length b - p) (omega arith))
-
-reach-room : (w : ℕ) (b : List ℕ) → reach w b ≤ length b
-unfolding reach
-reach-room w b = go (leb w (length b)) refl
-  where
-    go : (t : Bool) → leb w (length b) ≡ t → cond t w 0 ≤ length b
-    go true e = leb-true _ _ e
-    go false e = omega arith
+use Rattle.steps.specs.Steps.{span, entryBytes, names, countIf, sizeIf, saidIf, changeAt, isSwap, stepOf, Stepped, Silent, Idle, renewed}
 
 -- ---- an entry at a cursor
 
@@ -119,6 +104,14 @@ pub said-at : (i w : ℕ) (b : List ℕ) {t : Bool} {c : Change} → t ≡ names
 unfolding changeAt
 said-at i w b e f = f ∙ ap (λ (u : Bool). saidIf u w b) e
 
+-- there is an entry where the elements differ
+pub differ-swap : (old new : ℕ) → not (eqb old new) ≡ isSwap (differ old new)
+differ-swap old new = differs (eqb old new)
+  where
+    differs : (t : Bool) → not t ≡ isSwap (cond t keep (swap old new))
+    differs true = refl
+    differs false = refl
+
 -- ---- an object in two lists
 
 -- not in the first
@@ -160,37 +153,12 @@ module _ {one other : Bool} (e : one ≡ true) (g : other ≡ true) (w p q : ℕ
     both-are = rw (e, g, drop-drop 2 p f, drop-drop (2 + w) q s, places q, a, b)
 
     pub both-join : not (eqb old new) ≡ isSwap (joined (saidIf one w (drop p f)) (saidIf other w (drop q s)))
-    both-join = differs (eqb old new) ∙ sym (ap isSwap both-are)
-      where
-        differs : (t : Bool) → not t ≡ isSwap (cond t keep (swap old new))
-        differs true = refl
-        differs false = refl
+    both-join = differ-swap old new ∙ sym (ap isSwap both-are)
 
     pub both-joined : {r : Change} → r ≡ differ old new → r ≡ joined (saidIf one w (drop p f)) (saidIf other w (drop q s))
     both-joined p = p ∙ sym both-are
 
 -- ---- the step
-
-near-room : (walk : Walk) (i w : ℕ) (f s : List ℕ) → stepOf walk i w f s .first ≤ length f
-unfolding stepOf
-near-room Walk.Difference i w f s = reach-room w f
-near-room Walk.Join i w f s = span-room i w f
-near-room Walk.Turn i w f s = span-room i w f
-
-far-room : (walk : Walk) (i w : ℕ) (f s : List ℕ) → stepOf walk i w f s .second ≤ length s
-unfolding stepOf
-far-room Walk.Difference i w f s = reach-room w s
-far-room Walk.Join i w f s = span-room i w s
-far-room Walk.Turn i w f s = omega arith
-
--- a step as defined leaves neither form
-stepped : {walk : Walk} {i w : ℕ} {f : List ℕ} {p : ℕ} {s : List ℕ} {q : ℕ} {r : Step} → p ≤ length f → q ≤ length s
-    → r ≡ stepOf walk i w (drop p f) (drop q s) → Stepped walk i w f p s q r
-stepped {walk} {i} {w} {f} {p} {s} {q} {r} h k e = record {
-  is = e;
-  near = omega (arith, near-room walk i w (drop p f) (drop q s), length-drop p f, ap (λ (r : Step). r .first) e);
-  far = omega (arith, far-room walk i w (drop p f) (drop q s), length-drop q s, ap (λ (r : Step). r .second) e);
-}
 
 -- each walk's step, from what its functions ensure
 module _ {i w : ℕ} {f : List ℕ} {p : ℕ} {s : List ℕ} {q : ℕ} where
@@ -198,7 +166,7 @@ module _ {i w : ℕ} {f : List ℕ} {p : ℕ} {s : List ℕ} {q : ℕ} where
       → a ≡ number (take w (drop p f)) → b ≡ number (take w (drop q s)) → c ≡ differ a b
       → Stepped Walk.Difference i w f p s q (record { change = c; agrees = true; first = w; second = w })
   unfolding stepOf
-  difference-step h k ea eb ec = stepped (omega arith) (omega arith) (rw (reach-whole w p f h, reach-whole w q s k, ec, ea, eb))
+  difference-step h k ea eb ec = record { is = rw (ec, ea, eb); near = h; far = k }
 
   pub join-step : p ≤ length f → q ≤ length s → {one other : Bool} → one ≡ names i w (drop p f) → other ≡ names i w (drop q s)
       → {e : Change} {t : Bool} {m n : ℕ}
@@ -206,13 +174,16 @@ module _ {i w : ℕ} {f : List ℕ} {p : ℕ} {s : List ℕ} {q : ℕ} where
       → m ≡ sizeIf one w → n ≡ sizeIf other w
       → Stepped Walk.Join i w f p s q (record { change = e; agrees = t; first = m; second = n })
   unfolding stepOf changeAt
-  join-step h k {one} {other} eo es ee et em en =
-      stepped h k (rw (ee, et, em, en, ← span-said one w (drop p f), ← span-said other w (drop q s), eo, es))
+  join-step h k {one} {other} eo es ee et em en = record {
+    is = rw (ee, et, em, en, ← span-said one w (drop p f), ← span-said other w (drop q s), eo, es);
+    near = omega (arith, names-inside f p i w h eo, em);
+    far = omega (arith, names-inside s q i w k es, en);
+  }
 
   pub turn-step : p ≤ length f → q ≤ length s → {c d : Change} {m : ℕ} → c ≡ changeAt i w (drop p f) → d ≡ back c → m ≡ span w c
       → Stepped Walk.Turn i w f p s q (record { change = d; agrees = true; first = m; second = 0 })
   unfolding stepOf
-  turn-step h k ec ed em = stepped h k (rw (ed, em, ec))
+  turn-step h k ec ed em = record { is = rw (ed, em, ec); near = said-inside f p i w h ec em; far = omega arith }
 
 -- an entry counts by whether there is one
 pub count-swap : (c : Change) → countIf (isSwap c) ≡ entries (c ∷ [])

@@ -44,13 +44,6 @@ abbrev pub isSwap : Change → Bool
 isSwap keep = false
 isSwap (swap old new) = true
 
--- the bytes that the first element of b takes, none where it is cut; and the element
-unfoldable pub reach : ℕ → List ℕ → ℕ
-reach w b = cond (leb w (length b)) w 0
-
-abbrev pub wordAt : ℕ → List ℕ → ℕ
-wordAt w b = number (take (reach w b) b)
-
 -- the element b after a change
 abbrev pub renewed : Change → List ℕ → List ℕ
 renewed keep b = b
@@ -65,7 +58,7 @@ pub record Step : Type 0 where
 
 -- the step at object i, of width w, where f and s are left of the two forms
 unfoldable pub stepOf : Walk → ℕ → ℕ → List ℕ → List ℕ → Step
-stepOf Walk.Difference i w f s = record { change = differ (wordAt w f) (wordAt w s); agrees = true; first = reach w f; second = reach w s }
+stepOf Walk.Difference i w f s = record { change = differ (number (take w f)) (number (take w s)); agrees = true; first = w; second = w }
 stepOf Walk.Join i w f s = record {
   change = joined (changeAt i w f) (changeAt i w s);
   agrees = meets (changeAt i w f) (changeAt i w s);

@@ -5,11 +5,9 @@ use forms::kind_at;
 use history::Change;
 ghost use mathlib.Core.Path.{_≡_};
 ghost use Prim.Native.Nat.{_+_, _≤_, _<_};
-ghost use mathlib.Core.List.{[], _∷_};
 ghost use lib.ListN.{length, drop};
 ghost use Rattle.kinds.specs.Kinds.{widthOf};
 ghost use Rattle.history.specs.Table.{kindAt};
-ghost use Rattle.history.specs.Changes.{entries};
 ghost use Rattle.history.specs.Operations.{differ, fits, meets, joined, back};
 ghost use Rattle.tables.specs.Outlines.{kindsOf};
 ghost use Rattle.steps.specs.Steps.{span, entryBytes, names, countIf, sizeIf, saidIf, changeAt, isSwap, Silent, Idle, renewed};
@@ -233,16 +231,6 @@ pub fn span(width: usize, change: Change) -> usize
         return 0;
     }
     2 + (width + width)
-}
-
-// How many entries it is.
-pub fn count_of(change: Change) -> usize
-    ensures { λ r. ⌜ (r ≡ entries (change ∷ [])) × (r ≤ 1) ⌝ }
-{
-    if let Change::Keep = change {
-        return 0;
-    }
-    1
 }
 
 // Old differs from new.

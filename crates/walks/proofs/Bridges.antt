@@ -25,7 +25,7 @@ use Rattle.history.proofs.ChangeLaws.{lawful-swap}
 use Rattle.history.proofs.ElementLaws.{admits-fits}
 use Rattle.history.proofs.ListLaws.{length-entries, entries-few}
 use Rattle.steps.specs.declared.Walk.{Walk}
-use Rattle.steps.specs.Steps.{span, entryBytes, names, changeAt, reach, stepOf, renewed}
+use Rattle.steps.specs.Steps.{span, entryBytes, names, changeAt, stepOf, renewed}
 use Rattle.steps.proofs.Leaves.{says-nothing, says-cut}
 use Rattle.walks.specs.Walks.{walked, Measured, misfit, unfit, renewal}
 
@@ -86,13 +86,6 @@ found {ks} {cs} i k (swap old new) s p ps =
       rest = after-entry i k ks (swap old new) cs;
     }
 
--- an object's own element
-reach-is : (w a : ℕ) (r : List ℕ) → reach w (bytes w a ++ r) ≡ w
-unfolding reach
-reach-is w a r =
-    let long : w ≤ length (bytes w a ++ r) = simp (length-append, length-bytes) (omega arith) in
-    rw (le-leb w _ long)
-
 -- ---- the changes that the walks find
 
 pub difference-walk : {ks : List Kind} {a b : List ℕ} (i : ℕ) → Every admits ks a → Every admits ks b
@@ -104,8 +97,6 @@ difference-walk i (and {a = k} {b = a} {xs = ks} {ys = as′} p ps) (and {b = b}
     let f : List ℕ = wordsBytes ks as′ in
     let g : List ℕ = wordsBytes ks bs in
     rw (
-      reach-is w a f,
-      reach-is w b g,
       read-bytes w a f (admits-fits k a p),
       read-bytes w b g (admits-fits k b q),
       drop-bytes w a f,

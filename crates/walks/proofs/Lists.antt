@@ -1,26 +1,27 @@
 -- The turns of the loops that make a list, operation by operation: each is the walk's turn, by the step that its functions give.
 -- Assumes nothing.
-use Prim.Native.Nat.{ℕ, _+_, _-_, _^_, _≤_, _<_}
+use Prim.Native.Nat.{ℕ, suc, _+_, _-_, _^_, _≤_, _<_}
 use native.Mathlib.Omega.{arith}
-use mathlib.Core.Path.{_≡_, refl, sym, ap, subst, _∙_}
-use mathlib.Core.Bool.{Bool, true, false}
+use mathlib.Core.Path.{_≡_, refl, ap, subst, _∙_}
+use mathlib.Core.Bool.{Bool, true, false, not}
 use mathlib.Core.List.{List, [], _∷_}
+use lib.Dec.{eqb}
 use lib.ListN.{length, take, drop}
 use borrow.Rule.Slice.PartMut.{putMid, midOf}
 use Rattle.octets.specs.Octets.{number}
 use Rattle.kinds.specs.Kinds.{widthOf}
+use Rattle.kinds.specs.declared.Kind.{Kind}
 use Rattle.history.specs.declared.Change.{Change}
 use Rattle.history.specs.Table.{kindAt}
 use Rattle.history.specs.Image.{widths}
-use Rattle.history.specs.Changes.{entries}
+use Rattle.history.specs.Changes.{entriesBytes}
 use Rattle.history.specs.Operations.{differ, meets, joined, back}
 use Rattle.tables.specs.Outlines.{kindsOf}
 use Rattle.forms.proofs.KindLaws.{kinds-next}
 use Rattle.steps.specs.declared.Walk.{Walk}
-use Rattle.steps.specs.Steps.{span, entryBytes, names, countIf, sizeIf, saidIf, changeAt, isSwap, Stepped, Silent, Idle}
-use Rattle.steps.proofs.Leaves.{difference-step, join-step, turn-step, count-swap, size-swap, names-inside, said-inside, idle-none, idle-turn}
-use Rattle.walks.specs.declared.Survey.{Survey}
-use Rattle.walks.specs.Walks.{walkBytes, Elements, Asked, Surveyed}
+use Rattle.steps.specs.Steps.{span, entryBytes, names, countIf, sizeIf, saidIf, changeAt, isSwap, stepOf, Stepped, Silent, Idle}
+use Rattle.steps.proofs.Leaves.{difference-step, join-step, turn-step, differ-swap, names-inside, said-inside, idle-none, idle-turn}
+use Rattle.walks.specs.Walks.{walked, walkBytes, Elements, Asked, Surveyed}
 use Rattle.walks.proofs.Turns.{Sizing, sized-until, one-sized, Putting, put-fits, put-inside, put-long, one-put}
 
 -- what is asked of a difference's two forms
@@ -57,29 +58,29 @@ module _ {ns f s : List ℕ} {p i : ℕ} (z : Comparing ns f s p i) (h : i < len
   pub one-compared : Comparing ns f s (p + w) (i + 1)
   one-compared = record { old = omega (arith, z .old, ap widths (kinds-next ns i h)); new = omega (arith, z .new, ap widths (kinds-next ns i h)) }
 
-  module _ {a b : ℕ} {c : Change} (ea : a ≡ number (take w (drop p f))) (eb : b ≡ number (take w (drop p s))) (ec : c ≡ differ a b) where
-    step : Stepped Walk.Difference i w f p s p (record { change = c; agrees = true; first = w; second = w })
-    step = difference-step old-inside new-inside ea eb ec
+  module _ {a b : ℕ} (ea : a ≡ number (take w (drop p f))) (eb : b ≡ number (take w (drop p s))) where
+    step : {c : Change} → c ≡ differ a b → Stepped Walk.Difference i w f p s p (record { change = c; agrees = true; first = w; second = w })
+    step ec = difference-step old-inside new-inside ea eb ec
 
     onward : Idle Walk.Difference (i + 1) (i + 1) (length ns) (drop (p + w) f) (drop (p + w) s)
     onward = idle-none Walk.Difference (i + 1) (length ns) (drop (p + w) f) (drop (p + w) s) (omega arith)
 
-    pub difference-sized : {count size m n : ℕ} → Sizing Walk.Difference ns f s count size p p i → (m ≡ entries (c ∷ [])) × (m ≤ 1) → (n ≡ span w c) × (n ≤ 10)
+    pub difference-sized : {count size m n : ℕ} → Sizing Walk.Difference ns f s count size p p i → (m ≡ countIf (not (eqb a b))) × (m ≤ 1) → (n ≡ sizeIf (not (eqb a b)) w) × (n ≤ 10)
         → Sizing Walk.Difference ns f s (count + m) (size + n) (p + w) (p + w) (i + 1)
-    difference-sized y em en = one-sized y h ew step refl em en onward
+    difference-sized y em en = one-sized y h ew (step refl) refl (differ-swap a b) em en onward
 
-    module _ {part₀ part : List ℕ} {at n : ℕ} (y : Putting Walk.Difference ns f s part₀ part at p p i) (en : n ≡ span w c) where
+    module _ {c : Change} (ec : c ≡ differ a b) {part₀ part : List ℕ} {at n : ℕ} (y : Putting Walk.Difference ns f s part₀ part at p p i) (en : n ≡ span w c) where
       pub difference-fits : length part₀ < 2 ^ 64 → at + n < 2 ^ 64
-      difference-fits k = put-fits y h ew step en k
+      difference-fits k = put-fits y h ew (step ec) en k
 
       pub difference-inside : at + n ≤ length part
-      difference-inside = put-inside y h ew step en
+      difference-inside = put-inside y h ew (step ec) en
 
       pub difference-long : length (midOf at (at + n - at) part) ≡ span w c
-      difference-long = put-long y h ew step en
+      difference-long = put-long y h ew (step ec) en
 
       pub difference-put : {ys : List ℕ} → ys ≡ entryBytes i w c → Putting Walk.Difference ns f s part₀ (putMid at (at + n - at) part ys) (at + n) (p + w) (p + w) (i + 1)
-      difference-put q = one-put y h ew step en q onward
+      difference-put q = one-put y h ew (step ec) en q onward
 
 -- ---- a join: what each list says of the object
 
@@ -93,19 +94,14 @@ module _ (l : List ℕ) (p i w : ℕ) {t : Bool} {m : ℕ} (h : p ≤ length l) 
 
 module _ {ns f s : List ℕ} {p q i w : ℕ} {one other : Bool} (h : i < length ns) (ew : w ≡ widthOf (kindAt (kindsOf ns) i)) (eo : one ≡ names i w (drop p f)) (es : other ≡ names i w (drop q s)) where
   module _ {count size : ℕ} (z : Sizing Walk.Join ns f s count size p q i) {t : Bool} (et : t ≡ meets (saidIf one w (drop p f)) (saidIf other w (drop q s))) where
-    pub join-until : t ≡ false → Surveyed Walk.Join ns f s (record { misfit = i; size = record { count = count; bytes = size } })
+    pub join-until : t ≡ false → Surveyed ns f s (record { misfit = i; size = record { count = count; bytes = size } })
     join-until b = sized-until z h ew (join-step (z .seek .near) (z .seek .far) eo es refl et refl refl) b
 
     pub join-sized : t ≡ true → {kept : Bool} → kept ≡ isSwap (joined (saidIf one w (drop p f)) (saidIf other w (drop q s)))
         → {m n k l : ℕ} → (m ≡ countIf kept) × (m ≤ 1) → (n ≡ sizeIf kept w) × (n ≤ 10) → (k ≡ sizeIf one w) × (k ≤ 10) → (l ≡ sizeIf other w) × (l ≤ 10)
         → {j : ℕ} → Idle Walk.Join (i + 1) j (length ns) (drop (p + k) f) (drop (q + l) s)
         → Sizing Walk.Join ns f s (count + m) (size + n) (p + k) (q + l) j
-    join-sized b e em en ek el d =
-        let c : Change = joined (saidIf one w (drop p f)) (saidIf other w (drop q s)) in
-        one-sized z h ew (join-step (z .seek .near) (z .seek .far) eo es {e = c} refl et (ek .0) (el .0)) b
-        (em .0 ∙ ap countIf e ∙ count-swap c, em .1)
-        (en .0 ∙ ap (λ (t : Bool). sizeIf t w) e ∙ size-swap w c, en .1)
-        d
+    join-sized b e em en ek el d = one-sized z h ew (join-step (z .seek .near) (z .seek .far) eo es refl et (ek .0) (el .0)) b e em en d
 
   module _ {part₀ part : List ℕ} {at n : ℕ} (z : Putting Walk.Join ns f s part₀ part at p q i) {c : Change} (ec : c ≡ joined (saidIf one w (drop p f)) (saidIf other w (drop q s))) (en : n ≡ span w c) where
     joint : Stepped Walk.Join i w f p s q (record { change = c; agrees = meets (saidIf one w (drop p f)) (saidIf other w (drop q s)); first = sizeIf one w; second = sizeIf other w })
@@ -126,6 +122,22 @@ module _ {ns f s : List ℕ} {p q i w : ℕ} {one other : Bool} (h : i < length 
     join-put y ek el d = one-put z h ew (join-step (z .near) (z .far) eo es ec refl (ek .0) (el .0)) en y d
 
 -- ---- turning back: what the list says of the object
+
+-- there is no second form: whatever stands in its place is not read
+alone : (i : ℕ) (ks : List Kind) (f s t : List ℕ) → walked Walk.Turn i ks f s ≡ walked Walk.Turn i ks f t
+unfolding walked stepOf
+alone i [] f s t = refl
+alone i (k ∷ ks) f s t = rw (alone (suc i) ks (drop (span (widthOf k) (changeAt i (widthOf k) f)) f) s t)
+
+bytes-alone : (ks : List Kind) (f s t : List ℕ) → walkBytes Walk.Turn 0 ks f s ≡ walkBytes Walk.Turn 0 ks f t
+bytes-alone ks f s t = ap (entriesBytes 0 ks) (alone 0 ks f s t)
+
+module _ {walk : Walk} (e : walk ≡ Walk.Turn) (ns f s : List ℕ) where
+  pub room-alone : {n : ℕ} → n ≡ length (walkBytes walk 0 (kindsOf ns) f s) → n ≡ length (walkBytes Walk.Turn 0 (kindsOf ns) f [])
+  room-alone l = room-as e ns f s l ∙ ap length (bytes-alone (kindsOf ns) f s [])
+
+  pub bytes-turned : {b : List ℕ} → b ≡ walkBytes Walk.Turn 0 (kindsOf ns) f [] → b ≡ walkBytes walk 0 (kindsOf ns) f s
+  bytes-turned p = bytes-as e ns f s (p ∙ bytes-alone (kindsOf ns) f [] s)
 
 pub said-fits : (l : List ℕ) (p i w : ℕ) {c : Change} {m : ℕ} → p ≤ length l → c ≡ changeAt i w (drop p l) → (m ≡ span w c) × (m ≤ 10) → length l < 2 ^ 64 → p + m < 2 ^ 64
 said-fits l p i w h ec em k = omega (arith, said-inside l p i w h ec (em .0))

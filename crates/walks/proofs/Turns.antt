@@ -5,7 +5,7 @@ use native.Mathlib.Omega.{arith}
 use native.Mathlib.Nat.{add-zero, zero-add}
 use native.Mathlib.Numerals.{add-one}
 use mathlib.Core.Path.{_≡_, refl, sym, ap, _∙_}
-use mathlib.Core.Bool.{true, false, cond}
+use mathlib.Core.Bool.{Bool, true, false, cond}
 use mathlib.Core.List.{List, [], _∷_, _++_}
 use lib.ListN.{length, drop, length-append}
 use lib.Seq.{drop-drop}
@@ -19,12 +19,13 @@ use Rattle.history.specs.Changes.{entriesBytes, entries}
 use Rattle.octets.proofs.Writing.{Filling, begin, along, keeps, has-room, write, ended}
 use Rattle.steps.specs.declared.Walk.{Walk}
 use Rattle.tables.specs.Outlines.{kindsOf}
-use Rattle.steps.specs.Steps.{span, entryBytes, Step, Stepped, idle, Idle}
+use Rattle.steps.specs.Steps.{span, entryBytes, countIf, sizeIf, isSwap, Step, Stepped, idle, Idle}
+use Rattle.steps.proofs.Leaves.{count-swap, size-swap}
 use Rattle.walks.specs.declared.Survey.{Survey}
 use Rattle.walks.specs.Walks.{walked, walkBytes, Measured, Surveyed, misfit}
 use Rattle.walks.proofs.Bridges.{entries-cons, length-entry}
 use Rattle.walks.proofs.Runs.{run}
-use Rattle.forms.proofs.KindLaws.{length-kinds, kinds-next, kinds-end}
+use Rattle.forms.proofs.KindLaws.{kinds-next, kinds-end}
 
 -- ---- one turn of the walk
 
@@ -154,10 +155,12 @@ run-sized {walk} {ns} {f} {s} z d = record {
 
 module _ {walk : Walk} {ns f s : List ℕ} {count size p q i : ℕ} (z : Sizing walk ns f s count size p q i) where
   pub one-sized : i < length ns → {w m n : ℕ} {r : Step} → w ≡ widthOf (kindAt (kindsOf ns) i) → Stepped walk i w f p s q r → r .agrees ≡ true
-      → (m ≡ entries (r .change ∷ [])) × (m ≤ 1) → (n ≡ span w (r .change)) × (n ≤ 10)
+      → {kept : Bool} → kept ≡ isSwap (r .change) → (m ≡ countIf kept) × (m ≤ 1) → (n ≡ sizeIf kept w) × (n ≤ 10)
       → {j : ℕ} → Idle walk (i + 1) j (length ns) (drop (p + r .first) f) (drop (q + r .second) s)
       → Sizing walk ns f s (count + m) (size + n) (p + r .first) (q + r .second) j
-  one-sized h {w} {m} {n} {r} e t b em en d =
+  one-sized h {w} {m} {n} {r} e t b ek em en d =
+      let counted : m ≡ entries (r .change ∷ []) = em .0 ∙ ap countIf ek ∙ count-swap (r .change) in
+      let spanned : n ≡ span w (r .change) = en .0 ∙ ap (λ (u : Bool). sizeIf u w) ek ∙ size-swap w (r .change) in
       run-sized
       (record {
         seek = step-sought (z .seek) h e t b;
@@ -169,14 +172,6 @@ module _ {walk : Walk} {ns f s : List ℕ} {count size p q i : ℕ} (z : Sizing 
       })
       d
 
-  -- what is given back at the object
-  abbrev survey : Survey
-  survey = record { misfit = i; size = record { count = count; bytes = size } }
-
-  -- the forms do not agree on the object
-  pub sized-until : i < length ns → {w : ℕ} {r : Step} → w ≡ widthOf (kindAt (kindsOf ns) i) → Stepped walk i w f p s q r → r .agrees ≡ false → Surveyed walk ns f s survey
-  sized-until h e t b = record { found = misfit-here (z .seek) h e t b; inside = omega arith; measured = λ k. absurd (omega arith) }
-
   pub all-measured : length ns ≤ i → length ns ≤ 1024 → Measured walk (kindsOf ns) f s count size
   all-measured h few = record {
     entries = omega (arith, ap entries (left-end walk ns f s i p q h));
@@ -185,8 +180,18 @@ module _ {walk : Walk} {ns f s : List ℕ} {count size p q i : ℕ} (z : Sizing 
     short = omega arith;
   }
 
-  pub all-sized : length ns ≤ i → length ns ≤ 1024 → Surveyed walk ns f s survey
-  all-sized h few = record { found = all-sought (z .seek) h; inside = z .seek .inside; measured = λ _. all-measured h few }
+-- two lists looked through
+module _ {ns f s : List ℕ} {count size p q i : ℕ} (z : Sizing Walk.Join ns f s count size p q i) where
+  -- what is given back at the object
+  abbrev survey : Survey
+  survey = record { misfit = i; size = record { count = count; bytes = size } }
+
+  -- they do not agree on the object
+  pub sized-until : i < length ns → {w : ℕ} {r : Step} → w ≡ widthOf (kindAt (kindsOf ns) i) → Stepped Walk.Join i w f p s q r → r .agrees ≡ false → Surveyed ns f s survey
+  sized-until h e t b = record { found = misfit-here (z .seek) h e t b; inside = omega arith; measured = λ k. absurd (omega arith) }
+
+  pub all-sized : length ns ≤ i → length ns ≤ 1024 → Surveyed ns f s survey
+  all-sized h few = record { found = all-sought (z .seek) h; inside = z .seek .inside; measured = λ _. all-measured z h few }
 
 -- ---- writing the entries
 

@@ -53,11 +53,11 @@ misfit walk i (k ∷ ks) f s =
     (misfit walk (suc i) ks (drop (stepOf walk i (widthOf k) f s .first) f) (drop (stepOf walk i (widthOf k) f s .second) s))
     i
 
--- that object, and the size where there is none
-pub record Surveyed (walk : Walk) (ns f s : List ℕ) (r : Survey) : Type 0 where
-  pub found : r .misfit ≡ misfit walk 0 (kindsOf ns) f s
+-- that object of a join, and the size where there is none
+pub record Surveyed (ns f s : List ℕ) (r : Survey) : Type 0 where
+  pub found : r .misfit ≡ misfit Walk.Join 0 (kindsOf ns) f s
   pub inside : r .misfit ≤ length ns
-  pub measured : length ns ≤ r .misfit → Measured walk (kindsOf ns) f s (r .size .count) (r .size .bytes)
+  pub measured : length ns ≤ r .misfit → Measured Walk.Join (kindsOf ns) f s (r .size .count) (r .size .bytes)
 
 -- ---- the elements b under the entries e
 

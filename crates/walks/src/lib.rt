@@ -4,6 +4,7 @@
 use steps::Walk;
 ghost use mathlib.Core.Path.{_≡_};
 ghost use Prim.Native.Nat.{_≤_};
+ghost use mathlib.Core.List.{[]};
 ghost use lib.ListN.{length};
 ghost use Rattle.history.specs.Image.{widths};
 ghost use Rattle.tables.specs.Outlines.{kindsOf};
@@ -37,9 +38,9 @@ pub fn measure_difference(kinds: &[u8], old: &[u8], new: &[u8]) -> Size
         let width = steps::width_at(kinds, i);
         let before = octets::get_at(old, at, width);
         let after = octets::get_at(new, at, width);
-        let change = steps::differ(before, after);
-        count += steps::count_of(change);
-        bytes += steps::span(width, change);
+        let differs = before != after;
+        count += steps::count_if(differs);
+        bytes += steps::size_if(differs, width);
         at += width;
         i += 1;
     }
@@ -49,7 +50,7 @@ pub fn measure_difference(kinds: &[u8], old: &[u8], new: &[u8]) -> Size
 // Looks for a misfit of two lists and measures their join in one pass.
 pub fn measure_join(kinds: &[u8], first: &[u8], second: &[u8]) -> Survey
     requires { ⌜ length (now kinds) ≤ 1024 ⌝ }
-    ensures { λ r. ⌜ Surveyed Walk.Join (now (kinds .entry)) (now (first .entry)) (now (second .entry)) r ⌝ }
+    ensures { λ r. ⌜ Surveyed (now (kinds .entry)) (now (first .entry)) (now (second .entry)) r ⌝ }
 {
     let mut count: usize = 0;
     let mut bytes: usize = 0;
@@ -91,7 +92,7 @@ pub fn put_changes(part: &mut [u8], walk: Walk, kinds: &[u8], first: &[u8], seco
     match walk {
         Walk::Difference => put_difference(part, kinds, first, second),
         Walk::Join => put_joined(part, kinds, first, second),
-        Walk::Turn => put_turned(part, kinds, first, second),
+        Walk::Turn => put_turned(part, kinds, first),
     }
 }
 
@@ -143,10 +144,10 @@ fn put_joined(part: &mut [u8], kinds: &[u8], first: &[u8], second: &[u8])
 }
 
 // .. of the list turned back; there is no second form.
-fn put_turned(part: &mut [u8], kinds: &[u8], entries: &[u8], none: &[u8])
+fn put_turned(part: &mut [u8], kinds: &[u8], entries: &[u8])
     requires { ⌜ length (now kinds) ≤ 1024 ⌝ }
-    requires { ⌜ length (now part) ≡ length (walkBytes Walk.Turn 0 (kindsOf (now kinds)) (now entries) (now none)) ⌝ }
-    ensures { λ _. ⌜ now (part .exit) ≡ walkBytes Walk.Turn 0 (kindsOf (now (kinds .entry))) (now (entries .entry)) (now (none .entry)) ⌝ }
+    requires { ⌜ length (now part) ≡ length (walkBytes Walk.Turn 0 (kindsOf (now kinds)) (now entries) []) ⌝ }
+    ensures { λ _. ⌜ now (part .exit) ≡ walkBytes Walk.Turn 0 (kindsOf (now (kinds .entry))) (now (entries .entry)) [] ⌝ }
 {
     let mut at: usize = 0;
     let mut entry_at: usize = 0;

@@ -18,15 +18,14 @@ abbrev μ-loop : tie.MeasureT-loop
 loop-again : tie.Need-loop-again Inv-loop μ-loop
 loop-again c =
     let counted = c .before in
-    let made = counted .before in
-    let new = made .before in
+    let new = counted .before in
     let old = new .before in
     let wide = old .before in
     let turn = wide .before in
     let inv = turn .before .loop .inv in
     let h = turn .loop-test .taken in
     let ew = wide .width-at .ensures .0 in
-    (difference-sized (inv .1) h ew (old .get-at .ensures .0) (new .get-at2 .ensures .0) (made .differ .ensures) (inv .0) (counted .count-of .ensures) (c .span .ensures), one-compared (inv .1) h ew)
+    (difference-sized (inv .1) h ew (old .get-at .ensures .0) (new .get-at2 .ensures .0) (inv .0) (counted .count-if .ensures) (c .size-if .ensures), one-compared (inv .1) h ew)
 
 pub measure-difference-spec : {M : Type 1} → statement M
 measure-difference-spec =
@@ -38,7 +37,6 @@ measure-difference-spec =
     (λ c κs. search needs)
     (λ c κs. (search old-inside, search needs))
     (λ c κs. (search new-inside, search needs))
-    (λ c κs. search needs)
     (λ c κs. search needs)
     (λ c. search needs)
     (λ c κs. search needs)

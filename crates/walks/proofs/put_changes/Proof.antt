@@ -1,7 +1,7 @@
 -- `walks::put_changes` meets its contract: each operation's own loop writes what its walk gives.
 -- Assumes nothing.
 use borrow.Author.Needs.{needs}
-use Rattle.walks.proofs.Lists.{asked, room-as, bytes-as}
+use Rattle.walks.proofs.Lists.{asked, room-as, bytes-as, room-alone, bytes-turned}
 use Rattle.walks.proofs.put_changes.Statement.{statement}
 use Rattle.walks.proofs.put_changes.Tie as tie
 
@@ -14,10 +14,10 @@ put-changes-spec =
     (λ c. search needs)
     (λ c κs. (search needs, search room-as))
     (λ c. search needs)
-    (λ c κs. (search needs, search room-as))
+    (λ c κs. (search needs, search room-alone))
     (λ c. search needs)
     (λ c. search bytes-as)
     (λ c. search needs)
     (λ c. search bytes-as)
     (λ c. search needs)
-    (λ c. search bytes-as))
+    (λ c. search bytes-turned))

@@ -1,6 +1,7 @@
 -- `walks::put_turned` meets its contract: the entries written, and those that the walk still gives, are the whole; the measure is the objects left.
 -- Assumes nothing.
 use Prim.Native.Nat.{_-_}
+use mathlib.Core.List.{[]}
 use lib.ListN.{length}
 use borrow.Author.Needs.{needs}
 use Rattle.steps.specs.declared.Walk.{Walk}
@@ -11,10 +12,10 @@ use Rattle.walks.proofs.put_turned.Statement.{statement}
 use Rattle.walks.proofs.put_turned.Tie as tie
 
 abbrev Inv-loop : tie.InvT-loop
-Inv-loop part₀ kinds entries none at₀ p₀ i₀ part at p i = Putting Walk.Turn kinds entries none part₀ part at p 0 i
+Inv-loop part₀ kinds entries at₀ p₀ i₀ part at p i = Putting Walk.Turn kinds entries [] part₀ part at p 0 i
 
 abbrev μ-loop : tie.MeasureT-loop
-μ-loop part₀ kinds entries none at₀ p₀ i₀ part at p i = length kinds - i
+μ-loop part₀ kinds entries at₀ p₀ i₀ part at p i = length kinds - i
 
 pub put-turned-spec : {M : Type 1} → statement M
 put-turned-spec =
