@@ -1,9 +1,9 @@
--- The named cases of each field wider than one bit, from value 0 up, as annex 1 of NAS 831 prints them.
+-- The named cases of each field wider than one bit, from value 0 up, as annexes 1 and 3 of NAS 831 print them.
 -- Kept by hand and typed from the annex, whose line stands beside each case; catalogue/write.py leaves this file as it is.
 -- Assumes nothing.
 use mathlib.Core.Path.{_≡_, refl}
 use mathlib.Core.List.{[], _∷_, map}
-use Rattle.cases.specs.Cases.{signalKindOf, signalAspectOf, mixedGaugeIndicationOf, autoRouteIndicationOf, changerAspectOf, boardAspectOf, sectionOccupancyOf, overlapOf, gaugePresenceOf, pointsSectionOccupancyOf, legOccupancyOf, legShownOf, pointsDetectionOf, pointsLockingOf, heaterIndicationOf, earthFaultIndicationOf, boundaryMovementOf}
+use Rattle.cases.specs.Cases.{signalKindOf, signalAspectOf, mixedGaugeIndicationOf, autoRouteIndicationOf, changerAspectOf, boardAspectOf, sectionOccupancyOf, overlapOf, gaugePresenceOf, pointsSectionOccupancyOf, legOccupancyOf, legShownOf, pointsDetectionOf, pointsLockingOf, heaterIndicationOf, earthFaultIndicationOf, boundaryMovementOf, autoRouteOf, routerIndicationOf}
 use Rattle.cases.specs.declared.SignalKind.{SignalKind}
 use Rattle.cases.specs.declared.SignalAspect.{SignalAspect}
 use Rattle.cases.specs.declared.MixedGaugeIndication.{MixedGaugeIndication}
@@ -21,6 +21,8 @@ use Rattle.cases.specs.declared.PointsLocking.{PointsLocking}
 use Rattle.cases.specs.declared.HeaterIndication.{HeaterIndication}
 use Rattle.cases.specs.declared.EarthFaultIndication.{EarthFaultIndication}
 use Rattle.cases.specs.declared.BoundaryMovement.{BoundaryMovement}
+use Rattle.cases.specs.declared.AutoRoute.{AutoRoute}
+use Rattle.cases.specs.declared.RouterIndication.{RouterIndication}
 
 -- ---- TIPO 1: SEÑAL LUMINOSA (SIG)
 
@@ -204,3 +206,22 @@ pub boundary-movement : map boundaryMovementOf (0 ∷ 1 ∷ 2 ∷ 3 ∷ 4 ∷ 5 
     BoundaryMovement.ShuntSignalOpen ∷  -- Valor6 = Maniobra Centralizada .. mandada. Apertura, en Maniobra, .. efectuada
     []
 boundary-movement = refl
+
+-- ---- catalogue 3.0, TIPO 1: SEÑAL LUMINOSA (SIG); the other cases of types 1 to 7 are printed there as in annex 1
+
+-- SIG_FAI (Formación Automática de Itinerarios, FAI)
+pub auto-route : map autoRouteOf (0 ∷ 1 ∷ 2 ∷ 3 ∷ []) ≡
+    AutoRoute.NotShown ∷  -- Valor0 = Indicación "F" ausente
+    AutoRoute.GreenSteady ∷  -- Valor1 = "F" en verde fijo
+    AutoRoute.GreenFlashing ∷  -- Valor2 = "F" en verde intermitente
+    AutoRoute.RedFlashing ∷  -- Valor3 = "F" en rojo intermitente
+    []
+auto-route = refl
+
+-- SIG_GRP_ARS (Indicación de enrutadores GRP o ARS)
+pub router-indication : map routerIndicationOf (0 ∷ 1 ∷ 2 ∷ []) ≡
+    RouterIndication.NotShown ∷  -- Valor0 = Sin indicación de enrutadores GRP o ARS.
+    RouterIndication.ManualBlock ∷  -- Valor1 = Enrutadores GRP o ARS. Bloqueo manual.
+    RouterIndication.AutomaticBlock ∷  -- Valor2 = Enrutadores GRP o ARS. Bloqueo automático.
+    []
+router-indication = refl

@@ -3,7 +3,7 @@
 use mathlib.Core.Path.{_≡_, refl}
 use Prim.Native.Nat.{ℕ}
 use Rattle.rows.proofs.Listed.{listed, named}
-use Rattle.cases.specs.Cases.{signalKindCases, signalKindOf, signalKindNo, signalAspectCases, signalAspectOf, signalAspectNo, mixedGaugeIndicationCases, mixedGaugeIndicationOf, mixedGaugeIndicationNo, autoRouteIndicationCases, autoRouteIndicationOf, autoRouteIndicationNo, changerAspectCases, changerAspectOf, changerAspectNo, boardAspectCases, boardAspectOf, boardAspectNo, sectionOccupancyCases, sectionOccupancyOf, sectionOccupancyNo, overlapCases, overlapOf, overlapNo, gaugePresenceCases, gaugePresenceOf, gaugePresenceNo, pointsSectionOccupancyCases, pointsSectionOccupancyOf, pointsSectionOccupancyNo, legOccupancyCases, legOccupancyOf, legOccupancyNo, legShownCases, legShownOf, legShownNo, pointsDetectionCases, pointsDetectionOf, pointsDetectionNo, pointsLockingCases, pointsLockingOf, pointsLockingNo, heaterIndicationCases, heaterIndicationOf, heaterIndicationNo, earthFaultIndicationCases, earthFaultIndicationOf, earthFaultIndicationNo, boundaryMovementCases, boundaryMovementOf, boundaryMovementNo}
+use Rattle.cases.specs.Cases.{signalKindCases, signalKindOf, signalKindNo, signalAspectCases, signalAspectOf, signalAspectNo, mixedGaugeIndicationCases, mixedGaugeIndicationOf, mixedGaugeIndicationNo, autoRouteIndicationCases, autoRouteIndicationOf, autoRouteIndicationNo, changerAspectCases, changerAspectOf, changerAspectNo, boardAspectCases, boardAspectOf, boardAspectNo, sectionOccupancyCases, sectionOccupancyOf, sectionOccupancyNo, overlapCases, overlapOf, overlapNo, gaugePresenceCases, gaugePresenceOf, gaugePresenceNo, pointsSectionOccupancyCases, pointsSectionOccupancyOf, pointsSectionOccupancyNo, legOccupancyCases, legOccupancyOf, legOccupancyNo, legShownCases, legShownOf, legShownNo, pointsDetectionCases, pointsDetectionOf, pointsDetectionNo, pointsLockingCases, pointsLockingOf, pointsLockingNo, heaterIndicationCases, heaterIndicationOf, heaterIndicationNo, earthFaultIndicationCases, earthFaultIndicationOf, earthFaultIndicationNo, boundaryMovementCases, boundaryMovementOf, boundaryMovementNo, autoRouteCases, autoRouteOf, autoRouteNo, routerIndicationCases, routerIndicationOf, routerIndicationNo}
 use Rattle.cases.specs.declared.SignalKind.{SignalKind}
 use Rattle.cases.specs.declared.SignalAspect.{SignalAspect}
 use Rattle.cases.specs.declared.MixedGaugeIndication.{MixedGaugeIndication}
@@ -21,6 +21,8 @@ use Rattle.cases.specs.declared.PointsLocking.{PointsLocking}
 use Rattle.cases.specs.declared.HeaterIndication.{HeaterIndication}
 use Rattle.cases.specs.declared.EarthFaultIndication.{EarthFaultIndication}
 use Rattle.cases.specs.declared.BoundaryMovement.{BoundaryMovement}
+use Rattle.cases.specs.declared.AutoRoute.{AutoRoute}
+use Rattle.cases.specs.declared.RouterIndication.{RouterIndication}
 
 pub signalKind-listed : (v : ℕ) → signalKindNo (signalKindOf v) ≡ listed 3 v
 signalKind-listed = named signalKindNo signalKindCases SignalKind.Unknown 3 tt refl refl
@@ -186,3 +188,20 @@ boundaryMovement-back BoundaryMovement.OverrideSignalPending = refl
 boundaryMovement-back BoundaryMovement.OverrideSignalOpen = refl
 boundaryMovement-back BoundaryMovement.ShuntSignalPending = refl
 boundaryMovement-back BoundaryMovement.ShuntSignalOpen = refl
+
+pub autoRoute-listed : (v : ℕ) → autoRouteNo (autoRouteOf v) ≡ listed 3 v
+autoRoute-listed = named autoRouteNo autoRouteCases AutoRoute.NotShown 3 tt refl refl
+
+pub autoRoute-back : (c : AutoRoute) → autoRouteOf (autoRouteNo c) ≡ c
+autoRoute-back AutoRoute.NotShown = refl
+autoRoute-back AutoRoute.GreenSteady = refl
+autoRoute-back AutoRoute.GreenFlashing = refl
+autoRoute-back AutoRoute.RedFlashing = refl
+
+pub routerIndication-listed : (v : ℕ) → routerIndicationNo (routerIndicationOf v) ≡ listed 2 v
+routerIndication-listed = named routerIndicationNo routerIndicationCases RouterIndication.NotShown 2 tt refl refl
+
+pub routerIndication-back : (c : RouterIndication) → routerIndicationOf (routerIndicationNo c) ≡ c
+routerIndication-back RouterIndication.NotShown = refl
+routerIndication-back RouterIndication.ManualBlock = refl
+routerIndication-back RouterIndication.AutomaticBlock = refl

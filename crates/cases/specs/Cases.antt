@@ -20,6 +20,8 @@ use Rattle.cases.specs.declared.PointsLocking.{PointsLocking}
 use Rattle.cases.specs.declared.HeaterIndication.{HeaterIndication}
 use Rattle.cases.specs.declared.EarthFaultIndication.{EarthFaultIndication}
 use Rattle.cases.specs.declared.BoundaryMovement.{BoundaryMovement}
+use Rattle.cases.specs.declared.AutoRoute.{AutoRoute}
+use Rattle.cases.specs.declared.RouterIndication.{RouterIndication}
 
 abbrev pub signalKindCases : List SignalKind
 signalKindCases = SignalKind.Unknown ∷ SignalKind.HighNoWhiteNoBlue ∷ SignalKind.HighWhiteOrBlue ∷ SignalKind.Low ∷ []
@@ -236,3 +238,26 @@ boundaryMovementNo BoundaryMovement.OverrideSignalPending = 3
 boundaryMovementNo BoundaryMovement.OverrideSignalOpen = 4
 boundaryMovementNo BoundaryMovement.ShuntSignalPending = 5
 boundaryMovementNo BoundaryMovement.ShuntSignalOpen = 6
+
+abbrev pub autoRouteCases : List AutoRoute
+autoRouteCases = AutoRoute.NotShown ∷ AutoRoute.GreenSteady ∷ AutoRoute.GreenFlashing ∷ AutoRoute.RedFlashing ∷ []
+
+abbrev pub autoRouteOf : ℕ → AutoRoute
+autoRouteOf v = getD autoRouteCases v AutoRoute.NotShown
+
+abbrev pub autoRouteNo : AutoRoute → ℕ
+autoRouteNo AutoRoute.NotShown = 0
+autoRouteNo AutoRoute.GreenSteady = 1
+autoRouteNo AutoRoute.GreenFlashing = 2
+autoRouteNo AutoRoute.RedFlashing = 3
+
+abbrev pub routerIndicationCases : List RouterIndication
+routerIndicationCases = RouterIndication.NotShown ∷ RouterIndication.ManualBlock ∷ RouterIndication.AutomaticBlock ∷ []
+
+abbrev pub routerIndicationOf : ℕ → RouterIndication
+routerIndicationOf v = getD routerIndicationCases v RouterIndication.NotShown
+
+abbrev pub routerIndicationNo : RouterIndication → ℕ
+routerIndicationNo RouterIndication.NotShown = 0
+routerIndicationNo RouterIndication.ManualBlock = 1
+routerIndicationNo RouterIndication.AutomaticBlock = 2

@@ -2,7 +2,7 @@
 // value of a case. Written by catalogue/write.py from catalogue/cases.tsv. It checks nothing: a value that has no case
 // is read as the first. Each arm of a match returns, which spares its check a local and a step.
 ghost use mathlib.Core.Path.{_≡_};
-ghost use Rattle.cases.specs.Cases.{signalKindOf, signalKindNo, signalAspectOf, signalAspectNo, mixedGaugeIndicationOf, mixedGaugeIndicationNo, autoRouteIndicationOf, autoRouteIndicationNo, changerAspectOf, changerAspectNo, boardAspectOf, boardAspectNo, sectionOccupancyOf, sectionOccupancyNo, overlapOf, overlapNo, gaugePresenceOf, gaugePresenceNo, pointsSectionOccupancyOf, pointsSectionOccupancyNo, legOccupancyOf, legOccupancyNo, legShownOf, legShownNo, pointsDetectionOf, pointsDetectionNo, pointsLockingOf, pointsLockingNo, heaterIndicationOf, heaterIndicationNo, earthFaultIndicationOf, earthFaultIndicationNo, boundaryMovementOf, boundaryMovementNo};
+ghost use Rattle.cases.specs.Cases.{signalKindOf, signalKindNo, signalAspectOf, signalAspectNo, mixedGaugeIndicationOf, mixedGaugeIndicationNo, autoRouteIndicationOf, autoRouteIndicationNo, changerAspectOf, changerAspectNo, boardAspectOf, boardAspectNo, sectionOccupancyOf, sectionOccupancyNo, overlapOf, overlapNo, gaugePresenceOf, gaugePresenceNo, pointsSectionOccupancyOf, pointsSectionOccupancyNo, legOccupancyOf, legOccupancyNo, legShownOf, legShownNo, pointsDetectionOf, pointsDetectionNo, pointsLockingOf, pointsLockingNo, heaterIndicationOf, heaterIndicationNo, earthFaultIndicationOf, earthFaultIndicationNo, boundaryMovementOf, boundaryMovementNo, autoRouteOf, autoRouteNo, routerIndicationOf, routerIndicationNo};
 
 pub enum SignalKind {
     Unknown, // Kind not known
@@ -580,6 +580,67 @@ impl BoundaryMovement {
             BoundaryMovement::OverrideSignalOpen => return 4,
             BoundaryMovement::ShuntSignalPending => return 5,
             BoundaryMovement::ShuntSignalOpen => return 6,
+        }
+    }
+}
+
+pub enum AutoRoute {
+    NotShown, // F not shown
+    GreenSteady, // F steady green
+    GreenFlashing, // F flashing green
+    RedFlashing, // F flashing red
+}
+
+impl AutoRoute {
+    pub fn of(value: u32) -> AutoRoute
+        ensures { λ r. ⌜ r ≡ autoRouteOf value ⌝ }
+    {
+        match value {
+            0 => return AutoRoute::NotShown,
+            1 => return AutoRoute::GreenSteady,
+            2 => return AutoRoute::GreenFlashing,
+            3 => return AutoRoute::RedFlashing,
+            _ => return AutoRoute::NotShown,
+        }
+    }
+
+    pub fn number(self) -> u32
+        ensures { λ r. ⌜ r ≡ autoRouteNo self ⌝ }
+    {
+        match self {
+            AutoRoute::NotShown => return 0,
+            AutoRoute::GreenSteady => return 1,
+            AutoRoute::GreenFlashing => return 2,
+            AutoRoute::RedFlashing => return 3,
+        }
+    }
+}
+
+pub enum RouterIndication {
+    NotShown, // No indication of a GRP or ARS router
+    ManualBlock, // GRP or ARS router, manual block
+    AutomaticBlock, // GRP or ARS router, automatic block
+}
+
+impl RouterIndication {
+    pub fn of(value: u32) -> RouterIndication
+        ensures { λ r. ⌜ r ≡ routerIndicationOf value ⌝ }
+    {
+        match value {
+            0 => return RouterIndication::NotShown,
+            1 => return RouterIndication::ManualBlock,
+            2 => return RouterIndication::AutomaticBlock,
+            _ => return RouterIndication::NotShown,
+        }
+    }
+
+    pub fn number(self) -> u32
+        ensures { λ r. ⌜ r ≡ routerIndicationNo self ⌝ }
+    {
+        match self {
+            RouterIndication::NotShown => return 0,
+            RouterIndication::ManualBlock => return 1,
+            RouterIndication::AutomaticBlock => return 2,
         }
     }
 }

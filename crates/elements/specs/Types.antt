@@ -24,6 +24,18 @@ typesUnder1 =
     line 23 Kind.ControlBoundary ∷
     []
 
+-- the types that are carried under X = 3, each with its kind
+abbrev pub typesUnder3 : List Line
+typesUnder3 =
+    line 1 Kind.SignalV3 ∷
+    line 2 Kind.ChangerSignal ∷
+    line 3 Kind.VirtualBoard ∷
+    line 4 Kind.LineTrackCircuit ∷
+    line 5 Kind.PointsTrackCircuit ∷
+    line 6 Kind.CrossingTrackCircuit ∷
+    line 7 Kind.DualDetection ∷
+    []
+
 -- catalogues by their X, each with its types
 pub record Catalogue : Type 0 where
   pub x : ℕ
@@ -33,7 +45,7 @@ abbrev catalogue : ℕ → List Line → Catalogue
 catalogue x types = record { x = x; types = types }
 
 abbrev pub catalogues : List Catalogue
-catalogues = catalogue 1 typesUnder1 ∷ []
+catalogues = catalogue 1 typesUnder1 ∷ catalogue 3 typesUnder3 ∷ []
 
 -- the kind of a type under an X
 abbrev pub sortUnder : ℕ → ℕ → List Catalogue → Sort

@@ -3,7 +3,7 @@ use kinds::Kind;
 use kinds::Sort;
 ghost use mathlib.Core.Path.{_≡_};
 ghost use Rattle.kinds.specs.Kinds.{sortIn};
-ghost use Rattle.elements.specs.Types.{typesUnder1, sortOf};
+ghost use Rattle.elements.specs.Types.{typesUnder1, typesUnder3, sortOf};
 
 // The kind of a type under a catalogue's X, if it is carried.
 pub fn sort_of(x: u8, ty: u8) -> Sort
@@ -11,6 +11,7 @@ pub fn sort_of(x: u8, ty: u8) -> Sort
 {
     match x {
         1 => return under_1(ty),
+        3 => return under_3(ty),
         _ => return Sort::Other,
     }
 }
@@ -30,6 +31,21 @@ fn under_1(ty: u8) -> Sort
         9 => return Sort::Carried(Kind::ElectricLock),
         22 => return Sort::Carried(Kind::GeneralNotices),
         23 => return Sort::Carried(Kind::ControlBoundary),
+        _ => return Sort::Other,
+    }
+}
+
+fn under_3(ty: u8) -> Sort
+    ensures { λ r. ⌜ r ≡ sortIn ty typesUnder3 ⌝ }
+{
+    match ty {
+        1 => return Sort::Carried(Kind::SignalV3),
+        2 => return Sort::Carried(Kind::ChangerSignal),
+        3 => return Sort::Carried(Kind::VirtualBoard),
+        4 => return Sort::Carried(Kind::LineTrackCircuit),
+        5 => return Sort::Carried(Kind::PointsTrackCircuit),
+        6 => return Sort::Carried(Kind::CrossingTrackCircuit),
+        7 => return Sort::Carried(Kind::DualDetection),
         _ => return Sort::Other,
     }
 }

@@ -24,13 +24,13 @@ pub record Table : Type 0 where
 abbrev pub object : Table → ℕ → Object
 object t i = getD (t .objects) i (record { type = 0; label = [] })
 
--- ---- what a version or a catalogue sets: version byte 1; catalogue version 1.0; labels of at most 32 bytes
+-- ---- what a version or a catalogue sets: version byte 1; catalogue version 1.0 or 3.0; labels of at most 32 bytes
 
 unfoldable pub versionGood : ℕ → Bool
 versionGood v = eqb v 1
 
 unfoldable pub catalogueGood : ℕ → ℕ → Bool
-catalogueGood x y = eqb x 1 && eqb y 0
+catalogueGood x y = (eqb x 1 || eqb x 3) && eqb y 0
 
 unfoldable pub labelLimit : ℕ → ℕ
 labelLimit v = 32

@@ -8,7 +8,7 @@ use lib.ListN.{length, getD}
 use Rattle.rows.specs.Table.{table, layouts}
 use Rattle.rows.specs.Fields.{padded, valuesOf}
 use Rattle.rows.proofs.Listed.{listedFrom}
-use Rattle.states.proofs.StateLaws.{signal-listed, signal-back, changerSignal-listed, changerSignal-back, virtualBoard-listed, virtualBoard-back, lineTrackCircuit-listed, lineTrackCircuit-back, pointsTrackCircuit-listed, pointsTrackCircuit-back, crossingTrackCircuit-listed, crossingTrackCircuit-back, dualDetection-listed, dualDetection-back, points-listed, points-back, electricLock-listed, electricLock-back, generalNotices-listed, generalNotices-back, controlBoundary-listed, controlBoundary-back}
+use Rattle.states.proofs.StateLaws.{signal-listed, signal-back, changerSignal-listed, changerSignal-back, virtualBoard-listed, virtualBoard-back, lineTrackCircuit-listed, lineTrackCircuit-back, pointsTrackCircuit-listed, pointsTrackCircuit-back, crossingTrackCircuit-listed, crossingTrackCircuit-back, dualDetection-listed, dualDetection-back, points-listed, points-back, electricLock-listed, electricLock-back, generalNotices-listed, generalNotices-back, controlBoundary-listed, controlBoundary-back, signalV3-listed, signalV3-back}
 use Rattle.kinds.specs.Kinds.{kinds, place, layoutNo, rowsOf, sortNumbered, elementOf, elementValues, kindIn}
 use Rattle.kinds.specs.declared.Kind.{Kind}
 use Rattle.kinds.specs.declared.Element.{Element}
@@ -27,6 +27,7 @@ every-kind {A} f g e Kind.Points = ap (λ (l : List A). getD l 7 (f Kind.Points)
 every-kind {A} f g e Kind.ElectricLock = ap (λ (l : List A). getD l 8 (f Kind.ElectricLock)) e
 every-kind {A} f g e Kind.GeneralNotices = ap (λ (l : List A). getD l 9 (f Kind.GeneralNotices)) e
 every-kind {A} f g e Kind.ControlBoundary = ap (λ (l : List A). getD l 10 (f Kind.ControlBoundary)) e
+every-kind {A} f g e Kind.SignalV3 = ap (λ (l : List A). getD l 11 (f Kind.SignalV3)) e
 
 pub placed : (k : Kind) → place k < length layouts
 unfolding layouts
@@ -41,6 +42,7 @@ placed Kind.Points = lit< tt
 placed Kind.ElectricLock = lit< tt
 placed Kind.GeneralNotices = lit< tt
 placed Kind.ControlBoundary = lit< tt
+placed Kind.SignalV3 = lit< tt
 
 pub kind-found : (k : Kind) → sortNumbered (layoutNo k) ≡ Sort.Carried k
 unfolding layouts
@@ -55,6 +57,7 @@ kind-found Kind.Points = refl
 kind-found Kind.ElectricLock = refl
 kind-found Kind.GeneralNotices = refl
 kind-found Kind.ControlBoundary = refl
+kind-found Kind.SignalV3 = refl
 
 pub element-listed : (k : Kind) (vs : List ℕ) → elementValues (elementOf k vs) ≡ listedFrom 0 (rowsOf k) vs
 unfolding layouts
@@ -69,6 +72,7 @@ element-listed Kind.Points vs = points-listed vs
 element-listed Kind.ElectricLock vs = electricLock-listed vs
 element-listed Kind.GeneralNotices vs = generalNotices-listed vs
 element-listed Kind.ControlBoundary vs = controlBoundary-listed vs
+element-listed Kind.SignalV3 vs = signalV3-listed vs
 
 pub element-back : (e : Element) → elementOf (kindIn e) (padded (elementValues e)) ≡ e
 element-back (Element.Signal s) = ap Element.Signal (signal-back s)
@@ -82,6 +86,7 @@ element-back (Element.Points s) = ap Element.Points (points-back s)
 element-back (Element.ElectricLock s) = ap Element.ElectricLock (electricLock-back s)
 element-back (Element.GeneralNotices s) = ap Element.GeneralNotices (generalNotices-back s)
 element-back (Element.ControlBoundary s) = ap Element.ControlBoundary (controlBoundary-back s)
+element-back (Element.SignalV3 s) = ap Element.SignalV3 (signalV3-back s)
 
 pub element-kind : (k : Kind) (vs : List ℕ) → kindIn (elementOf k vs) ≡ k
 element-kind Kind.Signal vs = refl
@@ -95,6 +100,7 @@ element-kind Kind.Points vs = refl
 element-kind Kind.ElectricLock vs = refl
 element-kind Kind.GeneralNotices vs = refl
 element-kind Kind.ControlBoundary vs = refl
+element-kind Kind.SignalV3 vs = refl
 
 -- the number 0 is read as the state of no values, which is the one without data
 pub zero-state : (k : Kind) → elementOf k (padded (valuesOf 0 (rowsOf k))) ≡ elementOf k []
@@ -110,3 +116,4 @@ zero-state Kind.Points = refl
 zero-state Kind.ElectricLock = refl
 zero-state Kind.GeneralNotices = refl
 zero-state Kind.ControlBoundary = refl
+zero-state Kind.SignalV3 = refl

@@ -8,13 +8,13 @@ use lib.Dec.{eqb}
 use Rattle.rows.specs.Table.{Row, layoutAt}
 use Rattle.rows.specs.Covering.{layoutRows}
 use Rattle.rows.specs.declared.Layout.{Layout}
-use Rattle.states.specs.States.{signalOf, signalValues, changerSignalOf, changerSignalValues, virtualBoardOf, virtualBoardValues, lineTrackCircuitOf, lineTrackCircuitValues, pointsTrackCircuitOf, pointsTrackCircuitValues, crossingTrackCircuitOf, crossingTrackCircuitValues, dualDetectionOf, dualDetectionValues, pointsOf, pointsValues, electricLockOf, electricLockValues, generalNoticesOf, generalNoticesValues, controlBoundaryOf, controlBoundaryValues}
+use Rattle.states.specs.States.{signalOf, signalValues, changerSignalOf, changerSignalValues, virtualBoardOf, virtualBoardValues, lineTrackCircuitOf, lineTrackCircuitValues, pointsTrackCircuitOf, pointsTrackCircuitValues, crossingTrackCircuitOf, crossingTrackCircuitValues, dualDetectionOf, dualDetectionValues, pointsOf, pointsValues, electricLockOf, electricLockValues, generalNoticesOf, generalNoticesValues, controlBoundaryOf, controlBoundaryValues, signalV3Of, signalV3Values}
 use Rattle.kinds.specs.declared.Kind.{Kind}
 use Rattle.kinds.specs.declared.Element.{Element}
 use Rattle.kinds.specs.declared.Sort.{Sort}
 
 abbrev pub kinds : List Kind
-kinds = Kind.Signal ∷ Kind.ChangerSignal ∷ Kind.VirtualBoard ∷ Kind.LineTrackCircuit ∷ Kind.PointsTrackCircuit ∷ Kind.CrossingTrackCircuit ∷ Kind.DualDetection ∷ Kind.Points ∷ Kind.ElectricLock ∷ Kind.GeneralNotices ∷ Kind.ControlBoundary ∷ []
+kinds = Kind.Signal ∷ Kind.ChangerSignal ∷ Kind.VirtualBoard ∷ Kind.LineTrackCircuit ∷ Kind.PointsTrackCircuit ∷ Kind.CrossingTrackCircuit ∷ Kind.DualDetection ∷ Kind.Points ∷ Kind.ElectricLock ∷ Kind.GeneralNotices ∷ Kind.ControlBoundary ∷ Kind.SignalV3 ∷ []
 
 -- a kind's place among them, by which its layout is found
 abbrev pub place : Kind → ℕ
@@ -29,6 +29,7 @@ place Kind.Points = 7
 place Kind.ElectricLock = 8
 place Kind.GeneralNotices = 9
 place Kind.ControlBoundary = 10
+place Kind.SignalV3 = 11
 
 abbrev pub layoutOf : Kind → Layout
 layoutOf k = layoutAt (place k)
@@ -74,6 +75,7 @@ elementOf Kind.Points vs = Element.Points (pointsOf vs)
 elementOf Kind.ElectricLock vs = Element.ElectricLock (electricLockOf vs)
 elementOf Kind.GeneralNotices vs = Element.GeneralNotices (generalNoticesOf vs)
 elementOf Kind.ControlBoundary vs = Element.ControlBoundary (controlBoundaryOf vs)
+elementOf Kind.SignalV3 vs = Element.SignalV3 (signalV3Of vs)
 
 abbrev pub elementValues : Element → List ℕ
 elementValues (Element.Signal s) = signalValues s
@@ -87,6 +89,7 @@ elementValues (Element.Points s) = pointsValues s
 elementValues (Element.ElectricLock s) = electricLockValues s
 elementValues (Element.GeneralNotices s) = generalNoticesValues s
 elementValues (Element.ControlBoundary s) = controlBoundaryValues s
+elementValues (Element.SignalV3 s) = signalV3Values s
 
 abbrev pub kindIn : Element → Kind
 kindIn (Element.Signal s) = Kind.Signal
@@ -100,3 +103,4 @@ kindIn (Element.Points s) = Kind.Points
 kindIn (Element.ElectricLock s) = Kind.ElectricLock
 kindIn (Element.GeneralNotices s) = Kind.GeneralNotices
 kindIn (Element.ControlBoundary s) = Kind.ControlBoundary
+kindIn (Element.SignalV3 s) = Kind.SignalV3

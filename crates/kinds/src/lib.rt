@@ -13,6 +13,7 @@ use states::LineTrackCircuit;
 use states::Points;
 use states::PointsTrackCircuit;
 use states::Signal;
+use states::SignalV3;
 use states::VirtualBoard;
 ghost use mathlib.Core.Path.{_≡_};
 ghost use Prim.Native.Nat.{_+_, _≤_};
@@ -36,6 +37,7 @@ pub enum Kind {
     ElectricLock,
     GeneralNotices,
     ControlBoundary,
+    SignalV3,
 }
 
 // A state of any kind.
@@ -51,6 +53,7 @@ pub enum Element {
     ElectricLock(ElectricLock),
     GeneralNotices(GeneralNotices),
     ControlBoundary(ControlBoundary),
+    SignalV3(SignalV3),
 }
 
 // What a number stands for: a kind that is carried, or none.
@@ -147,6 +150,13 @@ pub fn layout(kind: Kind) -> Layout
             bytes: ControlBoundary::WIDTH,
             dat: true,
         },
+        Kind::SignalV3 => return Layout {
+            number: 31,
+            first: 107,
+            count: 24,
+            bytes: SignalV3::WIDTH,
+            dat: true,
+        },
     }
 }
 
@@ -199,6 +209,10 @@ fn marks(kind: Kind) -> Marks
             add: 0xf044,
             carry: 0x10220,
         },
+        Kind::SignalV3 => return Marks {
+            add: 0x40000030,
+            carry: 0x100000100,
+        },
     }
 }
 
@@ -226,6 +240,7 @@ pub fn glance_at(s: &[u8], at: usize, kind: Kind) -> Glance
         Kind::ElectricLock => return glance_by(s, at, kind, ElectricLock::WIDTH),
         Kind::GeneralNotices => return glance_by(s, at, kind, GeneralNotices::WIDTH),
         Kind::ControlBoundary => return glance_by(s, at, kind, ControlBoundary::WIDTH),
+        Kind::SignalV3 => return glance_by(s, at, kind, SignalV3::WIDTH),
     }
 }
 
@@ -255,6 +270,7 @@ pub fn sort_numbered(number: u8) -> Sort
         9 => return Sort::Carried(Kind::ElectricLock),
         22 => return Sort::Carried(Kind::GeneralNotices),
         23 => return Sort::Carried(Kind::ControlBoundary),
+        31 => return Sort::Carried(Kind::SignalV3),
         _ => return Sort::Other,
     }
 }
@@ -275,6 +291,7 @@ pub fn kind_in(element: Element) -> Kind
         Element::ElectricLock(_) => return Kind::ElectricLock,
         Element::GeneralNotices(_) => return Kind::GeneralNotices,
         Element::ControlBoundary(_) => return Kind::ControlBoundary,
+        Element::SignalV3(_) => return Kind::SignalV3,
     }
 }
 
@@ -300,6 +317,7 @@ pub fn element_of(kind: Kind, values: [u32; 24]) -> Element
         Kind::ControlBoundary => return Element::ControlBoundary(ControlBoundary::of_values(
             values,
         )),
+        Kind::SignalV3 => return Element::SignalV3(SignalV3::of_values(values)),
     }
 }
 
@@ -319,5 +337,6 @@ pub fn values_of(element: Element) -> [u32; 24]
         Element::ElectricLock(state) => return state.values(),
         Element::GeneralNotices(state) => return state.values(),
         Element::ControlBoundary(state) => return state.values(),
+        Element::SignalV3(state) => return state.values(),
     }
 }

@@ -1,4 +1,4 @@
--- Every row of every layout, 107 rows of layout, lowest bit, width and highest admitted value (0: reserved), in one constant
+-- Every row of every layout, 131 rows of layout, lowest bit, width and highest admitted value (0: reserved), in one constant
 -- table; and the layouts, each with its number, its first row, how many, its width in bytes and whether bit 0 is DAT.
 -- Written by catalogue/write.py.
 use mathlib.Core.Bool.{Bool, true, false}
@@ -8,7 +8,7 @@ use lib.ListN.{getD}
 use Rattle.rows.specs.declared.Layout.{Layout}
 
 abbrev pub rowTotal : ℕ
-rowTotal = 107
+rowTotal = 131
 
 unfoldable pub table : List ℕ
 table =
@@ -119,6 +119,30 @@ table =
     23 ∷ 10 ∷ 1 ∷ 1 ∷
     23 ∷ 11 ∷ 1 ∷ 1 ∷
     23 ∷ 12 ∷ 4 ∷ 0 ∷
+    31 ∷ 0 ∷ 1 ∷ 1 ∷
+    31 ∷ 1 ∷ 2 ∷ 3 ∷
+    31 ∷ 3 ∷ 1 ∷ 1 ∷
+    31 ∷ 4 ∷ 4 ∷ 12 ∷
+    31 ∷ 8 ∷ 1 ∷ 1 ∷
+    31 ∷ 9 ∷ 1 ∷ 1 ∷
+    31 ∷ 10 ∷ 1 ∷ 1 ∷
+    31 ∷ 11 ∷ 1 ∷ 1 ∷
+    31 ∷ 12 ∷ 1 ∷ 1 ∷
+    31 ∷ 13 ∷ 1 ∷ 1 ∷
+    31 ∷ 14 ∷ 1 ∷ 1 ∷
+    31 ∷ 15 ∷ 1 ∷ 1 ∷
+    31 ∷ 16 ∷ 1 ∷ 1 ∷
+    31 ∷ 17 ∷ 1 ∷ 1 ∷
+    31 ∷ 18 ∷ 1 ∷ 1 ∷
+    31 ∷ 19 ∷ 1 ∷ 1 ∷
+    31 ∷ 20 ∷ 1 ∷ 1 ∷
+    31 ∷ 21 ∷ 1 ∷ 1 ∷
+    31 ∷ 22 ∷ 1 ∷ 1 ∷
+    31 ∷ 23 ∷ 1 ∷ 1 ∷
+    31 ∷ 24 ∷ 3 ∷ 7 ∷
+    31 ∷ 27 ∷ 1 ∷ 1 ∷
+    31 ∷ 28 ∷ 2 ∷ 3 ∷
+    31 ∷ 30 ∷ 2 ∷ 2 ∷
     []
 
 abbrev pub layout : ℕ → ℕ → ℕ → ℕ → Bool → Layout
@@ -137,6 +161,7 @@ layouts =
     layout 9 85 5 1 true ∷
     layout 22 90 8 2 false ∷
     layout 23 98 9 2 true ∷
+    layout 31 107 24 4 true ∷
     []
 
 -- the layout at a place; none past the end

@@ -1,7 +1,7 @@
 // Every row of every layout. Written by catalogue/write.py from catalogue/fields.tsv.
 
 // How many rows there are.
-pub const ROW_TOTAL: usize = 107;
+pub const ROW_TOTAL: usize = 131;
 
 // Their numbers: of each row the layout, the lowest bit, the width and the highest admitted value (0: reserved).
 pub type Cells = [u8; 4 * ROW_TOTAL];
@@ -435,4 +435,100 @@ pub const ROWS: Cells = [
     12,
     4,
     0, // FRA reserved
+    31,
+    0,
+    1,
+    1, // SIG DAT
+    31,
+    1,
+    2,
+    3, // SIG TIPO
+    31,
+    3,
+    1,
+    1, // SIG EAR
+    31,
+    4,
+    4,
+    12, // SIG IND
+    31,
+    8,
+    1,
+    1, // SIG FOCO_R_EQ
+    31,
+    9,
+    1,
+    1, // SIG FOCO_R_FUS
+    31,
+    10,
+    1,
+    1, // SIG FOCO_BL_C_EQ
+    31,
+    11,
+    1,
+    1, // SIG FOCO_BL_C_FUS
+    31,
+    12,
+    1,
+    1, // SIG FOCO_BL_V_EQ
+    31,
+    13,
+    1,
+    1, // SIG FOCO_BL_V_FUS
+    31,
+    14,
+    1,
+    1, // SIG FOCO_BL_H_EQ
+    31,
+    15,
+    1,
+    1, // SIG FOCO_BL_H_FUS
+    31,
+    16,
+    1,
+    1, // SIG FOCO_AZ_EQ
+    31,
+    17,
+    1,
+    1, // SIG FOCO_AZ_FUS
+    31,
+    18,
+    1,
+    1, // SIG FOCO_AM_EQ
+    31,
+    19,
+    1,
+    1, // SIG FOCO_AM_FUS
+    31,
+    20,
+    1,
+    1, // SIG FOCO_V_EQ
+    31,
+    21,
+    1,
+    1, // SIG FOCO_V_FUS
+    31,
+    22,
+    1,
+    1, // SIG ME
+    31,
+    23,
+    1,
+    1, // SIG B
+    31,
+    24,
+    3,
+    7, // SIG UIC
+    31,
+    27,
+    1,
+    1, // SIG SA
+    31,
+    28,
+    2,
+    3, // SIG FAI
+    31,
+    30,
+    2,
+    2, // SIG GRP_ARS
 ];

@@ -1,4 +1,4 @@
--- Each type's state by the bits of its word, as annex 1 of NAS 831 prints them: every field by its name, with its bit or bits.
+-- Each layout's state by the bits of its word, as annexes 1 and 3 of NAS 831 print them: every field by its name, with its bit or bits.
 -- Kept by hand and typed from the annex, whose line stands beside each field; catalogue/write.py leaves this file as it is.
 -- `..-bits`: the state is so at every word. `..-words`: in each field wider than one bit, a word with a middle value has that named case.
 -- Assumes nothing.
@@ -11,7 +11,7 @@ use Rattle.rows.specs.Table.{table, layout, layouts}
 use Rattle.rows.specs.Covering.{layoutRows}
 use Rattle.rows.specs.Fields.{valuesOf, padded}
 use Rattle.rows.specs.declared.Layout.{Layout}
-use Rattle.cases.specs.Cases.{signalKindOf, signalAspectOf, mixedGaugeIndicationOf, autoRouteIndicationOf, changerAspectOf, boardAspectOf, sectionOccupancyOf, overlapOf, gaugePresenceOf, pointsSectionOccupancyOf, legOccupancyOf, legShownOf, pointsDetectionOf, pointsLockingOf, heaterIndicationOf, earthFaultIndicationOf, boundaryMovementOf}
+use Rattle.cases.specs.Cases.{signalKindOf, signalAspectOf, mixedGaugeIndicationOf, autoRouteIndicationOf, changerAspectOf, boardAspectOf, sectionOccupancyOf, overlapOf, gaugePresenceOf, pointsSectionOccupancyOf, legOccupancyOf, legShownOf, pointsDetectionOf, pointsLockingOf, heaterIndicationOf, earthFaultIndicationOf, boundaryMovementOf, autoRouteOf, routerIndicationOf}
 use Rattle.cases.specs.declared.SignalKind.{SignalKind}
 use Rattle.cases.specs.declared.SignalAspect.{SignalAspect}
 use Rattle.cases.specs.declared.MixedGaugeIndication.{MixedGaugeIndication}
@@ -29,7 +29,9 @@ use Rattle.cases.specs.declared.PointsLocking.{PointsLocking}
 use Rattle.cases.specs.declared.HeaterIndication.{HeaterIndication}
 use Rattle.cases.specs.declared.EarthFaultIndication.{EarthFaultIndication}
 use Rattle.cases.specs.declared.BoundaryMovement.{BoundaryMovement}
-use Rattle.states.specs.States.{signalOf, changerSignalOf, virtualBoardOf, lineTrackCircuitOf, pointsTrackCircuitOf, crossingTrackCircuitOf, dualDetectionOf, pointsOf, electricLockOf, generalNoticesOf, controlBoundaryOf}
+use Rattle.cases.specs.declared.AutoRoute.{AutoRoute}
+use Rattle.cases.specs.declared.RouterIndication.{RouterIndication}
+use Rattle.states.specs.States.{signalOf, changerSignalOf, virtualBoardOf, lineTrackCircuitOf, pointsTrackCircuitOf, crossingTrackCircuitOf, dualDetectionOf, pointsOf, electricLockOf, generalNoticesOf, controlBoundaryOf, signalV3Of}
 use Rattle.states.specs.declared.signal.Signal.{Signal}
 use Rattle.states.specs.declared.changer_signal.ChangerSignal.{ChangerSignal}
 use Rattle.states.specs.declared.virtual_board.VirtualBoard.{VirtualBoard}
@@ -41,6 +43,7 @@ use Rattle.states.specs.declared.points.Points.{Points}
 use Rattle.states.specs.declared.electric_lock.ElectricLock.{ElectricLock}
 use Rattle.states.specs.declared.general_notices.GeneralNotices.{GeneralNotices}
 use Rattle.states.specs.declared.control_boundary.ControlBoundary.{ControlBoundary}
+use Rattle.states.specs.declared.signal_v3.SignalV3.{SignalV3}
 
 -- whether a bit of the word w is 1
 abbrev bit : ℕ → ℕ → Bool
@@ -313,3 +316,45 @@ pub control-boundary-words : (controlBoundaryOf (values 23 0x000D) .«entry_move
     × (controlBoundaryOf (values 23 0x0101) .«exit_movement» ≡ BoundaryMovement.OverrideSignalOpen)
 unfolding table layouts
 control-boundary-words = (refl, refl)
+
+-- ---- catalogue 3.0, TIPO 1: SEÑAL LUMINOSA (SIG)
+
+abbrev pub signalV3In : ℕ → SignalV3
+signalV3In w = record {
+  current = bit w 0;  -- SIG_DAT: 1 = Con datos del elemento
+  kind = signalKindOf (bits w 1 2);  -- SIG_TIPO (Tipo de Señal)
+  «high_speed_auto_route» = bit w 3;  -- SIG_EAR (Establecimiento Automático de Rutas tipo AV): 0 = EAR no activo. 1 = EAR activo.
+  aspect = signalAspectOf (bits w 4 7);  -- SIG_IND (indicación en vía)
+  «red_fitted» = bit w 8;  -- SIG_FOCO_R (Foco rojo): 1 = rojo equipado
+  «red_blown» = bit w 9;  -- 1 = Fusión de rojo
+  «white_fitted» = bit w 10;  -- SIG_FOCO_BL_C (Foco blanco Común): 1 = blanco equipado
+  «white_blown» = bit w 11;  -- 1 = Fusión de blanco / blanco intermitente
+  «vertical_white_fitted» = bit w 12;  -- SIG_FOCO_BL_V (Foco blanco vertical): 1 = blanco vertical equipado
+  «vertical_white_blown» = bit w 13;  -- 1 = Fusión de blanco vertical
+  «horizontal_white_fitted» = bit w 14;  -- SIG_FOCO_BL_H (Foco blanco horizontal): 1 = blanco horizontal equipado
+  «horizontal_white_blown» = bit w 15;  -- 1 = Fusión de blanco horizontal
+  «blue_fitted» = bit w 16;  -- SIG_FOCO_AZ (Foco azul): 1 = azul equipado
+  «blue_blown» = bit w 17;  -- 1 = Fusión de azul / azul intermitente
+  «yellow_fitted» = bit w 18;  -- SIG_FOCO_AM (Foco amarillo): 1 = amarillo equipado
+  «yellow_blown» = bit w 19;  -- 1 = Fusión de amarillo o amarillo intermitente
+  «green_fitted» = bit w 20;  -- SIG_FOCO_V (Foco verde): 1 = verde equipado
+  «green_blown» = bit w 21;  -- 1 = Fusión de verde / verde intermitente
+  «special_command_pending» = bit w 22;  -- SIG_ME (Mando Especial, ME): 1 = Pendiente de confirmación ME ejecutado
+  «command_blocked» = bit w 23;  -- SIG_B (Bloqueo de mando): 1 = Bloqueo de mando activo ("B" rojo)
+  «mixed_gauge» = mixedGaugeIndicationOf (bits w 24 26);  -- SIG_UIC (Indicaciones de Tercer Carril, ancho de vía UIC / CONV)
+  «automatic_succession» = bit w 27;  -- SIG_SA (Sucesión Automática, SA): 1 = SA establecida ("S" verde)
+  «auto_route» = autoRouteOf (bits w 28 29);  -- SIG_FAI (Formación Automática de Itinerarios, FAI)
+  router = routerIndicationOf (bits w 30 31);  -- SIG_GRP_ARS (Indicación de enrutadores GRP o ARS)
+}
+
+pub signal-v3-bits : (w : ℕ) → signalV3Of (values 31 w) ≡ signalV3In w
+unfolding table layouts
+signal-v3-bits w = refl
+
+pub signal-v3-words : (signalV3Of (values 31 0x00000003) .kind ≡ SignalKind.HighNoWhiteNoBlue)
+    × (signalV3Of (values 31 0x000000A1) .aspect ≡ SignalAspect.GreenYellow)
+    × (signalV3Of (values 31 0x03000001) .«mixed_gauge» ≡ MixedGaugeIndication.UicShuntSet)
+    × (signalV3Of (values 31 0x20000001) .«auto_route» ≡ AutoRoute.GreenFlashing)
+    × (signalV3Of (values 31 0x40000001) .router ≡ RouterIndication.ManualBlock)
+unfolding table layouts
+signal-v3-words = (refl, refl, refl, refl, refl)

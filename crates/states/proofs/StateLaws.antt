@@ -7,8 +7,8 @@ use lib.ListN.{getD}
 use Rattle.rows.specs.Table.{table, rowsFrom}
 use Rattle.rows.specs.Fields.{padded}
 use Rattle.rows.proofs.Listed.{listedFrom, bit-listed, bit-back, reserved-listed}
-use Rattle.cases.proofs.CaseLaws.{signalKind-listed, signalKind-back, signalAspect-listed, signalAspect-back, mixedGaugeIndication-listed, mixedGaugeIndication-back, autoRouteIndication-listed, autoRouteIndication-back, changerAspect-listed, changerAspect-back, boardAspect-listed, boardAspect-back, sectionOccupancy-listed, sectionOccupancy-back, overlap-listed, overlap-back, gaugePresence-listed, gaugePresence-back, pointsSectionOccupancy-listed, pointsSectionOccupancy-back, legOccupancy-listed, legOccupancy-back, legShown-listed, legShown-back, pointsDetection-listed, pointsDetection-back, pointsLocking-listed, pointsLocking-back, heaterIndication-listed, heaterIndication-back, earthFaultIndication-listed, earthFaultIndication-back, boundaryMovement-listed, boundaryMovement-back}
-use Rattle.states.specs.States.{signalOf, signalValues, changerSignalOf, changerSignalValues, virtualBoardOf, virtualBoardValues, lineTrackCircuitOf, lineTrackCircuitValues, pointsTrackCircuitOf, pointsTrackCircuitValues, crossingTrackCircuitOf, crossingTrackCircuitValues, dualDetectionOf, dualDetectionValues, pointsOf, pointsValues, electricLockOf, electricLockValues, generalNoticesOf, generalNoticesValues, controlBoundaryOf, controlBoundaryValues}
+use Rattle.cases.proofs.CaseLaws.{signalKind-listed, signalKind-back, signalAspect-listed, signalAspect-back, mixedGaugeIndication-listed, mixedGaugeIndication-back, autoRouteIndication-listed, autoRouteIndication-back, changerAspect-listed, changerAspect-back, boardAspect-listed, boardAspect-back, sectionOccupancy-listed, sectionOccupancy-back, overlap-listed, overlap-back, gaugePresence-listed, gaugePresence-back, pointsSectionOccupancy-listed, pointsSectionOccupancy-back, legOccupancy-listed, legOccupancy-back, legShown-listed, legShown-back, pointsDetection-listed, pointsDetection-back, pointsLocking-listed, pointsLocking-back, heaterIndication-listed, heaterIndication-back, earthFaultIndication-listed, earthFaultIndication-back, boundaryMovement-listed, boundaryMovement-back, autoRoute-listed, autoRoute-back, routerIndication-listed, routerIndication-back}
+use Rattle.states.specs.States.{signalOf, signalValues, changerSignalOf, changerSignalValues, virtualBoardOf, virtualBoardValues, lineTrackCircuitOf, lineTrackCircuitValues, pointsTrackCircuitOf, pointsTrackCircuitValues, crossingTrackCircuitOf, crossingTrackCircuitValues, dualDetectionOf, dualDetectionValues, pointsOf, pointsValues, electricLockOf, electricLockValues, generalNoticesOf, generalNoticesValues, controlBoundaryOf, controlBoundaryValues, signalV3Of, signalV3Values}
 use Rattle.states.specs.declared.signal.Signal.{Signal}
 use Rattle.states.specs.declared.changer_signal.ChangerSignal.{ChangerSignal}
 use Rattle.states.specs.declared.virtual_board.VirtualBoard.{VirtualBoard}
@@ -20,6 +20,7 @@ use Rattle.states.specs.declared.points.Points.{Points}
 use Rattle.states.specs.declared.electric_lock.ElectricLock.{ElectricLock}
 use Rattle.states.specs.declared.general_notices.GeneralNotices.{GeneralNotices}
 use Rattle.states.specs.declared.control_boundary.ControlBoundary.{ControlBoundary}
+use Rattle.states.specs.declared.signal_v3.SignalV3.{SignalV3}
 
 pub signal-listed : (vs : List ℕ) → signalValues (signalOf vs) ≡ listedFrom 0 (rowsFrom 0 24) vs
 unfolding table
@@ -330,4 +331,62 @@ controlBoundary-back s = λ i. record {
   «inc_inwards» = bit-back (s .«inc_inwards») i;
   «inc_shown» = bit-back (s .«inc_shown») i;
   «neighbour_object_alarm» = bit-back (s .«neighbour_object_alarm») i;
+}
+
+pub signalV3-listed : (vs : List ℕ) → signalV3Values (signalV3Of vs) ≡ listedFrom 0 (rowsFrom 107 24) vs
+unfolding table
+signalV3-listed vs =
+    λ i.
+    bit-listed (getD vs 0 0) i ∷
+    signalKind-listed (getD vs 1 0) i ∷
+    bit-listed (getD vs 2 0) i ∷
+    signalAspect-listed (getD vs 3 0) i ∷
+    bit-listed (getD vs 4 0) i ∷
+    bit-listed (getD vs 5 0) i ∷
+    bit-listed (getD vs 6 0) i ∷
+    bit-listed (getD vs 7 0) i ∷
+    bit-listed (getD vs 8 0) i ∷
+    bit-listed (getD vs 9 0) i ∷
+    bit-listed (getD vs 10 0) i ∷
+    bit-listed (getD vs 11 0) i ∷
+    bit-listed (getD vs 12 0) i ∷
+    bit-listed (getD vs 13 0) i ∷
+    bit-listed (getD vs 14 0) i ∷
+    bit-listed (getD vs 15 0) i ∷
+    bit-listed (getD vs 16 0) i ∷
+    bit-listed (getD vs 17 0) i ∷
+    bit-listed (getD vs 18 0) i ∷
+    bit-listed (getD vs 19 0) i ∷
+    mixedGaugeIndication-listed (getD vs 20 0) i ∷
+    bit-listed (getD vs 21 0) i ∷
+    autoRoute-listed (getD vs 22 0) i ∷
+    routerIndication-listed (getD vs 23 0) i ∷
+    []
+
+pub signalV3-back : (s : SignalV3) → signalV3Of (padded (signalV3Values s)) ≡ s
+signalV3-back s = λ i. record {
+  current = bit-back (s .current) i;
+  kind = signalKind-back (s .kind) i;
+  «high_speed_auto_route» = bit-back (s .«high_speed_auto_route») i;
+  aspect = signalAspect-back (s .aspect) i;
+  «red_fitted» = bit-back (s .«red_fitted») i;
+  «red_blown» = bit-back (s .«red_blown») i;
+  «white_fitted» = bit-back (s .«white_fitted») i;
+  «white_blown» = bit-back (s .«white_blown») i;
+  «vertical_white_fitted» = bit-back (s .«vertical_white_fitted») i;
+  «vertical_white_blown» = bit-back (s .«vertical_white_blown») i;
+  «horizontal_white_fitted» = bit-back (s .«horizontal_white_fitted») i;
+  «horizontal_white_blown» = bit-back (s .«horizontal_white_blown») i;
+  «blue_fitted» = bit-back (s .«blue_fitted») i;
+  «blue_blown» = bit-back (s .«blue_blown») i;
+  «yellow_fitted» = bit-back (s .«yellow_fitted») i;
+  «yellow_blown» = bit-back (s .«yellow_blown») i;
+  «green_fitted» = bit-back (s .«green_fitted») i;
+  «green_blown» = bit-back (s .«green_blown») i;
+  «special_command_pending» = bit-back (s .«special_command_pending») i;
+  «command_blocked» = bit-back (s .«command_blocked») i;
+  «mixed_gauge» = mixedGaugeIndication-back (s .«mixed_gauge») i;
+  «automatic_succession» = bit-back (s .«automatic_succession») i;
+  «auto_route» = autoRoute-back (s .«auto_route») i;
+  router = routerIndication-back (s .router) i;
 }

@@ -5,7 +5,7 @@ use Prim.Native.Nat.{ℕ}
 use lib.ListN.{getD}
 use lib.Dec.{eqb}
 use Rattle.rows.specs.Fields.{bitNo}
-use Rattle.cases.specs.Cases.{signalKindOf, signalKindNo, signalAspectOf, signalAspectNo, mixedGaugeIndicationOf, mixedGaugeIndicationNo, autoRouteIndicationOf, autoRouteIndicationNo, changerAspectOf, changerAspectNo, boardAspectOf, boardAspectNo, sectionOccupancyOf, sectionOccupancyNo, overlapOf, overlapNo, gaugePresenceOf, gaugePresenceNo, pointsSectionOccupancyOf, pointsSectionOccupancyNo, legOccupancyOf, legOccupancyNo, legShownOf, legShownNo, pointsDetectionOf, pointsDetectionNo, pointsLockingOf, pointsLockingNo, heaterIndicationOf, heaterIndicationNo, earthFaultIndicationOf, earthFaultIndicationNo, boundaryMovementOf, boundaryMovementNo}
+use Rattle.cases.specs.Cases.{signalKindOf, signalKindNo, signalAspectOf, signalAspectNo, mixedGaugeIndicationOf, mixedGaugeIndicationNo, autoRouteIndicationOf, autoRouteIndicationNo, changerAspectOf, changerAspectNo, boardAspectOf, boardAspectNo, sectionOccupancyOf, sectionOccupancyNo, overlapOf, overlapNo, gaugePresenceOf, gaugePresenceNo, pointsSectionOccupancyOf, pointsSectionOccupancyNo, legOccupancyOf, legOccupancyNo, legShownOf, legShownNo, pointsDetectionOf, pointsDetectionNo, pointsLockingOf, pointsLockingNo, heaterIndicationOf, heaterIndicationNo, earthFaultIndicationOf, earthFaultIndicationNo, boundaryMovementOf, boundaryMovementNo, autoRouteOf, autoRouteNo, routerIndicationOf, routerIndicationNo}
 use Rattle.states.specs.declared.Bits.{Bits}
 use Rattle.states.specs.declared.signal.Signal.{Signal}
 use Rattle.states.specs.declared.changer_signal.ChangerSignal.{ChangerSignal}
@@ -18,6 +18,7 @@ use Rattle.states.specs.declared.points.Points.{Points}
 use Rattle.states.specs.declared.electric_lock.ElectricLock.{ElectricLock}
 use Rattle.states.specs.declared.general_notices.GeneralNotices.{GeneralNotices}
 use Rattle.states.specs.declared.control_boundary.ControlBoundary.{ControlBoundary}
+use Rattle.states.specs.declared.signal_v3.SignalV3.{SignalV3}
 
 -- b3 is whether the value of row 3 is 1: for each place among the rows at which some type has a field of one bit
 abbrev pub bitsOf : List ℕ → Bits
@@ -41,6 +42,7 @@ bitsOf vs = record {
   b16 = eqb (getD vs 16 0) 1;
   b17 = eqb (getD vs 17 0) 1;
   b18 = eqb (getD vs 18 0) 1;
+  b19 = eqb (getD vs 19 0) 1;
   b20 = eqb (getD vs 20 0) 1;
   b21 = eqb (getD vs 21 0) 1;
 }
@@ -332,4 +334,60 @@ controlBoundaryValues s =
     bitNo (s .«inc_shown») ∷
     bitNo (s .«neighbour_object_alarm») ∷
     0 ∷
+    []
+
+abbrev pub signalV3Of : List ℕ → SignalV3
+signalV3Of vs = record {
+  current = eqb (getD vs 0 0) 1;
+  kind = signalKindOf (getD vs 1 0);
+  «high_speed_auto_route» = eqb (getD vs 2 0) 1;
+  aspect = signalAspectOf (getD vs 3 0);
+  «red_fitted» = eqb (getD vs 4 0) 1;
+  «red_blown» = eqb (getD vs 5 0) 1;
+  «white_fitted» = eqb (getD vs 6 0) 1;
+  «white_blown» = eqb (getD vs 7 0) 1;
+  «vertical_white_fitted» = eqb (getD vs 8 0) 1;
+  «vertical_white_blown» = eqb (getD vs 9 0) 1;
+  «horizontal_white_fitted» = eqb (getD vs 10 0) 1;
+  «horizontal_white_blown» = eqb (getD vs 11 0) 1;
+  «blue_fitted» = eqb (getD vs 12 0) 1;
+  «blue_blown» = eqb (getD vs 13 0) 1;
+  «yellow_fitted» = eqb (getD vs 14 0) 1;
+  «yellow_blown» = eqb (getD vs 15 0) 1;
+  «green_fitted» = eqb (getD vs 16 0) 1;
+  «green_blown» = eqb (getD vs 17 0) 1;
+  «special_command_pending» = eqb (getD vs 18 0) 1;
+  «command_blocked» = eqb (getD vs 19 0) 1;
+  «mixed_gauge» = mixedGaugeIndicationOf (getD vs 20 0);
+  «automatic_succession» = eqb (getD vs 21 0) 1;
+  «auto_route» = autoRouteOf (getD vs 22 0);
+  router = routerIndicationOf (getD vs 23 0);
+}
+
+abbrev pub signalV3Values : SignalV3 → List ℕ
+signalV3Values s =
+    bitNo (s .current) ∷
+    signalKindNo (s .kind) ∷
+    bitNo (s .«high_speed_auto_route») ∷
+    signalAspectNo (s .aspect) ∷
+    bitNo (s .«red_fitted») ∷
+    bitNo (s .«red_blown») ∷
+    bitNo (s .«white_fitted») ∷
+    bitNo (s .«white_blown») ∷
+    bitNo (s .«vertical_white_fitted») ∷
+    bitNo (s .«vertical_white_blown») ∷
+    bitNo (s .«horizontal_white_fitted») ∷
+    bitNo (s .«horizontal_white_blown») ∷
+    bitNo (s .«blue_fitted») ∷
+    bitNo (s .«blue_blown») ∷
+    bitNo (s .«yellow_fitted») ∷
+    bitNo (s .«yellow_blown») ∷
+    bitNo (s .«green_fitted») ∷
+    bitNo (s .«green_blown») ∷
+    bitNo (s .«special_command_pending») ∷
+    bitNo (s .«command_blocked») ∷
+    mixedGaugeIndicationNo (s .«mixed_gauge») ∷
+    bitNo (s .«automatic_succession») ∷
+    autoRouteNo (s .«auto_route») ∷
+    routerIndicationNo (s .router) ∷
     []

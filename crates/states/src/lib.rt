@@ -12,6 +12,7 @@ mod line_track_circuit;
 mod points;
 mod points_track_circuit;
 mod signal;
+mod signal_v3;
 mod virtual_board;
 
 pub use changer_signal::ChangerSignal;
@@ -24,6 +25,7 @@ pub use line_track_circuit::LineTrackCircuit;
 pub use points::Points;
 pub use points_track_circuit::PointsTrackCircuit;
 pub use signal::Signal;
+pub use signal_v3::SignalV3;
 pub use virtual_board::VirtualBoard;
 ghost use mathlib.Core.Path.{_≡_};
 ghost use Prim.Native.Nat.{_<_};
@@ -68,6 +70,7 @@ struct Bits {
     b16: bool,
     b17: bool,
     b18: bool,
+    b19: bool,
     b20: bool,
     b21: bool,
 }
@@ -95,6 +98,7 @@ fn bits_of(values: [u32; 24]) -> Bits
         b16: bit(values, 16),
         b17: bit(values, 17),
         b18: bit(values, 18),
+        b19: bit(values, 19),
         b20: bit(values, 20),
         b21: bit(values, 21),
     }

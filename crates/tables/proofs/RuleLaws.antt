@@ -12,13 +12,17 @@ unfolding versionGood
 version-is v = refl
 
 module _ (x y : ℕ) where
-  pub catalogue-other : (x ≡ 1 → ⊥) → false ≡ catalogueGood x y
+  pub catalogue-other : (x ≡ 1 → ⊥) → (x ≡ 3 → ⊥) → false ≡ catalogueGood x y
   unfolding catalogueGood
-  catalogue-other n = simp (ne-eqb _ _ n)
+  catalogue-other n m = simp (ne-eqb _ _ n, ne-eqb _ _ m)
 
   pub catalogue-one : x ≡ 1 → eqb y 0 ≡ catalogueGood x y
   unfolding catalogueGood
   catalogue-one e = simp (eq-eqb _ _ e)
+
+  pub catalogue-three : x ≡ 3 → eqb y 0 ≡ catalogueGood x y
+  unfolding catalogueGood
+  catalogue-three e = rw e refl
 
 pub limit-is : (v : ℕ) → 32 ≡ labelLimit v
 unfolding labelLimit

@@ -161,10 +161,11 @@ fn is_version(version: u8) -> bool
 pub fn is_catalogue(x: u8, y: u8) -> bool
     ensures { λ r. ⌜ r ≡ catalogueGood x y ⌝ }
 {
-    if x != 1 {
-        return false;
+    match x {
+        1 => return y == 0,
+        3 => return y == 0,
+        _ => return false,
     }
-    y == 0
 }
 
 // The longest label under a version.

@@ -40,5 +40,8 @@ returns-10 c = ap Element.GeneralNotices (c .of-values10 .ensures) ∙ sym (ap (
 returns-11 : tie.Need-returns-11
 returns-11 c = ap Element.ControlBoundary (c .of-values11 .ensures) ∙ sym (ap (λ (k : Kind). elementOf k (c .before .before .before .args .values)) (c .before .enum-told11 .given .1))
 
+returns-12 : tie.Need-returns-12
+returns-12 c = ap Element.SignalV3 (c .of-values12 .ensures) ∙ sym (ap (λ (k : Kind). elementOf k (c .before .before .before .args .values)) (c .before .enum-told12 .given .1))
+
 pub element-of-spec : {M : Type 1} → statement M
-element-of-spec = tie.close (tie.spec (λ c. c .match .keys1) (λ c κs. tt) returns (λ c. c .match .keys2) (λ c κs. tt) returns-2 (λ c. c .match .keys3) (λ c κs. tt) returns-3 (λ c. c .match .keys4) (λ c κs. tt) returns-4 (λ c. c .match .keys5) (λ c κs. tt) returns-5 (λ c. c .match .keys6) (λ c κs. tt) returns-6 (λ c. c .match .keys7) (λ c κs. tt) returns-7 (λ c. c .match .keys8) (λ c κs. tt) returns-8 (λ c. c .match .keys9) (λ c κs. tt) returns-9 (λ c. c .match .keys10) (λ c κs. tt) returns-10 (λ c. c .match .keys11) (λ c κs. tt) returns-11)
+element-of-spec = tie.close (tie.spec (λ c. c .match .keys1) (λ c κs. tt) returns (λ c. c .match .keys2) (λ c κs. tt) returns-2 (λ c. c .match .keys3) (λ c κs. tt) returns-3 (λ c. c .match .keys4) (λ c κs. tt) returns-4 (λ c. c .match .keys5) (λ c κs. tt) returns-5 (λ c. c .match .keys6) (λ c κs. tt) returns-6 (λ c. c .match .keys7) (λ c κs. tt) returns-7 (λ c. c .match .keys8) (λ c κs. tt) returns-8 (λ c. c .match .keys9) (λ c κs. tt) returns-9 (λ c. c .match .keys10) (λ c κs. tt) returns-10 (λ c. c .match .keys11) (λ c κs. tt) returns-11 (λ c. c .match .keys12) (λ c κs. tt) returns-12)

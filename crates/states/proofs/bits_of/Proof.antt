@@ -7,7 +7,8 @@ use Rattle.states.proofs.bits_of.Tie as tie
 returns : tie.Need-returns
 returns c =
     let at-b20 = c .before in
-    let at-b18 = at-b20 .before in
+    let at-b19 = at-b20 .before in
+    let at-b18 = at-b19 .before in
     let at-b17 = at-b18 .before in
     let at-b16 = at-b17 .before in
     let at-b15 = at-b16 .before in
@@ -47,9 +48,10 @@ returns c =
       b16 = (at-b16 .bit17 .ensures) i;
       b17 = (at-b17 .bit18 .ensures) i;
       b18 = (at-b18 .bit19 .ensures) i;
-      b20 = (at-b20 .bit20 .ensures) i;
-      b21 = (c .bit21 .ensures) i;
+      b19 = (at-b19 .bit20 .ensures) i;
+      b20 = (at-b20 .bit21 .ensures) i;
+      b21 = (c .bit22 .ensures) i;
     }
 
 pub bits-of-spec : {M : Type 1} → statement M
-bits-of-spec = tie.close (tie.spec (λ c κs. lit< tt) (λ c κs. lit< tt) (λ c κs. lit< tt) (λ c κs. lit< tt) (λ c κs. lit< tt) (λ c κs. lit< tt) (λ c κs. lit< tt) (λ c κs. lit< tt) (λ c κs. lit< tt) (λ c κs. lit< tt) (λ c κs. lit< tt) (λ c κs. lit< tt) (λ c κs. lit< tt) (λ c κs. lit< tt) (λ c κs. lit< tt) (λ c κs. lit< tt) (λ c κs. lit< tt) (λ c κs. lit< tt) (λ c κs. lit< tt) (λ c κs. lit< tt) (λ c κs. lit< tt) returns)
+bits-of-spec = tie.close (tie.spec (λ c κs. lit< tt) (λ c κs. lit< tt) (λ c κs. lit< tt) (λ c κs. lit< tt) (λ c κs. lit< tt) (λ c κs. lit< tt) (λ c κs. lit< tt) (λ c κs. lit< tt) (λ c κs. lit< tt) (λ c κs. lit< tt) (λ c κs. lit< tt) (λ c κs. lit< tt) (λ c κs. lit< tt) (λ c κs. lit< tt) (λ c κs. lit< tt) (λ c κs. lit< tt) (λ c κs. lit< tt) (λ c κs. lit< tt) (λ c κs. lit< tt) (λ c κs. lit< tt) (λ c κs. lit< tt) (λ c κs. lit< tt) returns)

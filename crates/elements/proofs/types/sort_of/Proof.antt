@@ -10,8 +10,11 @@ use Rattle.elements.proofs.types.sort_of.Tie as tie
 returns : tie.Need-returns
 returns c = c .under-1 .ensures ∙ sym (ap (λ (x : ℕ). sortOf x (c .before .before .args .ty)) (c .before .match .keys1))
 
-other : tie.Need-returns-2
-other c = not-carried (c .before .args .x) (c .before .args .ty) catalogues (c .match .rest .1, tt)
+returns-2 : tie.Need-returns-2
+returns-2 c = c .under-3 .ensures ∙ sym (ap (λ (x : ℕ). sortOf x (c .before .before .args .ty)) (c .before .match .keys2))
+
+other : tie.Need-returns-3
+other c = not-carried (c .before .args .x) (c .before .args .ty) catalogues (c .match .rest .0 .1, (c .match .rest .1, tt))
 
 pub sort-of-spec : {M : Type 1} → statement M
-sort-of-spec = tie.close (tie.spec (λ c κs. tt) returns other)
+sort-of-spec = tie.close (tie.spec (λ c κs. tt) returns (λ c κs. tt) returns-2 other)

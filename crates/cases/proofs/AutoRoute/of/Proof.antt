@@ -1,0 +1,14 @@
+-- `cases::AutoRoute::of` meets its contract, arm by arm: a value that has no case is read as the first.
+-- Written by catalogue/write.py. Assumes nothing.
+use mathlib.Core.Path.{sym, ap}
+use lib.ListN.{List·getD-eq-default}
+use Rattle.cases.specs.Cases.{autoRouteCases, autoRouteOf}
+use Rattle.rows.proofs.Tests.{past}
+use Rattle.cases.proofs.AutoRoute.of.Statement.{statement}
+use Rattle.cases.proofs.AutoRoute.of.Tie as tie
+
+unlisted : tie.Need-returns-5
+unlisted c = sym (List·getD-eq-default autoRouteCases _ (past _ 4 (c .match .rest)))
+
+pub of-spec : {M : Type 1} → statement M
+of-spec = tie.close (tie.spec (λ c. sym (ap autoRouteOf (c .match .keys1))) (λ c. sym (ap autoRouteOf (c .match .keys2))) (λ c. sym (ap autoRouteOf (c .match .keys3))) (λ c. sym (ap autoRouteOf (c .match .keys4))) unlisted)
