@@ -1,18 +1,22 @@
--- Which types are carried; and a word of each, by the number that annex 1 of NAS 831 gives the type, is the state that the annex's bits say.
--- Kept by hand and typed from the paper and the annex's table of types; the bits and the cases are in `Annex` of `states` and of `cases`.
+-- Which types are carried; a word of each, by the number that annex 1 or 3 of NAS 831 gives the type, is the state that the annex's bits
+-- say; and which types two catalogues read alike.
+-- Kept by hand and typed from the papers and the annexes' tables of types; the bits and the cases are in `Annex` of `states` and of `cases`.
 -- Assumes nothing.
 use mathlib.Core.Path.{_≡_, refl, ap}
-use mathlib.Core.Bool.{Bool, true, false, cond}
+use mathlib.Core.Bool.{Bool, true, false, cond, not, _||_}
 use mathlib.Core.List.{List, [], _∷_, map}
 use Prim.Native.Nat.{ℕ}
-use lib.Dec.{eqb}
+use lib.Dec.{T, eqb}
+use borrow.Author.Tests.{eq-eqb}
 use Rattle.rows.specs.Table.{table, layouts}
-use Rattle.states.proofs.Annex.{signalIn, signal-bits, changerSignalIn, changer-signal-bits, virtualBoardIn, virtual-board-bits, lineTrackCircuitIn, line-track-circuit-bits, pointsTrackCircuitIn, points-track-circuit-bits, crossingTrackCircuitIn, crossing-track-circuit-bits, dualDetectionIn, dual-detection-bits, pointsIn, points-bits, electricLockIn, electric-lock-bits, generalNoticesIn, general-notices-bits, controlBoundaryIn, control-boundary-bits}
+use Rattle.states.proofs.Annex.{signalIn, signal-bits, changerSignalIn, changer-signal-bits, virtualBoardIn, virtual-board-bits, lineTrackCircuitIn, line-track-circuit-bits, pointsTrackCircuitIn, points-track-circuit-bits, crossingTrackCircuitIn, crossing-track-circuit-bits, dualDetectionIn, dual-detection-bits, pointsIn, points-bits, electricLockIn, electric-lock-bits, generalNoticesIn, general-notices-bits, controlBoundaryIn, control-boundary-bits, signalV3In, signal-v3-bits}
 use Rattle.kinds.specs.Kinds.{Line, sortIn, kindIn}
+use Rattle.kinds.specs.declared.Kind.{Kind}
 use Rattle.kinds.specs.declared.Element.{Element}
 use Rattle.kinds.specs.declared.Sort.{Sort}
 use Rattle.elements.specs.Types.{Catalogue, catalogues, sortUnder, sortOf}
-use Rattle.elements.specs.Elements.{isCarried, carried, stateOf}
+use Rattle.elements.specs.Elements.{isCarried, carried, kindOf, sameKind, stateOf}
+use Rattle.elements.proofs.TypeLaws.{allTypes, every-carried}
 
 -- ---- which types are carried
 
@@ -43,8 +47,9 @@ carried-under : (x type : ℕ) (cs : List Catalogue) → isCarried (sortUnder x 
 carried-under x type [] = refl
 carried-under x type (c ∷ cs) = either (eqb x (c .x)) (sortIn type (c .types)) (sortUnder x type cs) (carried-in type (c .types)) (carried-under x type cs)
 
--- "Catalogue 1.0, types 1 to 9, 22 and 23", and nothing else
-pub carried-exactly : (x type : ℕ) → carried x type ≡ carriedBy ((1, 1 ∷ 2 ∷ 3 ∷ 4 ∷ 5 ∷ 6 ∷ 7 ∷ 8 ∷ 9 ∷ 22 ∷ 23 ∷ []) ∷ []) x type
+-- "Catalogue 1.0, types 1 to 9, 22 and 23"; of 3.0 "its types 1 to 7"; and nothing else
+pub carried-exactly : (x type : ℕ) → carried x type
+    ≡ carriedBy ((1, 1 ∷ 2 ∷ 3 ∷ 4 ∷ 5 ∷ 6 ∷ 7 ∷ 8 ∷ 9 ∷ 22 ∷ 23 ∷ []) ∷ (3, 1 ∷ 2 ∷ 3 ∷ 4 ∷ 5 ∷ 6 ∷ 7 ∷ []) ∷ []) x type
 unfolding carried
 carried-exactly x type = carried-under x type catalogues
 
@@ -66,6 +71,7 @@ pub by-type : (w : ℕ) →
     × Reads 1 9 w (Element.ElectricLock (electricLockIn w))  -- 9 Cerradura Eléctrica/Bouré BOU
     × Reads 1 22 w (Element.GeneralNotices (generalNoticesIn w))  -- 22 Avisos Generales, sin reconocimiento de alarmas AVG
     × Reads 1 23 w (Element.ControlBoundary (controlBoundaryIn w))  -- 23 Frontera FRA
+    × Reads 3 1 w (Element.SignalV3 (signalV3In w))  -- 1 Señal luminosa SIG, of catalogue 3.0
 unfolding table layouts stateOf
 by-type w = (
   (refl, ap Element.Signal (signal-bits w)),
@@ -79,4 +85,29 @@ by-type w = (
   (refl, ap Element.ElectricLock (electric-lock-bits w)),
   (refl, ap Element.GeneralNotices (general-notices-bits w)),
   (refl, ap Element.ControlBoundary (control-boundary-bits w)),
+  (refl, ap Element.SignalV3 (signal-v3-bits w)),
 )
+
+-- ---- a type that two catalogues carry
+
+-- the same truth value
+abbrev agree : Bool → Bool → Bool
+agree a b = cond a b (not b)
+
+-- of one type, alike under both or, if it is type 1, under one catalogue alone
+abbrev alikeUnder : ℕ → ℕ → Kind → ℕ → ℕ → Kind → Bool
+alikeUnder x type k y type′ j = not (eqb type type′) || agree (sameKind k j) (eqb x y || not (eqb type 1))
+
+agreed : (a b : Bool) → T (agree a b) → a ≡ b
+agreed true true t = refl
+agreed false false t = refl
+
+same-type : (type : ℕ) (b : Bool) → T (not (eqb type type) || b) → T b
+same-type type b t = rw (eq-eqb type type refl) at t
+
+-- "Type 1 .. has a state of its own. Types 2 to 7 keep their admitted values": but for type 1 they are of one kind
+pub one-kind : (x y type : ℕ) → carried x type ≡ true → carried y type ≡ true → sameKind (kindOf x type) (kindOf y type) ≡ (eqb x y || not (eqb type 1))
+unfolding layouts
+one-kind x y type cx cy =
+    let other = every-carried (λ (x : ℕ) (type : ℕ) (k : Kind). allTypes (alikeUnder x type k) catalogues) tt x type cx in
+    agreed _ _ (same-type type _ (every-carried (alikeUnder x type (kindOf x type)) other y type cy))

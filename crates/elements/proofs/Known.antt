@@ -1,9 +1,9 @@
 -- The paper's known elements, all at once by computation: what is found of each, and the two states that it names; elements with two
--- faults, of which the lower is named, 12 last; and which kinds have DAT.
+-- faults, of which the lower is named, 12 last; words of the signal of catalogue 3.0; and which kinds lack DAT.
 -- Assumes nothing.
 use mathlib.Core.Path.{_≡_, refl}
-use mathlib.Core.Bool.{Bool, true, false}
-use mathlib.Core.List.{[], _∷_, map}
+use mathlib.Core.Bool.{true, false, cond}
+use mathlib.Core.List.{List, [], _∷_, map}
 use Rattle.octets.specs.Octets.{number}
 use Rattle.rows.specs.Table.{table, layouts}
 use Rattle.rows.specs.Fields.{codeAt}
@@ -40,19 +40,19 @@ pub two-faults : (elementCheck Kind.ChangerSignal 0x81 ≡ Finding.Refused (code
 unfolding table layouts datRule elementCheck
 two-faults = (refl, refl, refl, refl, refl)
 
--- typed from the annex, a line for each kind: bit 0 of all but AVG is DAT
-pub which-have-dat : map {B = Kind × Bool} (λ (k : Kind). (k, layoutOf k .dat)) kinds ≡
-    (Kind.Signal, true) ∷  -- SIG
-    (Kind.ChangerSignal, true) ∷  -- IC
-    (Kind.VirtualBoard, true) ∷  -- PV
-    (Kind.LineTrackCircuit, true) ∷  -- CV
-    (Kind.PointsTrackCircuit, true) ∷  -- CVA
-    (Kind.CrossingTrackCircuit, true) ∷  -- CVX
-    (Kind.DualDetection, true) ∷  -- SDT
-    (Kind.Points, true) ∷  -- AG
-    (Kind.ElectricLock, true) ∷  -- BOU
-    (Kind.GeneralNotices, false) ∷  -- AVG
-    (Kind.ControlBoundary, true) ∷  -- FRA
-    []
-unfolding table layouts
-which-have-dat = refl
+-- 3.0's signal: EAR alone, low, a router in automatic block, every highest listed value, without data; IND 13, GRP_ARS 3, EAR where DAT is 0.
+-- Two of these words are none of 1.0's signal: TIPO 4 and the reserved bit 31
+pub new-signal : (map (elementCheck (kindOf 3 1)) (0x00000009 ∷ 0x00000007 ∷ 0x80000001 ∷ 0xBFFFFFCF ∷ 0x00000000 ∷ 0x000000D1 ∷ 0xC0000001 ∷ 0x00000008 ∷ []) ≡
+    Finding.Accepted ∷ Finding.Accepted ∷ Finding.Accepted ∷ Finding.Accepted ∷ Finding.Accepted ∷ Finding.Refused (codeAt 11 4) ∷ Finding.Refused (codeAt 11 30) ∷ Finding.Refused (codeAt 12 0) ∷ [])
+    × (map (elementCheck (kindOf 1 1)) (0x00000009 ∷ 0x80000001 ∷ []) ≡ Finding.Refused (codeAt 11 1) ∷ Finding.Refused (codeAt 10 31) ∷ [])
+unfolding table layouts kindOf datRule elementCheck
+new-signal = (refl, refl)
+
+-- typed from the annexes: of which kinds bit 0 is no DAT
+abbrev lacking : List Kind → List Kind
+lacking [] = []
+lacking (k ∷ ks) = cond (layoutOf k .dat) (lacking ks) (k ∷ lacking ks)
+
+pub which-lack-dat : lacking kinds ≡ Kind.GeneralNotices ∷ []  -- AVG
+unfolding layouts
+which-lack-dat = refl

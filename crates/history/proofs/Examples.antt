@@ -1,16 +1,24 @@
 -- The paper's table, images and lists, as bytes: the calls give what it prints, each code is given where it should be and names what it should,
--- of two faults the first is named, what the forms' limits are, and its trap about joins.
+-- of two faults the first is named, what the forms' limits are, and its trap about joins; and the calls under catalogue 3.0.
 -- Assumes nothing.
 use Prim.Native.Nat.{ℕ}
 use mathlib.Core.Path.{_≡_, refl}
 use mathlib.Core.List.{List, [], _∷_, _++_, map, zipWith}
-use mathlib.Core.Bool.{true, false}
+use mathlib.Core.Bool.{Bool, true, false}
 use lib.ListN.{take, set, replicate}
 use Rattle.rows.specs.Table.{table, layouts}
 use Rattle.elements.specs.Elements.{carried, kindOf, datRule, elementCheck, stateOf, wordOf}
 use Rattle.kinds.specs.declared.Element.{Element}
 use Rattle.cases.specs.declared.ChangerAspect.{ChangerAspect}
 use Rattle.cases.specs.declared.BoardAspect.{BoardAspect}
+use Rattle.cases.specs.declared.SignalKind.{SignalKind}
+use Rattle.cases.specs.declared.SignalAspect.{SignalAspect}
+use Rattle.cases.specs.declared.MixedGaugeIndication.{MixedGaugeIndication}
+use Rattle.cases.specs.declared.AutoRouteIndication.{AutoRouteIndication}
+use Rattle.cases.specs.declared.AutoRoute.{AutoRoute}
+use Rattle.cases.specs.declared.RouterIndication.{RouterIndication}
+use Rattle.states.specs.declared.signal.Signal.{Signal}
+use Rattle.states.specs.declared.signal_v3.SignalV3.{SignalV3}
 use Rattle.history.specs.declared.Standing.{Standing}
 use Rattle.octets.specs.Octets.{bytes}
 use Rattle.history.specs.Verdict.{refused, done, told, settled, numbers, unnamed}
@@ -223,16 +231,17 @@ pub call-orders : (listCall (set T 6 1) (take 3 AB) ≡ refused 3 65535 255)
 unfolding table layouts datRule elementCheck stateOf wordOf bytes settled formBytes isWhole readForm versionGood catalogueGood labelLimit carried kindOf labelGood checkObject readTable planOf imageVersionGood element imageBytes readImage listVersion listBytes checkChange checkEntry readList difference applied join turned readPlan tableCall imageCall listCall differenceUnder differenceCall applyUnder applyCall joinUnder joinCall turnUnder turnCall readStateUnder readStateCall checkState writeStateUnder writeStateCall zipWith labelCall
 call-orders = (refl, refl, refl, refl, refl, refl, refl, refl, refl, refl, refl, refl)
 
--- what the forms may hold: labels of 33 to 126 with a colon inside, 32 bytes, version 1, catalogue 1.0
+-- what the forms may hold: labels of 33 to 126 with a colon inside, 32 bytes, version 1, catalogues 1.0 and 3.0
 pub limits : (map firstColon ((65 ∷ 58 ∷ 58 ∷ []) ∷ (65 ∷ 66 ∷ []) ∷ []) ≡ 1 ∷ 2 ∷ [])
     × (map labelGood ((33 ∷ 58 ∷ 126 ∷ []) ∷ (32 ∷ 58 ∷ 65 ∷ []) ∷ (65 ∷ 58 ∷ 127 ∷ []) ∷ (58 ∷ 65 ∷ []) ∷ (65 ∷ 58 ∷ []) ∷ (65 ∷ 66 ∷ 67 ∷ []) ∷ (65 ∷ 58 ∷ 58 ∷ []) ∷ []) ≡ true ∷ false ∷ false ∷ false ∷ false ∷ false ∷ true ∷ [])
     × (labelLimit 1 ≡ 32)
     × (map versionGood (0 ∷ 1 ∷ 2 ∷ 255 ∷ []) ≡ false ∷ true ∷ false ∷ false ∷ [])
     × (map imageVersionGood (0 ∷ 1 ∷ 2 ∷ 255 ∷ []) ≡ false ∷ true ∷ false ∷ false ∷ [])
     × (map (catalogueGood 1) (0 ∷ 1 ∷ 2 ∷ []) ≡ true ∷ false ∷ false ∷ [])
-    × (map (λ (x : ℕ). catalogueGood x 0) (0 ∷ 2 ∷ 3 ∷ []) ≡ false ∷ false ∷ false ∷ [])
+    × (map (catalogueGood 3) (0 ∷ 1 ∷ 2 ∷ []) ≡ true ∷ false ∷ false ∷ [])
+    × (map (λ (x : ℕ). catalogueGood x 0) (0 ∷ 2 ∷ 4 ∷ 255 ∷ []) ≡ false ∷ false ∷ false ∷ false ∷ [])
 unfolding labelGood labelLimit versionGood imageVersionGood catalogueGood
-limits = (refl, refl, refl, refl, refl, refl, refl)
+limits = (refl, refl, refl, refl, refl, refl, refl, refl)
 
 -- "A join that drops an object also applies to images that refuse the steps": the join of AB and BC drops object 0
 pub trap : (joinCall T AB BC ≡ done AC) × (applyCall T X AB ≡ refused 18 0 255) × (applyCall T X AC ≡ done Y)
@@ -252,3 +261,88 @@ pub received-each : (receiveCall T A AB (A ++ (5 ∷ [])) fresh ≡ record { ans
     × (receiveCall T A AB B (record { applied = 4294967294; late = 1; gap = 2; other = 3 }) .standing ≡ brim)
 unfolding table layouts datRule elementCheck stateOf wordOf bytes settled formBytes isWhole readForm versionGood catalogueGood labelLimit carried kindOf labelGood checkObject readTable planOf imageVersionGood element imageBytes readImage listVersion listBytes checkChange checkEntry readList applied readPlan applyUnder applyCall fresh counted receiveCall zipWith
 received-each = (refl, refl, refl, refl, refl, refl, refl)
+
+-- ---- catalogue 3.0: a signal and a changer signal. The signal's EAR is active; then it is green, its F flashes green and its router is in
+-- automatic block; then it is as at first
+
+abbrev pub T3 : List ℕ
+T3 = 0 ∷ 0 ∷ 0 ∷ 0x13 ∷ 1 ∷ 3 ∷ 0 ∷ 0 ∷ 2 ∷ 1 ∷ 5 ∷ 0x41 ∷ 0x41 ∷ 0x3A ∷ 0x53 ∷ 0x31 ∷ 2 ∷ 5 ∷ 0x41 ∷ 0x41 ∷ 0x3A ∷ 0x49 ∷ 0x31 ∷ []
+
+abbrev pub A3 : List ℕ
+A3 = 0 ∷ 0 ∷ 0 ∷ 0x0C ∷ 1 ∷ 3 ∷ 0 ∷ 0 ∷ 0 ∷ 0 ∷ 7 ∷ 0 ∷ 0 ∷ 0 ∷ 0x09 ∷ 0x03 ∷ []
+
+abbrev B3 : List ℕ
+B3 = 0 ∷ 0 ∷ 0 ∷ 0x0C ∷ 1 ∷ 3 ∷ 0 ∷ 0 ∷ 0 ∷ 0 ∷ 8 ∷ 0xA0 ∷ 0 ∷ 0 ∷ 0xB9 ∷ 0x03 ∷ []
+
+abbrev C3 : List ℕ
+C3 = 0 ∷ 0 ∷ 0 ∷ 0x0C ∷ 1 ∷ 3 ∷ 0 ∷ 0 ∷ 0 ∷ 0 ∷ 9 ∷ 0 ∷ 0 ∷ 0 ∷ 0x09 ∷ 0x05 ∷ []
+
+abbrev AB3 : List ℕ
+AB3 = 0 ∷ 0 ∷ 0 ∷ 0x17 ∷ 1 ∷ 3 ∷ 0 ∷ 0 ∷ 0 ∷ 0 ∷ 7 ∷ 0 ∷ 0 ∷ 0 ∷ 8 ∷ 0 ∷ 1 ∷ 0 ∷ 0 ∷ 0 ∷ 0 ∷ 0 ∷ 0x09 ∷ 0xA0 ∷ 0 ∷ 0 ∷ 0xB9 ∷ []
+
+abbrev BA3 : List ℕ
+BA3 = 0 ∷ 0 ∷ 0 ∷ 0x17 ∷ 1 ∷ 3 ∷ 0 ∷ 0 ∷ 0 ∷ 0 ∷ 8 ∷ 0 ∷ 0 ∷ 0 ∷ 7 ∷ 0 ∷ 1 ∷ 0 ∷ 0 ∷ 0xA0 ∷ 0 ∷ 0 ∷ 0xB9 ∷ 0 ∷ 0 ∷ 0 ∷ 0x09 ∷ []
+
+abbrev BC3 : List ℕ
+BC3 = 0 ∷ 0 ∷ 0 ∷ 0x1B ∷ 1 ∷ 3 ∷ 0 ∷ 0 ∷ 0 ∷ 0 ∷ 8 ∷ 0 ∷ 0 ∷ 0 ∷ 9 ∷ 0 ∷ 2 ∷ 0 ∷ 0 ∷ 0xA0 ∷ 0 ∷ 0 ∷ 0xB9 ∷ 0 ∷ 0 ∷ 0 ∷ 0x09 ∷ 0 ∷ 1 ∷ 0x03 ∷ 0x05 ∷ []
+
+abbrev AC3 : List ℕ
+AC3 = 0 ∷ 0 ∷ 0 ∷ 0x11 ∷ 1 ∷ 3 ∷ 0 ∷ 0 ∷ 0 ∷ 0 ∷ 7 ∷ 0 ∷ 0 ∷ 0 ∷ 9 ∷ 0 ∷ 1 ∷ 0 ∷ 1 ∷ 0x03 ∷ 0x05 ∷ []
+
+-- the same objects under 1.0, the signal with data and nothing else
+abbrev T1 : List ℕ
+T1 = set T3 5 1
+
+abbrev A1 : List ℕ
+A1 = set (set A3 5 1) 14 0x01
+
+-- with data, and without
+abbrev routed : Bool → SignalV3
+routed current = record { current = current; kind = SignalKind.Unknown; «high_speed_auto_route» = true; aspect = SignalAspect.Green; «red_fitted» = false; «red_blown» = false; «white_fitted» = false; «white_blown» = false; «vertical_white_fitted» = false; «vertical_white_blown» = false; «horizontal_white_fitted» = false; «horizontal_white_blown» = false; «blue_fitted» = false; «blue_blown» = false; «yellow_fitted» = false; «yellow_blown» = false; «green_fitted» = false; «green_blown» = false; «special_command_pending» = false; «command_blocked» = false; «mixed_gauge» = MixedGaugeIndication.NoThirdRail; «automatic_succession» = false; «auto_route» = AutoRoute.GreenFlashing; router = RouterIndication.AutomaticBlock }
+
+abbrev green : Bool → Signal
+green current = record { current = current; kind = SignalKind.Unknown; aspect = SignalAspect.Green; «red_fitted» = false; «red_blown» = false; «white_fitted» = false; «white_blown» = false; «vertical_white_fitted» = false; «vertical_white_blown» = false; «horizontal_white_fitted» = false; «horizontal_white_blown» = false; «blue_fitted» = false; «blue_blown» = false; «yellow_fitted» = false; «yellow_blown» = false; «green_fitted» = false; «green_blown» = false; «special_command_pending» = false; «command_blocked» = false; «mixed_gauge» = MixedGaugeIndication.NoThirdRail; «automatic_succession» = false; «auto_route_set» = false; «auto_route_indication» = AutoRouteIndication.GreenSteady }
+
+pub new-catalogue : (tableCall T3 ≡ done (record { version = 1; x = 3; y = 0; objects = record { type = 1; label = 0x41 ∷ 0x41 ∷ 0x3A ∷ 0x53 ∷ 0x31 ∷ [] } ∷ record { type = 2; label = 0x41 ∷ 0x41 ∷ 0x3A ∷ 0x49 ∷ 0x31 ∷ [] } ∷ [] }))
+    × (imageCall T3 A3 ≡ done (record { version = 1; position = 7; words = 0x00000009 ∷ 0x03 ∷ [] }))
+    × (listCall T3 AB3 ≡ done (record { from = 7; to = 8; each = swap 0x00000009 0xA00000B9 ∷ keep ∷ [] }))
+    × (differenceCall T3 A3 B3 ≡ done AB3)
+    × (differenceCall T3 B3 C3 ≡ done BC3)
+    × (applyCall T3 A3 AB3 ≡ done B3)
+    × (joinCall T3 AB3 BC3 ≡ done AC3)
+    × (differenceCall T3 A3 C3 ≡ done AC3)
+    × (turnCall T3 AB3 ≡ done BA3)
+    × (differenceCall T3 B3 A3 ≡ done BA3)
+    × (readStateCall T3 B3 0 ≡ done (Element.SignalV3 (routed true)))
+    × (writeStateCall T3 A3 0 (Element.SignalV3 (routed true)) 8 ≡ done B3)
+    × (readStateCall T3 A3 1 ≡ done fixedT)
+    × (writeStateCall T1 A1 1 fixedT 7 ≡ done A1)
+unfolding table layouts datRule elementCheck stateOf wordOf bytes settled formBytes isWhole readForm versionGood catalogueGood labelLimit carried kindOf labelGood checkObject readTable planOf imageVersionGood element imageBytes readImage listVersion listBytes checkChange checkEntry readList difference applied join turned readPlan tableCall imageCall listCall differenceUnder differenceCall applyUnder applyCall joinUnder joinCall turnUnder turnCall readStateUnder readStateCall checkState writeStateUnder writeStateCall zipWith
+new-catalogue = (refl, refl, refl, refl, refl, refl, refl, refl, refl, refl, refl, refl, refl, refl)
+
+-- 3: neither 1.0 nor 3.0; 5: types 8, 9, 22 and 23, and the object; 9: an image and a list of the other catalogue; 11 and 10: GRP_ARS 3, and bit 31
+-- under 1.0; 22, before 12: a signal of one catalogue under the other
+pub new-refusals : (tableCall (set T3 5 2) ≡ refused 3 65535 255)
+    × (tableCall (set T3 5 0) ≡ refused 3 65535 255)
+    × (tableCall (set T3 6 1) ≡ refused 3 65535 255)
+    × (tableCall (set T1 6 1) ≡ refused 3 65535 255)
+    × (tableCall (set T3 9 8) ≡ refused 5 0 255)
+    × (tableCall (set T3 16 9) ≡ refused 5 1 255)
+    × (tableCall (set T3 16 22) ≡ refused 5 1 255)
+    × (tableCall (set T3 16 23) ≡ refused 5 1 255)
+    × (imageCall T3 A1 ≡ refused 9 65535 255)
+    × (imageCall T1 A3 ≡ refused 9 65535 255)
+    × (imageCall T3 (set A3 6 1) ≡ refused 9 65535 255)
+    × (listCall T1 AB3 ≡ refused 9 65535 255)
+    × (listCall T3 (set AB3 5 1) ≡ refused 9 65535 255)
+    × (imageCall T3 (set A3 11 0xC0) ≡ refused 11 0 30)
+    × (imageCall T1 (set A1 11 0x80) ≡ refused 10 0 31)
+    × (imageCall T1 (set A1 14 0x09) ≡ refused 11 0 1)
+    × (imageCall T3 (set A3 14 0x08) ≡ refused 12 0 0)
+    × (writeStateCall T3 A3 0 (Element.Signal (green true)) 8 ≡ refused 22 0 255)
+    × (writeStateCall T1 A1 0 (Element.SignalV3 (routed true)) 8 ≡ refused 22 0 255)
+    × (writeStateCall T3 A3 0 (Element.Signal (green false)) 8 ≡ refused 22 0 255)
+    × (writeStateCall T1 A1 0 (Element.SignalV3 (routed false)) 8 ≡ refused 22 0 255)
+    × (writeStateCall T3 A3 0 (Element.SignalV3 (routed false)) 8 ≡ refused 12 0 0)
+unfolding table layouts datRule elementCheck stateOf wordOf bytes settled formBytes isWhole readForm versionGood catalogueGood labelLimit carried kindOf labelGood checkObject readTable planOf imageVersionGood element imageBytes readImage listVersion listBytes checkChange checkEntry readList difference applied join turned readPlan tableCall imageCall listCall differenceUnder differenceCall applyUnder applyCall joinUnder joinCall turnUnder turnCall readStateUnder readStateCall checkState writeStateUnder writeStateCall zipWith
+new-refusals = (refl, refl, refl, refl, refl, refl, refl, refl, refl, refl, refl, refl, refl, refl, refl, refl, refl, refl, refl, refl, refl, refl)

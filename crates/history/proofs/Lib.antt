@@ -19,5 +19,6 @@ pub mod HistoryLaws
 pub mod StandingLaws
 pub mod NameLaws
 pub mod CodeLaws
+pub mod CatalogueLaws
 pub mod ReceiverLaws
 pub mod Examples

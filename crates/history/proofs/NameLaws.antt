@@ -118,19 +118,21 @@ module _ {n : ℕ} {ks : List Kind} {given : ℕ → Type 0} where
   unfolding readForm
   form-named least good b = named-test (isWhole least b) _ _ refl λ t. named-test (good (getD b 4 0)) _ _ refl λ t. accepts
 
-  object-named : (version x : ℕ) (earlier : List Object) (b : List ℕ) (e : ObjectEntry) → length earlier < n → Named (Names n ks given) (checkObject version x earlier b e)
+-- the entries of a table of n objects refuse with a code that names an object, or with 8
+module _ {P : ℕ → ℕ → ℕ → Type 0} (n : ℕ) (at : (code i : ℕ) → oneOf objects code ≡ true → i < n → P code i 255) (eight : P 8 65535 255) where
+  object-named : (version x : ℕ) (earlier : List Object) (b : List ℕ) (e : ObjectEntry) → length earlier < n → Named P (checkObject version x earlier b e)
   unfolding checkObject
   object-named version x earlier b e l =
-      named-test (leb 2 (length b)) _ _ refl λ t.
-      named-at (carried x (e .object .type)) _ _ _ refl l λ t.
-      named-at (leb 1 (e .size) && leb (e .size) (labelLimit version)) _ _ _ refl l λ t.
-      named-test (leb (2 + e .size) (length b)) _ _ refl λ t.
-      named-at (labelGood (e .object .label)) _ _ _ refl l λ t.
-      named-at (not (repeats (e .object) earlier)) _ _ _ refl l λ t.
+      named-unless (leb 2 (length b)) _ _ (λ f. refuses eight) λ t.
+      named-unless (carried x (e .object .type)) _ _ (λ f. refuses (at 5 _ refl l)) λ t.
+      named-unless (leb 1 (e .size) && leb (e .size) (labelLimit version)) _ _ (λ f. refuses (at 6 _ refl l)) λ t.
+      named-unless (leb (2 + e .size) (length b)) _ _ (λ f. refuses eight) λ t.
+      named-unless (labelGood (e .object .label)) _ _ (λ f. refuses (at 6 _ refl l)) λ t.
+      named-unless (not (repeats (e .object) earlier)) _ _ (λ f. refuses (at 7 _ refl l)) λ t.
       accepts
 
-  objects-named : (version x : ℕ) (earlier : List Object) (m : ℕ) (b : List ℕ) → length earlier + m ≤ n → Named (Names n ks given) (readObjects version x earlier m b)
-  objects-named version x earlier zero b l = named-test (eqb (length b) 0) _ _ refl λ t. accepts
+  pub objects-named : (version x : ℕ) (earlier : List Object) (m : ℕ) (b : List ℕ) → length earlier + m ≤ n → Named P (readObjects version x earlier m b)
+  objects-named version x earlier zero b l = named-unless (eqb (length b) 0) _ _ (λ f. refuses eight) λ t. accepts
   objects-named version x earlier (suc m) b l =
       named-then (checkObject version x earlier b (objectAt b)) _ (object-named version x earlier b (objectAt b) (omega arith))
       λ e q. objects-named version x (earlier ++ (e .object ∷ [])) m (e .rest) (omega (arith, length-append earlier (e .object ∷ [])))
@@ -146,7 +148,7 @@ table-named b =
     named-test (catalogueGood (f .x) (f .y)) _ _ refl λ t.
     named-test (leb (number (take 2 (f .contents))) 1024) _ _ refl λ t.
     named-then (readObjects (f .version) (f .x) [] (number (take 2 (f .contents))) (drop 2 (f .contents))) _
-    (objects-named (f .version) (f .x) [] (number (take 2 (f .contents))) (drop 2 (f .contents)) (omega (arith, ap (λ (c : List ℕ). number (take 2 c)) (form-contents 5 versionGood b e))))
+    (objects-named (countIn b) (λ code i h l. an-object h l) (nothing refl) (f .version) (f .x) [] (number (take 2 (f .contents))) (drop 2 (f .contents)) (omega (arith, ap (λ (c : List ℕ). number (take 2 c)) (form-contents 5 versionGood b e))))
     λ os e. accepts
 
 -- ---- under a plan
