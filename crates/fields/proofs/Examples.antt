@@ -1,7 +1,7 @@
 -- Fields by computation: those of two states, a refused reading, and fields handed in for the paper's changer signal (fixed T, object 1).
 -- Assumes nothing.
 use mathlib.Core.Path.{_≡_, refl}
-use mathlib.Core.List.{_∷_}
+use mathlib.Core.List.{_∷_, _++_}
 use lib.ListN.{take, set, replicate}
 use Rattle.octets.specs.Octets.{bytes}
 use Rattle.rows.specs.Table.{table, layouts}
@@ -12,17 +12,18 @@ use Rattle.history.specs.Form.{formBytes, isWhole, readForm}
 use Rattle.history.specs.Table.{versionGood, catalogueGood, labelLimit, labelGood, checkObject, readTable, planOf}
 use Rattle.history.specs.Image.{imageVersionGood, element, imageBytes, readImage}
 use Rattle.history.specs.Calls.{readPlan, readStateUnder, readStateCall, checkState, writeStateUnder, writeStateCall}
-use Rattle.history.proofs.Examples.{T, A, C}
+use Rattle.history.proofs.Examples.{T, A, C, T3, A3}
 use Rattle.panel.specs.declared.read.Reading.{Reading}
 use Rattle.fields.specs.Fields.{shownOf, plainOf}
 use Rattle.fields.specs.Calls.{writeFieldsCall}
 
--- a green high signal; a track circuit of points whose third row is reserved; a refusal
+-- a green high signal; a signal of catalogue 3.0, whose kind is 31; a track circuit of points whose third row is reserved; a refusal
 pub handed-out : (plainOf (Reading.State (stateOf Kind.Signal 0x000001B5)) ≡ record { answer = unnamed 0 0; kind = 1; count = 23; fields = 1 ∷ 2 ∷ 11 ∷ 1 ∷ replicate 28 0 })
+    × (plainOf (Reading.State (stateOf Kind.SignalV3 0xA00001BD)) ≡ record { answer = unnamed 0 0; kind = 31; count = 24; fields = 1 ∷ 2 ∷ 1 ∷ 11 ∷ 1 ∷ replicate 17 0 ++ (2 ∷ 2 ∷ replicate 8 0) })
     × (plainOf (Reading.State (stateOf Kind.PointsTrackCircuit 0x0009)) ≡ record { answer = unnamed 0 0; kind = 5; count = 8; fields = 1 ∷ 0 ∷ 1 ∷ replicate 29 0 })
     × (plainOf (Reading.Refused (numbers 13 7 255 0)) ≡ record { answer = numbers 13 7 255 0; kind = 0; count = 0; fields = replicate 32 0 })
 unfolding table layouts stateOf shownOf plainOf
-handed-out = (refl, refl, refl)
+handed-out = (refl, refl, refl, refl)
 
 -- fixed C; a value with no named case, another kind's number, no such object, and a value without data
 pub taken-in : (writeFieldsCall T A 1 2 (1 ∷ 2 ∷ replicate 30 0) 9 ≡ done C)
@@ -32,6 +33,12 @@ pub taken-in : (writeFieldsCall T A 1 2 (1 ∷ 2 ∷ replicate 30 0) 9 ≡ done 
     × (writeFieldsCall T A 1 2 (0 ∷ 1 ∷ replicate 30 0) 9 ≡ refused 12 1 0)
 unfolding table layouts datRule elementCheck stateOf wordOf bytes formBytes isWhole readForm versionGood catalogueGood labelLimit carried kindOf labelGood checkObject readTable planOf imageVersionGood element imageBytes readImage readPlan readStateUnder readStateCall checkState writeStateUnder writeStateCall writeFieldsCall
 taken-in = (refl, refl, refl, refl, refl)
+
+-- a signal's number is 31 under catalogue 3.0 and 1 under 1.0: the other's is refused with 22
+pub other-signal : (writeFieldsCall T3 A3 0 1 (1 ∷ replicate 31 0) 7 ≡ refused 22 0 255)
+    × (writeFieldsCall (set T3 5 1) (set (set A3 5 1) 14 0x01) 0 31 (1 ∷ replicate 31 0) 7 ≡ refused 22 0 255)
+unfolding table layouts datRule elementCheck stateOf wordOf bytes formBytes isWhole readForm versionGood catalogueGood labelLimit carried kindOf labelGood checkObject readTable planOf imageVersionGood element imageBytes readImage readPlan readStateUnder readStateCall checkState writeStateUnder writeStateCall writeFieldsCall
+other-signal = (refl, refl)
 
 -- two faults at once: table, image and 13 before 22, 22 before 11, the lowest value before another, 11 before 12; a value of one bit; a number that
 -- no kind has; what stands behind the kind's own fields

@@ -21,7 +21,7 @@ unfolding answerSlots readSlots labelSlots
 places = (refl, refl, refl, refl, refl)
 
 -- IC 03, AVG 01 00, SIG 00 00 01 D5; a type that is not carried, whatever the length; a length that is not the type's, whatever the bits; a
--- catalogue that is not carried, whatever the type
+-- catalogue that is not carried, whatever the type; the same under 3.0, whose signal has EAR in bit 3 and GRP_ARS in bits 30 and 31
 pub elements : (elementCall 1 0 2 (0x03 ∷ []) ≡ done 0x03)
     × (elementCall 1 0 22 (0x01 ∷ 0x00 ∷ []) ≡ done 0x0100)
     × (elementCall 1 0 1 (0x00 ∷ 0x00 ∷ 0x01 ∷ 0xD5 ∷ []) ≡ refused 11 65535 4)
@@ -34,5 +34,13 @@ pub elements : (elementCall 1 0 2 (0x03 ∷ []) ≡ done 0x03)
     × (elementCall 1 1 2 (0x03 ∷ []) ≡ refused 3 65535 255)
     × (elementCall 0 0 2 (0x03 ∷ []) ≡ refused 3 65535 255)
     × (elementCall 1 1 10 [] ≡ refused 3 65535 255)
+    × (elementCall 3 1 10 [] ≡ refused 3 65535 255)
+    × (elementCall 2 0 2 (0x03 ∷ []) ≡ refused 3 65535 255)
+    × (elementCall 3 0 2 (0x03 ∷ []) ≡ done 0x03)
+    × (elementCall 3 0 8 (0x03 ∷ []) ≡ refused 5 65535 255)
+    × (elementCall 3 0 1 (0x03 ∷ []) ≡ refused 8 65535 255)
+    × (elementCall 3 0 1 (0x00 ∷ 0x00 ∷ 0x00 ∷ 0x09 ∷ []) ≡ done 0x00000009)
+    × (elementCall 3 0 1 (0xC0 ∷ 0x00 ∷ 0x00 ∷ 0x01 ∷ []) ≡ refused 11 65535 30)
+    × (elementCall 1 0 1 (0x00 ∷ 0x00 ∷ 0x00 ∷ 0x09 ∷ []) ≡ refused 11 65535 1)
 unfolding table layouts carried kindOf datRule elementCheck catalogueGood element elementCall
-elements = (refl, refl, refl, refl, refl, refl, refl, refl, refl, refl, refl, refl)
+elements = (refl, refl, refl, refl, refl, refl, refl, refl, refl, refl, refl, refl, refl, refl, refl, refl, refl, refl, refl, refl)

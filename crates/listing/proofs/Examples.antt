@@ -1,5 +1,5 @@
--- The paper's listing of its table and image A, and its refusal line, where object 1's element is 09; the same of the call; input that is
--- too short, and two faults.
+-- The paper's listing of its table and image A, and its refusal line, where object 1's element is 09; the same of the call; a listing under
+-- catalogue 3.0; input that is too short, and two faults.
 -- Assumes nothing.
 use Prim.Native.Nat.{ℕ}
 use mathlib.Core.Path.{_≡_, refl}
@@ -12,7 +12,7 @@ use Rattle.history.specs.Verdict.{refused, done}
 use Rattle.history.specs.Form.{isWhole, readForm}
 use Rattle.history.specs.Table.{versionGood, catalogueGood, labelLimit, labelGood, checkObject, readTable, planOf}
 use Rattle.history.specs.Image.{imageVersionGood, element, readImage}
-use Rattle.history.proofs.Examples.{T, A}
+use Rattle.history.proofs.Examples.{T, A, T3, A3}
 use Rattle.text.specs.Decimal.{decimalIn, decimal}
 use Rattle.text.specs.Hex.{hexDigit}
 use Rattle.listing.specs.Listing.{readBoth, readPanel, firstLine, objectLine, refusedLine, listingCall, printed, listingOf}
@@ -28,13 +28,21 @@ lines =
 abbrev refusal : List ℕ
 refusal = 0x72 ∷ 0x65 ∷ 0x66 ∷ 0x75 ∷ 0x73 ∷ 0x65 ∷ 0x64 ∷ 0x20 ∷ 0x31 ∷ 0x30 ∷ 0x20 ∷ 0x31 ∷ 0x20 ∷ 0x33 ∷ 0x0A ∷ []
 
+-- "3.0 7 2", "0 1 AA:S1 00000009", "1 2 AA:I1 03", each with its newline
+abbrev new-lines : List ℕ
+new-lines =
+    0x33 ∷ 0x2E ∷ 0x30 ∷ 0x20 ∷ 0x37 ∷ 0x20 ∷ 0x32 ∷ 0x0A
+    ∷ 0x30 ∷ 0x20 ∷ 0x31 ∷ 0x20 ∷ 0x41 ∷ 0x41 ∷ 0x3A ∷ 0x53 ∷ 0x31 ∷ 0x20 ∷ 0x30 ∷ 0x30 ∷ 0x30 ∷ 0x30 ∷ 0x30 ∷ 0x30 ∷ 0x30 ∷ 0x39 ∷ 0x0A
+    ∷ 0x31 ∷ 0x20 ∷ 0x32 ∷ 0x20 ∷ 0x41 ∷ 0x41 ∷ 0x3A ∷ 0x49 ∷ 0x31 ∷ 0x20 ∷ 0x30 ∷ 0x33 ∷ 0x0A ∷ []
+
 pub listings : (listingOf (T ++ A) ≡ lines)
+    × (listingOf (T3 ++ A3) ≡ new-lines)
     × (listingOf (T ++ set A 13 9) ≡ refusal)
     × (listingCall (T ++ A) ≡ done lines)
     × (listingCall (T ++ set A 13 9) ≡ refused 10 1 3)
     × (listingCall (take 23 T) ≡ refused 1 65535 255)
 unfolding bytes table layouts carried kindOf datRule elementCheck isWhole readForm versionGood catalogueGood labelLimit labelGood checkObject readTable planOf imageVersionGood element readImage decimalIn decimal hexDigit readBoth readPanel firstLine objectLine refusedLine listingCall printed listingOf
-listings = (refl, refl, refl, refl, refl)
+listings = (refl, refl, refl, refl, refl, refl)
 
 -- "refused 1 65535 255" and "refused 3 65535 255", each with its newline
 abbrev unnamed : ℕ → List ℕ

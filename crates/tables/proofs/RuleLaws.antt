@@ -4,25 +4,16 @@ use Prim.Native.Nat.{ℕ, _≤_, _<_}
 use mathlib.Core.Path.{_≡_, refl}
 use mathlib.Core.Bool.{false, _&&_}
 use lib.Dec.{eqb, leb}
-use borrow.Author.Tests.{lt-leb, le-leb, eq-eqb, ne-eqb}
+use borrow.Author.Tests.{lt-leb, le-leb, ne-eqb}
 use Rattle.history.specs.Table.{versionGood, catalogueGood, labelLimit}
 
 pub version-is : (v : ℕ) → eqb v 1 ≡ versionGood v
 unfolding versionGood
 version-is v = refl
 
-module _ (x y : ℕ) where
-  pub catalogue-other : (x ≡ 1 → ⊥) → (x ≡ 3 → ⊥) → false ≡ catalogueGood x y
-  unfolding catalogueGood
-  catalogue-other n m = simp (ne-eqb _ _ n, ne-eqb _ _ m)
-
-  pub catalogue-one : x ≡ 1 → eqb y 0 ≡ catalogueGood x y
-  unfolding catalogueGood
-  catalogue-one e = simp (eq-eqb _ _ e)
-
-  pub catalogue-three : x ≡ 3 → eqb y 0 ≡ catalogueGood x y
-  unfolding catalogueGood
-  catalogue-three e = rw e refl
+pub catalogue-other : (x y : ℕ) → (x ≡ 1 → ⊥) → (x ≡ 3 → ⊥) → false ≡ catalogueGood x y
+unfolding catalogueGood
+catalogue-other x y n m = simp (ne-eqb _ _ n, ne-eqb _ _ m)
 
 pub limit-is : (v : ℕ) → 32 ≡ labelLimit v
 unfolding labelLimit
