@@ -1,42 +1,59 @@
 #!/usr/bin/env python3
-"""Writes station.bin, a table and its image one behind the other, from station.txt. Another pair: make.py SOURCE TARGET."""
+"""Writes from each station's text, NAME.txt, what stands beside it: NAME.bin, the table and its image one behind the other, and
+NAME.listing, the text that the listing program has to write. The elements in the text are made by hand from the norm's annexes, and
+the listing is made from the text: neither is the program's. Other texts: make.py FILE.."""
+import glob
 import os
 import sys
 
-CATALOGUE = bytes([1, 0])
-
-
-def form(contents):
-    """A form: the length of all that follows, version 1, the catalogue's X and Y, the contents."""
-    body = bytes([1]) + CATALOGUE + contents
-    return len(body).to_bytes(4, "big") + body
-
 
 def read(lines):
-    """The position, and (type, label, element) of each object."""
-    position, objects = 0, []
+    """The catalogue's X and Y, the position, and (type, label, element) of each object."""
+    catalogue, position, objects = (1, 0), 0, []
     for line in lines:
         words = line.split("#", 1)[0].split()
         if not words:
             continue
-        if words[0] == "position":
+        if words[0] == "catalogue":
+            catalogue = tuple(int(part) for part in words[1].split("."))
+        elif words[0] == "position":
             position = int(words[1])
         else:
             kind, label, element = words
-            objects.append((int(kind), label.encode("ascii"), bytes.fromhex(element)))
-    return position, objects
+            objects.append((int(kind), label, bytes.fromhex(element)))
+    return catalogue, position, objects
+
+
+def form(catalogue, contents):
+    """A form: the length of all that follows, version 1, the catalogue's X and Y, the contents."""
+    body = bytes([1, *catalogue]) + contents
+    return len(body).to_bytes(4, "big") + body
+
+
+def forms(catalogue, position, objects):
+    entries = b"".join(bytes([kind, len(label)]) + label.encode("ascii") for kind, label, _ in objects)
+    elements = b"".join(element for _, _, element in objects)
+    table = form(catalogue, len(objects).to_bytes(2, "big") + entries)
+    return table + form(catalogue, position.to_bytes(4, "big") + elements)
+
+
+def listing(catalogue, position, objects):
+    lines = ["%d.%d %d %d" % (*catalogue, position, len(objects))]
+    for number, (kind, label, element) in enumerate(objects):
+        lines.append("%d %d %s %s" % (number, kind, label, element.hex().upper()))
+    return "".join(line + "\n" for line in lines)
 
 
 def main():
     here = os.path.dirname(os.path.abspath(__file__))
-    source, target = sys.argv[1:3] if len(sys.argv) > 2 else (os.path.join(here, "station.txt"), os.path.join(here, "station.bin"))
-    with open(source, encoding="ascii") as lines:
-        position, objects = read(lines)
-    entries = b"".join(bytes([kind, len(label)]) + label for kind, label, element in objects)
-    table = form(len(objects).to_bytes(2, "big") + entries)
-    image = form(position.to_bytes(4, "big") + b"".join(element for kind, label, element in objects))
-    with open(target, "wb") as out:
-        out.write(table + image)
+    for source in sys.argv[1:] or sorted(glob.glob(os.path.join(here, "*.txt"))):
+        name = os.path.splitext(source)[0]
+        with open(source, encoding="ascii") as lines:
+            station = read(lines)
+        with open(name + ".bin", "wb") as out:
+            out.write(forms(*station))
+        with open(name + ".listing", "w", encoding="ascii") as out:
+            out.write(listing(*station))
 
 
 if __name__ == "__main__":
