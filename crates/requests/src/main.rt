@@ -4,9 +4,10 @@
 //     CODE OBJECT BIT LENGTH name=value ..    its answer
 //
 // Bytes are lower-case hex, `-` where there are none; numbers are decimal. A lent output is given whole: in the request
-// as it is before the call, in the answer as it is after. A state is TYPE:v,v,.. (the fields that aren't reserved, from
-// bit 0 up) or none. A standing is applied,late,gap,other. An element's catalogue is 1.0 where none is named. A line
-// that begins with # is printed as it is. It is proved safe and says no more.
+// as it is before the call, in the answer as it is after. A state is KIND:v,v,.. (the fields that aren't reserved, from
+// bit 0 up) or none; KIND is the type, but 31 for the signal of catalogue 3.0, which is 301 in the outside vectors. A
+// standing is applied,late,gap,other. An element's catalogue is 1.0 where none is named. A line that begins with # is
+// printed as it is. It is proved safe and says no more.
 mod objects;
 mod operations;
 mod under_table;
