@@ -40,6 +40,10 @@ refuted false n = refl
 abbrev pub OneOrThree : ℕ → ℕ → Type 0
 OneOrThree x y = ((x ≡ 1) ⊎ (x ≡ 3)) × (y ≡ 0)
 
+catalogue-carried : (x y : ℕ) → OneOrThree x y → catalogueGood x y ≡ true
+unfolding catalogueGood
+catalogue-carried x y c = rw (c .1) (⊎-elim (λ q. rw q refl) (λ q. rw q refl) (c .0))
+
 either : (a b : Bool) → (a || b) ≡ true → (a ≡ true) ⊎ (b ≡ true)
 either true b e = inl refl
 either false b e = inr e
@@ -50,10 +54,6 @@ one-or-three x y e = (
   ⊎-elim (λ q. inl (eqb-true x 1 q)) (λ q. inr (eqb-true x 3 q)) (either (eqb x 1) (eqb x 3) (left (eqb x 1 || eqb x 3) (eqb y 0) e)),
   eqb-true y 0 (right (eqb x 1 || eqb x 3) (eqb y 0) e),
 )
-
-catalogue-carried : (x y : ℕ) → OneOrThree x y → catalogueGood x y ≡ true
-unfolding catalogueGood
-catalogue-carried x y c = rw (c .1) (⊎-elim (λ q. rw q refl) (λ q. rw q refl) (c .0))
 
 -- what follows the catalogue is not refused with 3
 not-three : (f : Form) (g : List Object → Table) → Named (λ code object bit. code ≡ 3 → ⊥)
