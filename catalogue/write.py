@@ -384,7 +384,8 @@ fn bits_of(values: [u32; 24]) -> Bits
 
 
 def state_source(l):
-    text = f'// Layout {l.number}: {l.mnemonic}. Written by catalogue/write.py.\n'
+    under = ' and '.join(f'type {number} under X = {x}' for x, types in CATALOGUES.items() for number, layout in types.items() if layout is l)
+    text = f'// Layout {l.number}: {l.mnemonic}, {under}. Written by catalogue/write.py.\n'
     text += ''.join(f'use cases::{e};\n' for e in sorted({r.type for r in l.named}))
     text += 'use crate::bits_of;\n' + ('use crate::value;\n' if l.named else '')
     text += 'ghost use mathlib.Core.Path.{_≡_};\n' + ('ghost use mathlib.Core.List.{[]};\n' if l.dat else '')

@@ -1,4 +1,5 @@
-/* Shefumbari: tables, images and change lists of an interlocking's indications.
+/* Shefumbari: tables, images and change lists of an interlocking's indications, under catalogue 1.0 (types 1 to 9, 22 and
+   23) or 3.0 (types 1 to 7) of NAS 831.
 
    Every call fills answer with eight numbers: code, object, bit, length, a place kept for later (0), and three that are
    0 where a call says nothing else. Success is 0, 65535, 255 and the bytes written. A refusal is a code of 1 to 22, the
@@ -33,8 +34,9 @@ void shefumbari_check_image(const uint8_t *table, size_t table_len, const uint8_
 void shefumbari_check_list(const uint8_t *table, size_t table_len, const uint8_t *list, size_t list_len,
                            uint32_t answer[8]);
 
-/* Reads an object's state: answer[5] is its kind (the type, under catalogue 1.0), fields are the values of its fields
-   that aren't reserved, from bit 0 up, the rest of fields 0. Refused: the kind is 0, and fields stays as it was. */
+/* Reads an object's state: answer[5] is its kind (the type, but 31 for type 1 under catalogue 3.0), fields are the values
+   of its fields that aren't reserved, from bit 0 up, the rest of fields 0. Refused: the kind is 0, and fields stays as
+   it was. */
 void shefumbari_read_state(const uint8_t *table, size_t table_len, const uint8_t *image, size_t image_len,
                            uint16_t object, uint32_t fields[32], uint32_t answer[8]);
 

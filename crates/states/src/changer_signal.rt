@@ -1,4 +1,4 @@
-// Layout 2: IC. Written by catalogue/write.py.
+// Layout 2: IC, type 2 under X = 1 and type 2 under X = 3. Written by catalogue/write.py.
 use crate::bits_of;
 use crate::value;
 use cases::ChangerAspect;

@@ -1,4 +1,4 @@
-// Layout 23: FRA. Written by catalogue/write.py.
+// Layout 23: FRA, type 23 under X = 1. Written by catalogue/write.py.
 use crate::bits_of;
 use crate::value;
 use cases::BoundaryMovement;

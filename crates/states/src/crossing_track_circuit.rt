@@ -1,4 +1,4 @@
-// Layout 6: CVX. Written by catalogue/write.py.
+// Layout 6: CVX, type 6 under X = 1 and type 6 under X = 3. Written by catalogue/write.py.
 use crate::bits_of;
 use crate::value;
 use cases::LegOccupancy;

@@ -1,4 +1,4 @@
-// Layout 7: SDT. Written by catalogue/write.py.
+// Layout 7: SDT, type 7 under X = 1 and type 7 under X = 3. Written by catalogue/write.py.
 use crate::bits_of;
 ghost use mathlib.Core.Path.{_≡_};
 ghost use mathlib.Core.List.{[]};

@@ -1,4 +1,4 @@
-// Layout 9: BOU. Written by catalogue/write.py.
+// Layout 9: BOU, type 9 under X = 1. Written by catalogue/write.py.
 use crate::bits_of;
 ghost use mathlib.Core.Path.{_≡_};
 ghost use mathlib.Core.List.{[]};

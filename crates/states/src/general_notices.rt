@@ -1,4 +1,4 @@
-// Layout 22: AVG. Written by catalogue/write.py.
+// Layout 22: AVG, type 22 under X = 1. Written by catalogue/write.py.
 use crate::bits_of;
 use crate::value;
 use cases::EarthFaultIndication;

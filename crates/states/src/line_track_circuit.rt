@@ -1,4 +1,4 @@
-// Layout 4: CV. Written by catalogue/write.py.
+// Layout 4: CV, type 4 under X = 1 and type 4 under X = 3. Written by catalogue/write.py.
 use crate::bits_of;
 use crate::value;
 use cases::GaugePresence;

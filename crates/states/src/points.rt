@@ -1,4 +1,4 @@
-// Layout 8: AG. Written by catalogue/write.py.
+// Layout 8: AG, type 8 under X = 1. Written by catalogue/write.py.
 use crate::bits_of;
 use crate::value;
 use cases::LegOccupancy;

@@ -1,4 +1,4 @@
-// Layout 5: CVA. Written by catalogue/write.py.
+// Layout 5: CVA, type 5 under X = 1 and type 5 under X = 3. Written by catalogue/write.py.
 use crate::bits_of;
 use crate::value;
 use cases::GaugePresence;

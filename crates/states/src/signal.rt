@@ -1,4 +1,4 @@
-// Layout 1: SIG. Written by catalogue/write.py.
+// Layout 1: SIG, type 1 under X = 1. Written by catalogue/write.py.
 use crate::bits_of;
 use crate::value;
 use cases::AutoRouteIndication;

@@ -1,4 +1,4 @@
-// Layout 31: SIG. Written by catalogue/write.py.
+// Layout 31: SIG, type 1 under X = 3. Written by catalogue/write.py.
 use crate::bits_of;
 use crate::value;
 use cases::AutoRoute;

@@ -1,4 +1,4 @@
-// Layout 3: PV. Written by catalogue/write.py.
+// Layout 3: PV, type 3 under X = 1 and type 3 under X = 3. Written by catalogue/write.py.
 use crate::bits_of;
 use crate::value;
 use cases::BoardAspect;
