@@ -1,5 +1,6 @@
 -- The named cases of each field wider than one bit, from value 0 up, as annexes 1 and 3 of NAS 831 print them.
 -- Kept by hand and typed from the annex, whose line stands beside each case; catalogue/write.py leaves this file as it is.
+-- A value that the annex reserves has no case: it is read as the first, and refused with 11 before it is read.
 -- Assumes nothing.
 use mathlib.Core.Path.{_≡_, refl}
 use mathlib.Core.List.{[], _∷_, map}
@@ -27,16 +28,17 @@ use Rattle.cases.specs.declared.RouterIndication.{RouterIndication}
 -- ---- TIPO 1: SEÑAL LUMINOSA (SIG)
 
 -- SIG_TIPO (Tipo de Señal)
-pub signal-kind : map signalKindOf (0 ∷ 1 ∷ 2 ∷ 3 ∷ []) ≡
+pub signal-kind : map signalKindOf (0 ∷ 1 ∷ 2 ∷ 3 ∷ 4 ∷ []) ≡
     SignalKind.Unknown ∷  -- Valor0 = desconocido
     SignalKind.HighNoWhiteNoBlue ∷  -- Valor1 = Señales altas sin blanco ni azul
     SignalKind.HighWhiteOrBlue ∷  -- Valor2 = Señales altas con blanco y/o azul
     SignalKind.Low ∷  -- Valor3 = Señales bajas
+    SignalKind.Unknown ∷  -- Valor4..7 = (reserva)
     []
 signal-kind = refl
 
 -- SIG_IND (indicación en vía)
-pub signal-aspect : map signalAspectOf (0 ∷ 1 ∷ 2 ∷ 3 ∷ 4 ∷ 5 ∷ 6 ∷ 7 ∷ 8 ∷ 9 ∷ 10 ∷ 11 ∷ 12 ∷ []) ≡
+pub signal-aspect : map signalAspectOf (0 ∷ 1 ∷ 2 ∷ 3 ∷ 4 ∷ 5 ∷ 6 ∷ 7 ∷ 8 ∷ 9 ∷ 10 ∷ 11 ∷ 12 ∷ 13 ∷ []) ≡
     SignalAspect.Dark ∷  -- Valor0 = Apagada
     SignalAspect.Red ∷  -- Valor1 = rojo
     SignalAspect.RedBlue ∷  -- Valor2 = rojo-azul
@@ -50,6 +52,7 @@ pub signal-aspect : map signalAspectOf (0 ∷ 1 ∷ 2 ∷ 3 ∷ 4 ∷ 5 ∷ 6 �
     SignalAspect.GreenYellow ∷  -- Valor10 = verde-amarillo (con o sin indicación de velocidad asociado)
     SignalAspect.Green ∷  -- Valor11 = verde
     SignalAspect.GreenFlashing ∷  -- Valor12 = verde intermitente
+    SignalAspect.Dark ∷  -- Valor13..15 = (reserva)
     []
 signal-aspect = refl
 
@@ -89,10 +92,11 @@ changer-aspect = refl
 -- ---- TIPO 3: PANTALLA VIRTUAL (PV)
 
 -- PV_IND (Representación gráfica)
-pub board-aspect : map boardAspectOf (0 ∷ 1 ∷ 2 ∷ []) ≡
+pub board-aspect : map boardAspectOf (0 ∷ 1 ∷ 2 ∷ 3 ∷ []) ≡
     BoardAspect.Red ∷  -- Valor0 = rojo
     BoardAspect.Blue ∷  -- Valor1 = azul
     BoardAspect.White ∷  -- Valor2 = blanco
+    BoardAspect.Red ∷  -- Valor3 = (reserva)
     []
 board-aspect = refl
 
@@ -108,29 +112,32 @@ pub section-occupancy : map sectionOccupancyOf (0 ∷ 1 ∷ 2 ∷ 3 ∷ []) ≡
 section-occupancy = refl
 
 -- CV_DES (Presencia de deslizamiento en CV); CVX_DES_N, CVX_DES_I, AG_DES_N, AG_DES_I (.. por Normal, por Invertido)
-pub overlap : map overlapOf (0 ∷ 1 ∷ 2 ∷ []) ≡
+pub overlap : map overlapOf (0 ∷ 1 ∷ 2 ∷ 3 ∷ []) ≡
     Overlap.NoOverlap ∷  -- Valor0 = Sin deslizamiento
     Overlap.MovementOverlap ∷  -- Valor1 = Con deslizamiento de movimiento, excepto Maniobra Centralizada (verde)
     Overlap.ShuntOverlap ∷  -- Valor2 = Con deslizamiento de Maniobra Centralizada (azul)
+    Overlap.NoOverlap ∷  -- Valor3 = (reserva)
     []
 overlap = refl
 
 -- CV_UC, CVA_UC (Indicación de detección de ancho en CV de tres carriles)
-pub gauge-presence : map gaugePresenceOf (0 ∷ 1 ∷ 2 ∷ 3 ∷ 4 ∷ []) ≡
+pub gauge-presence : map gaugePresenceOf (0 ∷ 1 ∷ 2 ∷ 3 ∷ 4 ∷ 5 ∷ []) ≡
     GaugePresence.NotShown ∷  -- Valor0 = Ausencia de indicación
     GaugePresence.NoTrain ∷  -- Valor1 = Sin presencia de tren ("U" y "C" amarillo)
     GaugePresence.UicTrain ∷  -- Valor2 = Presencia de tren de ancho UIC ("U" rojo, "C" amarillo)
     GaugePresence.ConventionalTrain ∷  -- Valor3 = Presencia de tren de ancho CONV ("U" amarillo, "C" rojo)
     GaugePresence.BothGauges ∷  -- Valor4 = Presencia de trenes de ancho UIC y CONV ("U" y "C" rojo)
+    GaugePresence.NotShown ∷  -- Valor5..7 = (reserva)
     []
 gauge-presence = refl
 
 -- ---- TIPO 5: CIRCUITO DE VÍA DE AGUJAS (CVA)
 
 -- CVA_OCUP_EST (Estado de CVA)
-pub points-section-occupancy : map pointsSectionOccupancyOf (0 ∷ 1 ∷ []) ≡
+pub points-section-occupancy : map pointsSectionOccupancyOf (0 ∷ 1 ∷ 2 ∷ []) ≡
     PointsSectionOccupancy.Clear ∷  -- Valor0 = Libre
     PointsSectionOccupancy.Occupied ∷  -- Valor1 = Ocupado
+    PointsSectionOccupancy.Clear ∷  -- Valor2..3 = (reserva)
     []
 points-section-occupancy = refl
 
@@ -146,22 +153,24 @@ pub leg-occupancy : map legOccupancyOf (0 ∷ 1 ∷ 2 ∷ 3 ∷ []) ≡
 leg-occupancy = refl
 
 -- CVX_OCUP_DIR, AG_DIR (orientación para representación de ocupación)
-pub leg-shown : map legShownOf (0 ∷ 1 ∷ 2 ∷ []) ≡
+pub leg-shown : map legShownOf (0 ∷ 1 ∷ 2 ∷ 3 ∷ []) ≡
     LegShown.NormalAndReverse ∷  -- Valor0 = Direcciones Normal e Invertida
     LegShown.NormalOnly ∷  -- Valor1 = Dirección Normal exclusivamente
     LegShown.ReverseOnly ∷  -- Valor2 = Dirección Invertida exclusivamente
+    LegShown.NormalAndReverse ∷  -- Valor3 = (reserva)
     []
 leg-shown = refl
 
 -- ---- TIPO 8: AGUJA (AG)
 
 -- AG_COMP (Comprobación de posición de aguja)
-pub points-detection : map pointsDetectionOf (0 ∷ 1 ∷ 2 ∷ 3 ∷ 4 ∷ []) ≡
+pub points-detection : map pointsDetectionOf (0 ∷ 1 ∷ 2 ∷ 3 ∷ 4 ∷ 5 ∷ []) ≡
     PointsDetection.NotDetected ∷  -- Valor0 = Sin comprobación en ninguna de las dos posiciones (Normal/Invertida). Aguja talonada.
     PointsDetection.CalledNormal ∷  -- Valor1 = Sin comprobación a posición mandada a Normal o en movimiento hacia Normal ..
     PointsDetection.CalledReverse ∷  -- Valor2 = Sin comprobación a posición mandada a Invertido o en movimiento hacia Invertido ..
     PointsDetection.DetectedNormal ∷  -- Valor3 = Con comprobación a posición Normal
     PointsDetection.DetectedReverse ∷  -- Valor4 = Con comprobación a posición Invertida
+    PointsDetection.NotDetected ∷  -- Valor5..7 = (reserva)
     []
 points-detection = refl
 
@@ -186,17 +195,18 @@ pub heater-indication : map heaterIndicationOf (0 ∷ 1 ∷ 2 ∷ 3 ∷ []) ≡
 heater-indication = refl
 
 -- AVG_DT (Derivación a Tierra en equipos aislados)
-pub earth-fault-indication : map earthFaultIndicationOf (0 ∷ 1 ∷ 2 ∷ []) ≡
+pub earth-fault-indication : map earthFaultIndicationOf (0 ∷ 1 ∷ 2 ∷ 3 ∷ []) ≡
     EarthFaultIndication.NotShown ∷  -- Valor0 = Indicación "DT" no mostrada
     EarthFaultIndication.EarthFault ∷  -- Valor1 = Indicación "DT" amarillo (Derivación a Tierra de equipos aislados)
     EarthFaultIndication.TestRunning ∷  -- Valor2 = Indicación "DT" amarillo intermitente (Comprobación de derivación a Tierra .. en funcionamiento)
+    EarthFaultIndication.NotShown ∷  -- Valor3 = (reserva)
     []
 earth-fault-indication = refl
 
 -- ---- TIPO 23: FRONTERA (FRA)
 
 -- FRA_ENT_EST, FRA_SAL_EST (Indicación de apertura de señal de movimiento de entrada, de salida, mandado)
-pub boundary-movement : map boundaryMovementOf (0 ∷ 1 ∷ 2 ∷ 3 ∷ 4 ∷ 5 ∷ 6 ∷ []) ≡
+pub boundary-movement : map boundaryMovementOf (0 ∷ 1 ∷ 2 ∷ 3 ∷ 4 ∷ 5 ∷ 6 ∷ 7 ∷ []) ≡
     BoundaryMovement.AtRest ∷  -- Valor0 = En reposo
     BoundaryMovement.RouteSignalPending ∷  -- Valor1 = Itinerario .. mandado. Apertura, en itinerario, de señal de continuación pendiente
     BoundaryMovement.RouteSignalOpen ∷  -- Valor2 = Itinerario .. mandado. Apertura, en itinerario, .. efectuada
@@ -204,6 +214,7 @@ pub boundary-movement : map boundaryMovementOf (0 ∷ 1 ∷ 2 ∷ 3 ∷ 4 ∷ 5 
     BoundaryMovement.OverrideSignalOpen ∷  -- Valor4 = Rebase autorizado .. mandado. Apertura, en rebase autorizado, .. efectuada
     BoundaryMovement.ShuntSignalPending ∷  -- Valor5 = Maniobra Centralizada .. mandada. Apertura, en Maniobra, .. pendiente
     BoundaryMovement.ShuntSignalOpen ∷  -- Valor6 = Maniobra Centralizada .. mandada. Apertura, en Maniobra, .. efectuada
+    BoundaryMovement.AtRest ∷  -- Valor7 = (reserva)
     []
 boundary-movement = refl
 
@@ -219,9 +230,10 @@ pub auto-route : map autoRouteOf (0 ∷ 1 ∷ 2 ∷ 3 ∷ []) ≡
 auto-route = refl
 
 -- SIG_GRP_ARS (Indicación de enrutadores GRP o ARS)
-pub router-indication : map routerIndicationOf (0 ∷ 1 ∷ 2 ∷ []) ≡
+pub router-indication : map routerIndicationOf (0 ∷ 1 ∷ 2 ∷ 3 ∷ []) ≡
     RouterIndication.NotShown ∷  -- Valor0 = Sin indicación de enrutadores GRP o ARS.
     RouterIndication.ManualBlock ∷  -- Valor1 = Enrutadores GRP o ARS. Bloqueo manual.
     RouterIndication.AutomaticBlock ∷  -- Valor2 = Enrutadores GRP o ARS. Bloqueo automático.
+    RouterIndication.NotShown ∷  -- Valor3 = (reserva)
     []
 router-indication = refl

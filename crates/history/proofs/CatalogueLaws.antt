@@ -2,7 +2,7 @@
 -- a state is not of its object's kind, and of a state that was read from an object of the same type, exactly where it is a type 1 state
 -- of another catalogue.
 -- Assumes nothing.
-use Prim.Native.Nat.{ℕ, zero, suc, _<_}
+use Prim.Native.Nat.{ℕ, zero, suc, _<_, _≤_}
 use native.Mathlib.Omega.{arith}
 use mathlib.Core.Path.{_≡_, refl, sym, ap, _∙_}
 use mathlib.Core.Bool.{Bool, true, false, false≢true, not, _||_}
@@ -30,7 +30,7 @@ use Rattle.history.proofs.ElementLaws.{same-kind, is-same-kind, refuses
 use Rattle.history.proofs.ImageLaws.{same-catalogue}
 use Rattle.history.proofs.NameLaws.{objects, oneOf, Named, accepts, refuses, named-unless, named-of, named-then, objects-named, read-object}
 
-refuted : (b : Bool) → (b ≡ true → ⊥) → b ≡ false
+pub refuted : (b : Bool) → (b ≡ true → ⊥) → b ≡ false
 refuted true n = absurd (n refl)
 refuted false n = refl
 
@@ -40,7 +40,7 @@ refuted false n = refl
 abbrev pub OneOrThree : ℕ → ℕ → Type 0
 OneOrThree x y = ((x ≡ 1) ⊎ (x ≡ 3)) × (y ≡ 0)
 
-catalogue-carried : (x y : ℕ) → OneOrThree x y → catalogueGood x y ≡ true
+pub catalogue-carried : (x y : ℕ) → OneOrThree x y → catalogueGood x y ≡ true
 unfolding catalogueGood
 catalogue-carried x y c = rw (c .1) (⊎-elim (λ q. rw q refl) (λ q. rw q refl) (c .0))
 
@@ -48,7 +48,7 @@ either : (a b : Bool) → (a || b) ≡ true → (a ≡ true) ⊎ (b ≡ true)
 either true b e = inl refl
 either false b e = inr e
 
-one-or-three : (x y : ℕ) → catalogueGood x y ≡ true → OneOrThree x y
+pub one-or-three : (x y : ℕ) → catalogueGood x y ≡ true → OneOrThree x y
 unfolding catalogueGood
 one-or-three x y e = (
   ⊎-elim (λ q. inl (eqb-true x 1 q)) (λ q. inr (eqb-true x 3 q)) (either (eqb x 1) (eqb x 3) (left (eqb x 1 || eqb x 3) (eqb y 0) e)),
@@ -87,14 +87,15 @@ module _ (T : List ℕ) {p : Plan} (t : readPlan T ≡ done p) {f : Form} (n : (
 
 -- ---- 22
 
-element-not : {k : Kind} {code bit : ℕ} → Refuses k code bit → code ≡ 22 → ⊥
-element-not (reserved r h) e = omega arith
-element-not (unlisted r h) e = omega arith
-element-not (silent h) e = omega arith
+-- an element's own codes
+pub element-codes : {k : Kind} {code bit : ℕ} → Refuses k code bit → (10 ≤ code) × (code ≤ 12)
+element-codes (reserved r h) = omega arith
+element-codes (unlisted r h) = omega arith
+element-codes (silent h) = omega arith
 
 module _ (T A : List ℕ) {p : Plan} {a : Image} (t : readPlan T ≡ done p) (ea : imageCall T A ≡ done a) (i : ℕ) (e : Element) (position : ℕ) where
   not-22 : Named (λ code object bit. code ≡ 22 → ⊥) (element (kindAt (p .kinds) i) (wordOf e) of i ⨾ done (wordOf e))
-  not-22 = named-of (element (kindAt (p .kinds) i) (wordOf e)) i _ (λ x q. element-not (refuses-as (kindAt (p .kinds) i) (wordOf e) q)) accepts
+  not-22 = named-of (element (kindAt (p .kinds) i) (wordOf e)) i _ (λ x q c. omega (arith, element-codes (refuses-as (kindAt (p .kinds) i) (wordOf e) q))) accepts
 
   pub kind-exactly : i < length (p .kinds) → (writeStateCall T A i e position ≡ refused 22 i 255) ↔ (kindIn e ≡ kindAt (p .kinds) i → ⊥)
   unfolding imageCall writeStateCall writeStateUnder checkState

@@ -1,0 +1,51 @@
+-- Of an element by itself: 3 exactly where its catalogue is neither 1.0 nor 3.0, and else 5 exactly where its type is not carried.
+-- Assumes nothing.
+use Prim.Native.Nat.{ℕ, _<_}
+use native.Mathlib.Omega.{arith}
+use mathlib.Core.Path.{_≡_, refl, sym, _∙_}
+use mathlib.Core.Bool.{Bool, false, false≢true}
+use mathlib.Core.List.{List}
+use mathlib.Core.Logic.{_↔_}
+use lib.Dec.{eqb}
+use lib.ListN.{length}
+use Rattle.octets.specs.Octets.{number}
+use Rattle.kinds.specs.Kinds.{widthOf}
+use Rattle.elements.specs.Elements.{carried, kindOf}
+use Rattle.history.specs.Verdict.{Verdict, done, refusal, _unless_⨾_}
+use Rattle.history.specs.Table.{catalogueGood}
+use Rattle.history.specs.Image.{element, _of_⨾_}
+use Rattle.history.proofs.VerdictLaws.{past, stopped}
+use Rattle.history.proofs.ElementLaws.{refuses-as}
+use Rattle.history.proofs.NameLaws.{Named, accepts, refuses, named-unless, named-of}
+use Rattle.history.proofs.CatalogueLaws.{OneOrThree, refuted, one-or-three, catalogue-carried, element-codes}
+use Rattle.gateway.specs.Calls.{elementCall}
+
+module _ (x y type : ℕ) (b : List ℕ) where
+  -- what follows 5, and what follows 3
+  abbrev typed : Verdict ℕ
+  typed =
+      refusal 8 unless eqb (length b) (widthOf (kindOf x type)) ⨾
+      element (kindOf x type) (number b) of 65535 ⨾
+      done (number b)
+
+  above-five : Named (λ code object bit. 5 < code) typed
+  above-five =
+      named-unless (eqb (length b) (widthOf (kindOf x type))) _ _ (λ f. refuses (omega arith)) λ t.
+      named-of (element (kindOf x type) (number b)) 65535 _ (λ r q. omega (arith, element-codes (refuses-as (kindOf x type) (number b) q))) accepts
+
+  above-three : Named (λ code object bit. 3 < code) (refusal 5 unless carried x type ⨾ typed)
+  above-three = named-unless (carried x type) _ _ (λ f. refuses (omega arith)) λ t. record { names = λ e. omega (arith, above-five .names e) }
+
+  pub element-catalogue : (elementCall x y type b ≡ refusal 3) ↔ (OneOrThree x y → ⊥)
+  unfolding elementCall
+  element-catalogue = (
+    (λ r c. false≢true (sym (stopped (catalogueGood x y) 3 65535 255 _ (λ q. omega (arith, above-three .names q)) r) ∙ catalogue-carried x y c)),
+    (λ n. rw (refuted (catalogueGood x y) (λ q. n (one-or-three x y q)))),
+  )
+
+  pub element-type : OneOrThree x y → (elementCall x y type b ≡ refusal 5) ↔ (carried x type ≡ false)
+  unfolding elementCall
+  element-type c = (
+    (λ r. stopped (carried x type) 5 65535 255 _ (λ q. omega (arith, above-five .names q)) (past (catalogueGood x y) 3 65535 255 _ (λ z. omega arith) r .1)),
+    (λ f. rw (catalogue-carried x y c, f)),
+  )
