@@ -22,7 +22,7 @@ use Rattle.history.specs.Legal.{LegalTable, LegalImage, LegalList}
 use Rattle.history.proofs.VerdictLaws.{Lowest, passed-up}
 use Rattle.history.proofs.OperationLaws.{one-version, keeps-version, late-exactly as late, gap-exactly as gap, apart-exactly as apart, names-old, names-meeting}
 use Rattle.history.proofs.TableLaws.{table-form, plan-fair}
-use Rattle.history.proofs.RepeatLaws.{FirstRepeat, table-repeats}
+use Rattle.history.proofs.EntryLaws.{FirstOther, FirstRepeat, table-others, table-repeats}
 use Rattle.history.proofs.ImageLaws.{image-form}
 use Rattle.history.proofs.ListLaws.{list-form}
 use Rattle.history.proofs.CallLaws.{accepted-image, accepted-list, turn-is, image-accepted, list-accepted, difference-is, difference-list, difference-applies, only-difference-applies, differences-join, difference-turned, joined-list, turned-list, applied-image}
@@ -35,6 +35,11 @@ use Rattle.history.proofs.StateLaws.{write-current, write-stale, write-
 pub table-exactly : (T : List ℕ) → Bytes T → (t : Table) → (tableCall T ≡ done t) ↔ (LegalTable t × (T ≡ tableBytes t))
 unfolding tableCall
 table-exactly T h t = table-form T h t
+
+-- 5 exactly where the objects before are those of a legal table and the next is of a type that its catalogue doesn't carry; the next is named
+pub type-exactly : (T : List ℕ) → Bytes T → (k bit : ℕ) → (tableCall T ≡ refused 5 k bit) ↔ (FirstOther T k × (bit ≡ 255))
+unfolding tableCall
+type-exactly T h k bit = table-others T h k bit
 
 -- 7 exactly where the objects before are those of a legal table and the next is as one of them; the next is named
 pub repeat-exactly : (T : List ℕ) → Bytes T → (k bit : ℕ) → (tableCall T ≡ refused 7 k bit) ↔ (FirstRepeat T k × (bit ≡ 255))

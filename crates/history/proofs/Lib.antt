@@ -6,7 +6,7 @@ pub mod ElementLaws
 pub mod ImageLaws
 pub mod ListLaws
 pub mod TableLaws
-pub mod RepeatLaws
+pub mod EntryLaws
 pub mod CallLaws
 pub mod StateLaws
 pub mod SizeLaws

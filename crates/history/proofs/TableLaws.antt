@@ -20,7 +20,7 @@ use Rattle.octets.specs.Octets.{sameBytes}
 use Rattle.history.specs.Calls.{readPlan}
 use Rattle.history.specs.Legal.{LegalObject, LegalTable}
 use Rattle.octets.proofs.NumberLaws.{length-bytes, read-bytes, drop-bytes, cut}
-use Rattle.history.proofs.VerdictLaws.{all, left, right, kept, held, used}
+use Rattle.history.proofs.VerdictLaws.{all, left, right, kept, held, used, past, stopped}
 use Rattle.history.proofs.FormLaws.{form-version, form-contents, form-is, form-reads}
 use Rattle.history.proofs.ImageLaws.{Fair}
 
@@ -181,6 +181,26 @@ module _ (version x : ℕ) where
         drop-append-seam l rest,
         h .good,
       )
+
+  -- an entry is refused with 5 exactly where its two first bytes are there and its type is not carried; it is named
+  pub object-other : (earlier : List Object) (b : List ℕ) (k bit : ℕ)
+      → (checkObject version x earlier b (objectAt b) ≡ refused 5 k bit) ↔ ((2 ≤ length b) × (carried x (getD b 0 0) ≡ false) × (length earlier ≡ k) × (bit ≡ 255))
+  unfolding checkObject
+  object-other earlier b k bit = (
+    (λ q.
+        let n : ℕ = getD b 1 0 in
+        let p = past (leb 2 (length b)) _ _ _ _ (λ z. omega arith) q in
+        let other = stopped (carried x (getD b 0 0)) _ _ _ _ (λ e.
+        let p₁ = past (leb 1 n && leb n (labelLimit version)) _ _ _ _ (λ z. omega arith) e in
+        let p₂ = past (leb (2 + n) (length b)) _ _ _ _ (λ z. omega arith) (p₁ .1) in
+        let p₃ = past (labelGood (objectAt b .object .label)) _ _ _ _ (λ z. omega arith) (p₂ .1) in
+        let p₄ = past (not (repeats (objectAt b .object) earlier)) _ _ _ _ (λ z. omega arith) (p₃ .1) in
+        let z : _≡_ {A = ℕ} 0 1 = cc (p₄ .1) in
+        omega arith) (p .1) in
+        let is = rw other at (p .1) in
+        (leb-true _ _ (p .0), other, cc, cc)),
+    (λ w. rw (le-leb 2 (length b) (w .0), w .1, w .2, w .3)),
+  )
 
   object-reads : (earlier : List Object) (o : Object) (rest : List ℕ) → LegalObject version x o → repeats o earlier ≡ false
       → checkObject version x earlier (objectBytes o ++ rest) (objectAt (objectBytes o ++ rest)) ≡ done (record { object = o; size = length (o .label); rest = rest })
