@@ -197,7 +197,7 @@ module _ (version x : ℕ) where
         let p₄ = past (not (repeats (objectAt b .object) earlier)) _ _ _ _ (λ z. omega arith) (p₃ .1) in
         let z : _≡_ {A = ℕ} 0 1 = cc (p₄ .1) in
         omega arith) (p .1) in
-        let is = rw other at (p .1) in
+        let is : refusalAt {A = ObjectEntry} 5 (length earlier) ≡ refused 5 k bit = rw other at (p .1) in
         (leb-true _ _ (p .0), other, cc, cc)),
     (λ w. rw (le-leb 2 (length b) (w .0), w .1, w .2, w .3)),
   )
