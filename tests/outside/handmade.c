@@ -4,7 +4,6 @@
 #include "handmade.h"
 
 #include "paper.h"
-#include "reference.h"
 
 /* The longest answers: a list that names every object, and the lines of a listing. */
 enum {
@@ -42,7 +41,7 @@ static void put4(uint8_t *bytes, uint32_t value)
 #define ADDED(low, width, top) ((((uint64_t)1 << (width)) - 1 - (top)) << (low))
 #define CARRY(low, width, top) ((uint64_t)1 << ((low) + (width)))
 
-/* By type, the fields that don't admit every value; reserved ones have 0 alone. */
+/* By kind, the fields that don't admit every value; reserved ones have 0 alone. */
 #define SIG(part) part(1, 3, 3) | part(4, 4, 12) | part(31, 1, 0)
 #define IC(part) part(3, 5, 0)
 #define PV(part) part(1, 2, 2) | part(4, 4, 0)
@@ -54,16 +53,17 @@ static void put4(uint8_t *bytes, uint32_t value)
 #define BOU(part) part(4, 4, 0)
 #define AVG(part) part(7, 2, 2) | part(9, 7, 0)
 #define FRA(part) part(2, 3, 6) | part(6, 3, 6) | part(12, 4, 0)
+#define SIG_OF_3(part) part(4, 4, 12) | part(30, 2, 2)
 
 #define BITS(width) (0xFFFFFFFFu >> (32 - 8 * (width)))
 #define KIND(width, limits) {limits(ADDED), limits(CARRY), BITS(width), BITS(width), width}
 
-/* By type, the width 0 where it isn't carried. Silent are the bits that are 0 where DAT is: none of type 22. */
+/* Silent are the bits that are 0 where DAT is: none of the kind without it. */
 static const struct kind {
     uint64_t added, carries;
     uint32_t bits, silent;
     size_t width;
-} kinds[256] = {
+} kinds[KINDS] = {
     [1] = KIND(4, SIG),
     [2] = KIND(1, IC),
     [3] = KIND(1, PV),
@@ -73,8 +73,9 @@ static const struct kind {
     [7] = KIND(1, SDT),
     [8] = KIND(3, AG),
     [9] = KIND(1, BOU),
-    [TYPE_WITHOUT_DAT] = {AVG(ADDED), AVG(CARRY), BITS(2), 0, 2},
+    [KIND_WITHOUT_DAT] = {AVG(ADDED), AVG(CARRY), BITS(2), 0, 2},
     [23] = KIND(2, FRA),
+    [31] = KIND(4, SIG_OF_3),
 };
 
 /* An element as a number, by the four bytes that end with it: of every form more than these come before an element. */
@@ -89,12 +90,11 @@ static bool admitted(uint64_t word, const struct kind *kind)
     return (carry & kind->carries) == 0 && ((word & 1) != 0 || (word & kind->silent) == 0);
 }
 
-/* Under a catalogue, by its two bytes. */
-static bool refused_element(const uint8_t *catalogue, uint8_t type, const uint8_t *element, uint32_t object,
-                            uint32_t *answer)
+/* Not inlined, so that it costs accepted elements nothing. */
+__attribute__((noinline)) static bool refused_element(const struct kind *kind, const uint8_t *element, uint32_t object,
+                                                      uint32_t *answer)
 {
-    reference_check_element(catalogue[0], catalogue[1], type, element, kinds[type].width, answer);
-    answer[1] = object;
+    check_fields((uint8_t)(kind - kinds), element, object, answer);
     return false;
 }
 
@@ -115,13 +115,13 @@ static void copy_element(uint8_t *to, const uint8_t *from, size_t width)
 struct table {
     const uint8_t *bytes;
     uint32_t count;
-    uint8_t types[OBJECTS_MOST];
+    uint8_t kinds[OBJECTS_MOST];
     uint16_t starts[OBJECTS_MOST + 1];
 };
 
 static const struct kind *kind_of(const struct table *table, uint32_t object)
 {
-    return &kinds[table->types[object]];
+    return &kinds[table->kinds[object]];
 }
 
 /* 1 and 2 */
@@ -151,17 +151,17 @@ static uint32_t mixed(uint32_t hash, uint8_t byte)
     return (hash ^ byte) * 16777619u;
 }
 
-/* Bytes 33 to 126, and the first colon has a byte before and after it. They are hashed on the way. */
+/* Bytes 33 to 126, at least one, and the first colon has a byte before and after it. They are hashed on the way. */
 static bool check_label(const uint8_t *label, size_t len, uint32_t *hash)
 {
-    const uint8_t *colon = NULL, *end = label + len;
-    for (const uint8_t *byte = label; byte < end; byte++) {
+    const uint8_t *colon = NULL, *byte = label, *end = label + len;
+    do {
         if (*byte < 33 || *byte > 126)
             return false;
         if (*byte == ':' && colon == NULL)
             colon = byte;
         *hash = mixed(*hash, *byte);
-    }
+    } while (++byte < end);
     return colon != NULL && colon != label && colon != end - 1;
 }
 
@@ -183,7 +183,8 @@ static bool check_table(const uint8_t *bytes, size_t len, struct table *table, u
 {
     if (!check_head(bytes, len, TABLE_LEAST, answer))
         return false;
-    if (!carries(bytes[CATALOGUE], bytes[CATALOGUE + 1]))
+    const uint8_t *carried = kinds_under(bytes[CATALOGUE], bytes[CATALOGUE + 1]);
+    if (carried == NULL)
         return refused(answer, 3);
     uint32_t count = number2(bytes + TABLE_COUNT);
     if (count > OBJECTS_MOST)
@@ -199,24 +200,24 @@ static bool check_table(const uint8_t *bytes, size_t len, struct table *table, u
     for (uint32_t object = 0; object < count; object++) {
         if (len - at < 2)
             return refused(answer, 8);
-        uint8_t type = bytes[at];
+        uint8_t kind = carried[bytes[at]];
         size_t label_len = bytes[at + 1];
-        if (kinds[type].width == 0)
+        if (kind == 0)
             return refused_object(answer, 5, object);
         if (label_len < 1 || label_len > LABEL_MOST)
             return refused_object(answer, 6, object);
         if (len - at - 2 < label_len)
             return refused(answer, 8);
-        uint32_t hash = mixed(2166136261u, type);
+        uint32_t hash = mixed(2166136261u, bytes[at]);
         if (!check_label(bytes + at + 2, label_len, &hash))
             return refused_object(answer, 6, object);
         uint16_t *slot = free_slot(slots, size - 1, hash, bytes, bytes + at);
         if (slot == NULL)
             return refused_object(answer, 7, object);
         *slot = (uint16_t)at;
-        table->types[object] = type;
+        table->kinds[object] = kind;
         table->starts[object] = start;
-        start += kinds[type].width;
+        start += kinds[kind].width;
         at += 2 + label_len;
     }
     if (at != len)
@@ -237,7 +238,7 @@ static bool check_image(const struct table *table, const uint8_t *image, size_t 
     for (uint32_t object = 0; object < table->count; object++) {
         const struct kind *kind = kind_of(table, object);
         if (!admitted(word_of(element, kind), kind))
-            return refused_element(table->bytes + CATALOGUE, table->types[object], element, object, answer);
+            return refused_element(kind, element, object, answer);
         element += kind->width;
     }
     return true;
@@ -266,9 +267,9 @@ static bool check_list(const struct table *table, const uint8_t *list, size_t le
         uint32_t old = word_of(list + at, kind);
         uint32_t new = word_of(list + at + width, kind);
         if (!admitted(old, kind))
-            return refused_element(table->bytes + CATALOGUE, table->types[object], list + at, object, answer);
+            return refused_element(kind, list + at, object, answer);
         if (!admitted(new, kind))
-            return refused_element(table->bytes + CATALOGUE, table->types[object], list + at + width, object, answer);
+            return refused_element(kind, list + at + width, object, answer);
         if (old == new)
             return refused_object(answer, 15, object);
         least = object + 1;
@@ -284,13 +285,13 @@ static bool check_list(const struct table *table, const uint8_t *list, size_t le
 void handmade_check_element(uint8_t x, uint8_t y, uint8_t type, const uint8_t *element, size_t element_len,
                             uint32_t answer[8])
 {
-    const struct kind *kind = &kinds[type];
-    const uint8_t catalogue[] = {x, y};
+    const uint8_t *carried = kinds_under(x, y);
     uint32_t word = 0;
-    if (!carries(x, y)) {
+    if (carried == NULL) {
         refused(answer, 3);
         return;
     }
+    const struct kind *kind = &kinds[carried[type]];
     if (kind->width == 0) {
         refused(answer, 5);
         return;
@@ -304,7 +305,7 @@ void handmade_check_element(uint8_t x, uint8_t y, uint8_t type, const uint8_t *e
     if (admitted(word, kind))
         succeed(answer, 0);
     else
-        refused_element(catalogue, type, element, NO_OBJECT, answer);
+        refused_element(kind, element, NO_OBJECT, answer);
 }
 
 void handmade_check_table(const uint8_t *table, size_t table_len, uint32_t answer[8])
@@ -342,28 +343,27 @@ void handmade_read_state(const uint8_t *table, size_t table_len, const uint8_t *
         refused_object(answer, 13, object);
         return;
     }
-    const struct layout *layout = &layouts[t.types[object]];
     uint32_t word = word_of(image + IMAGE_ELEMENTS + t.starts[object], kind_of(&t, object));
     memset(fields, 0, 32 * sizeof *fields);
-    for (const struct row *row = rows + layout->first; row < rows + layout->end; row++)
+    for (const struct row *row = layouts[t.kinds[object]].rows; row->width != 0; row++)
         if (row->top != 0)
             *fields++ = word >> row->low & ((1u << row->width) - 1);
     succeed(answer, 0);
-    answer[5] = t.types[object];
+    answer[5] = t.kinds[object];
 }
 
 /* The element of a state handed in, where it is admitted. */
-static bool check_state(uint8_t type, const uint32_t *fields, uint32_t object, uint32_t *word, uint32_t *answer)
+static bool check_state(uint8_t kind, const uint32_t *fields, uint32_t object, uint32_t *word, uint32_t *answer)
 {
     *word = 0;
-    for (const struct row *row = rows + layouts[type].first; row < rows + layouts[type].end; row++) {
+    for (const struct row *row = layouts[kind].rows; row->width != 0; row++) {
         if (row->top == 0)
             continue;
         if (*fields > row->top)
             return refused_bit(answer, 11, object, row->low);
         *word |= *fields++ << row->low;
     }
-    if (!admitted(*word, &kinds[type]))
+    if (!admitted(*word, &kinds[kind]))
         return refused_bit(answer, 12, object, 0);
     return true;
 }
@@ -380,11 +380,11 @@ void handmade_write_state(const uint8_t *table, size_t table_len, const uint8_t 
         refused_object(answer, 13, object);
         return;
     }
-    if (kind != t.types[object]) {
+    if (kind != t.kinds[object]) {
         refused_object(answer, 22, object);
         return;
     }
-    if (!check_state(t.types[object], fields, object, &word, answer) || !room(out_len, image_len, answer))
+    if (!check_state(t.kinds[object], fields, object, &word, answer) || !room(out_len, image_len, answer))
         return;
     memcpy(out, image, image_len);
     put4(out + IMAGE_POSITION, position);
@@ -612,7 +612,7 @@ static uint8_t *put_listing(uint8_t *to, const struct table *table, const uint8_
         *to++ = ' ';
         to = put_bytes(to, entry + 2, entry[1]);
         *to++ = ' ';
-        for (const uint8_t *end = element + kinds[entry[0]].width; element < end; element++) {
+        for (const uint8_t *end = element + kind_of(table, object)->width; element < end; element++) {
             *to++ = (uint8_t)hex[*element >> 4];
             *to++ = (uint8_t)hex[*element & 15];
         }

@@ -1,4 +1,4 @@
-/* What reference.c and handmade.c share: the paper's numbers, catalogue 1.0, and how an answer is given. */
+/* What reference.c and handmade.c share: the paper's numbers, the catalogues, and how an answer is given. */
 #ifndef PAPER_H
 #define PAPER_H
 
@@ -27,28 +27,35 @@ enum {
     LIST_TO = 11,
     LIST_COUNT = 15,
     LIST_ENTRIES = 17,
-    TYPE_WITHOUT_DAT = 22
+    /* kinds of element: above their numbers, the most fields of one, and the one without DAT */
+    KINDS = 32,
+    FIELDS_MOST = 24,
+    KIND_WITHOUT_DAT = 22
 };
 
-/* A field: the highest value admitted is 0 where it is reserved. */
+/* A field from bit low up: the highest value admitted is 0 where it is reserved. */
 struct row {
-    uint8_t type, low, width, top;
+    uint8_t low, width, top;
 };
 
-extern const struct row rows[107];
-
-/* By type: its width in bytes (0 where it isn't carried) and its rows. */
+/* A kind's width in bytes, and its fields from bit 0 up; a row of width 0 ends them. */
 struct layout {
-    uint8_t width, first, end;
+    uint8_t width;
+    struct row rows[FIELDS_MOST + 1];
 };
 
-extern const struct layout layouts[256];
+extern const struct layout layouts[KINDS];
 
-/* The catalogue versions that are carried */
-static inline bool carries(uint8_t x, uint8_t y)
+/* By X, with 0 as Y: the kind of each type, 0 where it isn't carried. NULL where the catalogue isn't. */
+extern const uint8_t *const catalogues[256];
+
+static inline const uint8_t *kinds_under(uint8_t x, uint8_t y)
 {
-    return x == 1 && y == 0;
+    return y == 0 ? catalogues[x] : NULL;
 }
+
+/* 10, 11 and 12, field by field */
+bool check_fields(uint8_t kind, const uint8_t *element, uint32_t object, uint32_t *answer);
 
 /* Answers */
 

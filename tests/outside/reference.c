@@ -3,45 +3,48 @@
 
 #include "paper.h"
 
-/* Catalogue 1.0 */
+/* The catalogues */
 
-const struct row rows[107] = {
-    /* SIG */
-    {1, 0, 1, 1},   {1, 1, 3, 3},   {1, 4, 4, 12},  {1, 8, 1, 1},   {1, 9, 1, 1},   {1, 10, 1, 1},  {1, 11, 1, 1},
-    {1, 12, 1, 1},  {1, 13, 1, 1},  {1, 14, 1, 1},  {1, 15, 1, 1},  {1, 16, 1, 1},  {1, 17, 1, 1},  {1, 18, 1, 1},
-    {1, 19, 1, 1},  {1, 20, 1, 1},  {1, 21, 1, 1},  {1, 22, 1, 1},  {1, 23, 1, 1},  {1, 24, 3, 7},  {1, 27, 1, 1},
-    {1, 28, 1, 1},  {1, 29, 2, 3},  {1, 31, 1, 0},
+/* What the signals of 1.0 and of 3.0 share: IND, fitted and blown of seven lamps, ME, B, UIC, SA. */
+#define SIG_IND_TO_SA                                                                                                  \
+    {4, 4, 12}, {8, 1, 1}, {9, 1, 1}, {10, 1, 1}, {11, 1, 1}, {12, 1, 1}, {13, 1, 1}, {14, 1, 1}, {15, 1, 1},          \
+        {16, 1, 1}, {17, 1, 1}, {18, 1, 1}, {19, 1, 1}, {20, 1, 1}, {21, 1, 1}, {22, 1, 1}, {23, 1, 1}, {24, 3, 7},    \
+        {27, 1, 1}
+
+const struct layout layouts[KINDS] = {
+    /* SIG of 1.0 */
+    [1] = {4, {{0, 1, 1}, {1, 3, 3}, SIG_IND_TO_SA, {28, 1, 1}, {29, 2, 3}, {31, 1, 0}}},
     /* IC */
-    {2, 0, 1, 1},   {2, 1, 2, 3},   {2, 3, 5, 0},
+    [2] = {1, {{0, 1, 1}, {1, 2, 3}, {3, 5, 0}}},
     /* PV */
-    {3, 0, 1, 1},   {3, 1, 2, 2},   {3, 3, 1, 1},   {3, 4, 4, 0},
+    [3] = {1, {{0, 1, 1}, {1, 2, 2}, {3, 1, 1}, {4, 4, 0}}},
     /* CV */
-    {4, 0, 1, 1},   {4, 1, 1, 1},   {4, 2, 1, 1},   {4, 3, 1, 1},   {4, 4, 2, 3},   {4, 6, 2, 2},   {4, 8, 1, 1},
-    {4, 9, 1, 1},   {4, 10, 3, 4},  {4, 13, 1, 1},  {4, 14, 2, 0},
+    [4] = {2, {{0, 1, 1}, {1, 1, 1}, {2, 1, 1}, {3, 1, 1}, {4, 2, 3}, {6, 2, 2}, {8, 1, 1}, {9, 1, 1}, {10, 3, 4},
+               {13, 1, 1}, {14, 2, 0}}},
     /* CVA */
-    {5, 0, 1, 1},   {5, 1, 1, 1},   {5, 2, 1, 0},   {5, 3, 1, 1},   {5, 4, 2, 1},   {5, 6, 2, 0},   {5, 8, 1, 1},
-    {5, 9, 1, 1},   {5, 10, 3, 4},  {5, 13, 1, 1},  {5, 14, 2, 0},
+    [5] = {2, {{0, 1, 1}, {1, 1, 1}, {2, 1, 0}, {3, 1, 1}, {4, 2, 1}, {6, 2, 0}, {8, 1, 1}, {9, 1, 1}, {10, 3, 4},
+               {13, 1, 1}, {14, 2, 0}}},
     /* CVX */
-    {6, 0, 1, 1},   {6, 1, 1, 1},   {6, 2, 1, 1},   {6, 3, 1, 1},   {6, 4, 2, 3},   {6, 6, 2, 2},   {6, 8, 2, 2},
-    {6, 10, 2, 2},  {6, 12, 1, 1},  {6, 13, 1, 1},  {6, 14, 1, 1},  {6, 15, 1, 0},
+    [6] = {2, {{0, 1, 1}, {1, 1, 1}, {2, 1, 1}, {3, 1, 1}, {4, 2, 3}, {6, 2, 2}, {8, 2, 2}, {10, 2, 2}, {12, 1, 1},
+               {13, 1, 1}, {14, 1, 1}, {15, 1, 0}}},
     /* SDT */
-    {7, 0, 1, 1},   {7, 1, 1, 1},   {7, 2, 1, 1},   {7, 3, 1, 1},   {7, 4, 1, 1},   {7, 5, 1, 1},   {7, 6, 2, 0},
+    [7] = {1, {{0, 1, 1}, {1, 1, 1}, {2, 1, 1}, {3, 1, 1}, {4, 1, 1}, {5, 1, 1}, {6, 2, 0}}},
     /* AG */
-    {8, 0, 1, 1},   {8, 1, 1, 1},   {8, 2, 1, 1},   {8, 3, 1, 1},   {8, 4, 2, 3},   {8, 6, 2, 2},   {8, 8, 2, 2},
-    {8, 10, 2, 2},  {8, 12, 3, 4},  {8, 15, 1, 1},  {8, 16, 2, 3},  {8, 18, 1, 1},  {8, 19, 5, 0},
+    [8] = {3, {{0, 1, 1}, {1, 1, 1}, {2, 1, 1}, {3, 1, 1}, {4, 2, 3}, {6, 2, 2}, {8, 2, 2}, {10, 2, 2}, {12, 3, 4},
+               {15, 1, 1}, {16, 2, 3}, {18, 1, 1}, {19, 5, 0}}},
     /* BOU */
-    {9, 0, 1, 1},   {9, 1, 1, 1},   {9, 2, 1, 1},   {9, 3, 1, 1},   {9, 4, 4, 0},
+    [9] = {1, {{0, 1, 1}, {1, 1, 1}, {2, 1, 1}, {3, 1, 1}, {4, 4, 0}}},
     /* AVG */
-    {22, 0, 1, 1},  {22, 1, 1, 1},  {22, 2, 1, 1},  {22, 3, 1, 1},  {22, 4, 2, 3},  {22, 6, 1, 1},  {22, 7, 2, 2},
-    {22, 9, 7, 0},
+    [22] = {2, {{0, 1, 1}, {1, 1, 1}, {2, 1, 1}, {3, 1, 1}, {4, 2, 3}, {6, 1, 1}, {7, 2, 2}, {9, 7, 0}}},
     /* FRA */
-    {23, 0, 1, 1},  {23, 1, 1, 1},  {23, 2, 3, 6},  {23, 5, 1, 1},  {23, 6, 3, 6},  {23, 9, 1, 1},  {23, 10, 1, 1},
-    {23, 11, 1, 1}, {23, 12, 4, 0},
+    [23] = {2, {{0, 1, 1}, {1, 1, 1}, {2, 3, 6}, {5, 1, 1}, {6, 3, 6}, {9, 1, 1}, {10, 1, 1}, {11, 1, 1}, {12, 4, 0}}},
+    /* SIG of 3.0: TIPO is a bit narrower, then EAR; at the top FAI and GRP_ARS */
+    [31] = {4, {{0, 1, 1}, {1, 2, 3}, {3, 1, 1}, SIG_IND_TO_SA, {28, 2, 3}, {30, 2, 2}}},
 };
 
-const struct layout layouts[256] = {
-    [1] = {4, 0, 24},  [2] = {1, 24, 27}, [3] = {1, 27, 31}, [4] = {2, 31, 42},  [5] = {2, 42, 53},   [6] = {2, 53, 65},
-    [7] = {1, 65, 72}, [8] = {3, 72, 85}, [9] = {1, 85, 90}, [22] = {2, 90, 98}, [23] = {2, 98, 107},
+const uint8_t *const catalogues[256] = {
+    [1] = (const uint8_t[256]){[1] = 1, 2, 3, 4, 5, 6, 7, 8, 9, [22] = 22, 23},
+    [3] = (const uint8_t[256]){[1] = 31, 2, 3, 4, 5, 6, 7},
 };
 
 /* Numbers in bytes, highest byte first */
@@ -64,22 +67,23 @@ static void put_number(uint8_t *bytes, size_t width, uint32_t value)
 
 /* Elements */
 
-static bool silent_but_set(uint8_t type, uint32_t word)
+static uint32_t field_of(uint32_t word, const struct row *row)
 {
-    return type != TYPE_WITHOUT_DAT && (word & 1) == 0 && word != 0;
+    return word >> row->low & ((1u << row->width) - 1);
 }
 
-static bool check_element(uint8_t type, const uint8_t *element, uint32_t object, uint32_t *answer)
+static bool silent_but_set(uint8_t kind, uint32_t word)
 {
-    const struct layout *layout = &layouts[type];
-    uint32_t word = number(element, layout->width);
-    for (size_t i = layout->first; i < layout->end; i++) {
-        const struct row *row = &rows[i];
-        uint32_t value = word >> row->low & ((1u << row->width) - 1);
-        if (value > row->top)
+    return kind != KIND_WITHOUT_DAT && (word & 1) == 0 && word != 0;
+}
+
+bool check_fields(uint8_t kind, const uint8_t *element, uint32_t object, uint32_t *answer)
+{
+    uint32_t word = number(element, layouts[kind].width);
+    for (const struct row *row = layouts[kind].rows; row->width != 0; row++)
+        if (field_of(word, row) > row->top)
             return refused_bit(answer, row->top == 0 ? 10 : 11, object, row->low);
-    }
-    if (silent_but_set(type, word))
+    if (silent_but_set(kind, word))
         return refused_bit(answer, 12, object, 0);
     return true;
 }
@@ -90,13 +94,13 @@ static bool check_element(uint8_t type, const uint8_t *element, uint32_t object,
 struct table {
     const uint8_t *bytes;
     uint32_t count;
-    uint8_t types[OBJECTS_MOST];
+    uint8_t kinds[OBJECTS_MOST];
     uint16_t starts[OBJECTS_MOST + 1];
 };
 
 static size_t width_of(const struct table *table, uint32_t object)
 {
-    return layouts[table->types[object]].width;
+    return layouts[table->kinds[object]].width;
 }
 
 static size_t elements_len(const struct table *table)
@@ -158,7 +162,8 @@ static bool check_table(const uint8_t *bytes, size_t len, struct table *table, u
 {
     if (!check_head(bytes, len, TABLE_LEAST, answer))
         return false;
-    if (!carries(bytes[CATALOGUE], bytes[CATALOGUE + 1]))
+    const uint8_t *kinds = kinds_under(bytes[CATALOGUE], bytes[CATALOGUE + 1]);
+    if (kinds == NULL)
         return refused(answer, 3);
     uint32_t count = number(bytes + TABLE_COUNT, 2);
     if (count > OBJECTS_MOST)
@@ -168,9 +173,9 @@ static bool check_table(const uint8_t *bytes, size_t len, struct table *table, u
     for (uint32_t object = 0; object < count; object++) {
         if (len - at < 2)
             return refused(answer, 8);
-        uint8_t type = bytes[at];
+        uint8_t kind = kinds[bytes[at]];
         size_t label_len = bytes[at + 1];
-        if (layouts[type].width == 0)
+        if (kind == 0)
             return refused_object(answer, 5, object);
         if (label_len < 1 || label_len > LABEL_MOST)
             return refused_object(answer, 6, object);
@@ -180,9 +185,9 @@ static bool check_table(const uint8_t *bytes, size_t len, struct table *table, u
             return refused_object(answer, 6, object);
         if (repeated(bytes, at))
             return refused_object(answer, 7, object);
-        table->types[object] = type;
+        table->kinds[object] = kind;
         table->starts[object] = start;
-        start += layouts[type].width;
+        start += layouts[kind].width;
         at += 2 + label_len;
     }
     if (at != len)
@@ -200,7 +205,7 @@ static bool check_image(const struct table *table, const uint8_t *image, size_t 
     if (len != IMAGE_ELEMENTS + elements_len(table))
         return refused(answer, 8);
     for (uint32_t object = 0; object < table->count; object++)
-        if (!check_element(table->types[object], image + IMAGE_ELEMENTS + table->starts[object], object, answer))
+        if (!check_fields(table->kinds[object], image + IMAGE_ELEMENTS + table->starts[object], object, answer))
             return false;
     return true;
 }
@@ -224,8 +229,8 @@ static bool check_list(const struct table *table, const uint8_t *list, size_t le
         size_t width = width_of(table, object);
         if (len - at < 2 * width)
             return refused(answer, 8);
-        if (!check_element(table->types[object], list + at, object, answer) ||
-            !check_element(table->types[object], list + at + width, object, answer))
+        if (!check_fields(table->kinds[object], list + at, object, answer) ||
+            !check_fields(table->kinds[object], list + at + width, object, answer))
             return false;
         if (memcmp(list + at, list + at + width, width) == 0)
             return refused_object(answer, 15, object);
@@ -304,13 +309,14 @@ static void finish_list(const struct draft *draft, const struct table *table, ui
 void reference_check_element(uint8_t x, uint8_t y, uint8_t type, const uint8_t *element, size_t element_len,
                              uint32_t answer[8])
 {
-    if (!carries(x, y))
+    const uint8_t *kinds = kinds_under(x, y);
+    if (kinds == NULL)
         refused(answer, 3);
-    else if (layouts[type].width == 0)
+    else if (kinds[type] == 0)
         refused(answer, 5);
-    else if (element_len != layouts[type].width)
+    else if (element_len != layouts[kinds[type]].width)
         refused(answer, 8);
-    else if (check_element(type, element, NO_OBJECT, answer))
+    else if (check_fields(kinds[type], element, NO_OBJECT, answer))
         succeed(answer, 0);
 }
 
@@ -349,28 +355,28 @@ void reference_read_state(const uint8_t *table, size_t table_len, const uint8_t 
         refused_object(answer, 13, object);
         return;
     }
-    const struct layout *layout = &layouts[t.types[object]];
+    const struct layout *layout = &layouts[t.kinds[object]];
     uint32_t word = number(image + IMAGE_ELEMENTS + t.starts[object], layout->width);
     memset(fields, 0, 32 * sizeof *fields);
-    for (size_t i = layout->first; i < layout->end; i++)
-        if (rows[i].top != 0)
-            *fields++ = word >> rows[i].low & ((1u << rows[i].width) - 1);
+    for (const struct row *row = layout->rows; row->width != 0; row++)
+        if (row->top != 0)
+            *fields++ = field_of(word, row);
     succeed(answer, 0);
-    answer[5] = t.types[object];
+    answer[5] = t.kinds[object];
 }
 
 /* The element of a state handed in, where it is admitted. */
-static bool check_state(uint8_t type, const uint32_t *fields, uint32_t object, uint32_t *word, uint32_t *answer)
+static bool check_state(uint8_t kind, const uint32_t *fields, uint32_t object, uint32_t *word, uint32_t *answer)
 {
     *word = 0;
-    for (size_t i = layouts[type].first; i < layouts[type].end; i++) {
-        if (rows[i].top == 0)
+    for (const struct row *row = layouts[kind].rows; row->width != 0; row++) {
+        if (row->top == 0)
             continue;
-        if (*fields > rows[i].top)
-            return refused_bit(answer, 11, object, rows[i].low);
-        *word |= *fields++ << rows[i].low;
+        if (*fields > row->top)
+            return refused_bit(answer, 11, object, row->low);
+        *word |= *fields++ << row->low;
     }
-    if (silent_but_set(type, *word))
+    if (silent_but_set(kind, *word))
         return refused_bit(answer, 12, object, 0);
     return true;
 }
@@ -387,11 +393,11 @@ void reference_write_state(const uint8_t *table, size_t table_len, const uint8_t
         refused_object(answer, 13, object);
         return;
     }
-    if (kind != t.types[object]) {
+    if (kind != t.kinds[object]) {
         refused_object(answer, 22, object);
         return;
     }
-    if (!check_state(t.types[object], fields, object, &word, answer) || !room(out_len, image_len, answer))
+    if (!check_state(t.kinds[object], fields, object, &word, answer) || !room(out_len, image_len, answer))
         return;
     memcpy(out, image, image_len);
     put_number(out + IMAGE_POSITION, 4, position);

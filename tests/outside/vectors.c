@@ -1,8 +1,9 @@
 /* Runs the requests of a vectors file against a face: vectors library|handmade|reference FILE.
    A line is: CALL name=value .. > CODE OBJECT BIT LENGTH name=value .., inputs on the left, outputs on the right.
    Bytes are lower-case hex, - where empty; a lent output stands whole, at entry on the left and at exit on the right. A
-   state is TYPE:v,v,.. or none, a standing applied,late,gap,other. An element's catalogue is 1.0 where none is named. A
-   listing's text is what the program prints: of a refusal the line that is made from its numbers. */
+   state is KIND:v,v,.. or none, where the kind is the type, or 301 for the signal of catalogue 3.0; a standing is
+   applied,late,gap,other. An element's catalogue is 1.0 where none is named. A listing's text is what the program
+   prints: of a refusal the line that is made from its numbers. */
 #include "faces.h"
 
 #include <inttypes.h>
@@ -73,6 +74,17 @@ static size_t numbers_in(const char *text, uint32_t *numbers, size_t most)
             return count;
         text = end + 1;
     }
+}
+
+/* A state's fields, and its kind by the face's number */
+static uint32_t state_in(const char *text, uint32_t *fields)
+{
+    char *values;
+    uint32_t kind = (uint32_t)strtoul(text, &values, 10);
+    if (*values != ':')
+        malformed("state");
+    numbers_in(values + 1, fields, 32);
+    return kind == 301 ? 31 : kind;
 }
 
 /* Bytes with a guard before and behind */
@@ -270,23 +282,20 @@ static void run(const struct face *face, const struct side *in, const struct sid
     case 3: {
         const char *state = text_of(out, "state");
         memset(fields, 0xFF, sizeof fields);
-        if (strcmp(state, "none") == 0) {
+        if (strcmp(state, "none") == 0)
             memcpy(expected_fields, fields, sizeof fields);
-        } else {
-            expected[5] = (uint32_t)strtoul(state, NULL, 10);
-            numbers_in(strchr(state, ':') + 1, expected_fields, 32);
-        }
+        else
+            expected[5] = state_in(state, expected_fields);
         face->read_state(t, table.len, f, first.len, (uint16_t)number_of(in, "number"), fields, answer);
         hold_numbers(fields, expected_fields, 32, "fields");
         break;
     }
     case 4: {
-        const char *state = text_of(in, "state");
         memset(fields, 0xFF, sizeof fields);
-        numbers_in(strchr(state, ':') + 1, fields, 32);
+        uint32_t kind = state_in(text_of(in, "state"), fields);
         memcpy(expected_fields, fields, sizeof fields);
-        face->write_state(t, table.len, f, first.len, (uint16_t)number_of(in, "number"),
-                          (uint32_t)strtoul(state, NULL, 10), fields, number_of(in, "position"), o, output.len, answer);
+        face->write_state(t, table.len, f, first.len, (uint16_t)number_of(in, "number"), kind, fields,
+                          number_of(in, "position"), o, output.len, answer);
         hold_numbers(fields, expected_fields, 32, "fields handed in");
         break;
     }
