@@ -1,4 +1,5 @@
-/* One call, some times over: benchmark FACE CALL OBJECTS ENTRIES REPEATS. Of check_element, OBJECTS is the type.
+/* One call under catalogue 1.0, some times over: benchmark FACE CALL OBJECTS ENTRIES REPEATS. Of check_element, OBJECTS
+   is the type.
    check_first_byte is check_table on labels that differ in the first byte only, check_colliding on labels of one hash.
    Prints the bytes of the table and of the other forms; what runs is counted from outside. */
 #include "faces.h"
@@ -20,7 +21,7 @@ static void station_table(uint32_t objects)
         const char *name;
     } mixture[] = {{4, "CV"},  {1, "SIG"}, {4, "CV"}, {8, "AG"},  {5, "CVA"}, {4, "CV"},  {1, "SIG"},  {6, "CVX"},
                    {2, "IC"},  {4, "CV"},  {3, "PV"}, {7, "SDT"}, {1, "SIG"}, {9, "BOU"}, {22, "AVG"}, {23, "FRA"}};
-    empty_table(&table);
+    empty_table(&table, 1);
     for (uint32_t object = 0; object < objects; object++) {
         char label[32];
         int len = snprintf(label, sizeof label, "ALB:%s%04u", mixture[object % 16].name, (unsigned)object);
@@ -31,14 +32,15 @@ static void station_table(uint32_t objects)
 /* Labels of one length that differ in the first byte only. Of each type there are 93 such; one more is a byte longer. */
 static void first_byte_table(uint32_t objects)
 {
-    empty_table(&table);
+    static const uint8_t types[] = {1, 2, 3, 4, 5, 6, 7, 8, 9, 22, 23};
+    empty_table(&table, 1);
     for (uint32_t object = 0; object < objects; object++) {
         char label[] = "?LB:CV00170";
-        uint32_t first = object / TYPES;
+        uint32_t first = object / sizeof types;
         label[0] = (char)(33 + first % 93);
         if (label[0] >= ':')
             label[0]++;
-        add_object(&table, carried[object % TYPES], label, first < 93 ? 10 : 11);
+        add_object(&table, types[object % sizeof types], label, first < 93 ? 10 : 11);
     }
 }
 
@@ -46,16 +48,16 @@ static void first_byte_table(uint32_t objects)
 static void change(struct form *image, const struct form *before, const struct form *earlier, uint32_t entries)
 {
     uint32_t objects = objects_of(&table);
-    size_t at = 11;
+    size_t at = IMAGE_ELEMENTS;
     copy_form(image, before);
     put_number(image->bytes + 7, 4, number(before->bytes + 7, 4) + 1);
     for (uint32_t object = 0, changed = 0; object < objects; object++) {
-        uint8_t type = table.bytes[entry_of(&table, object)];
-        size_t width = width_of_type(type);
+        uint8_t kind = kind_at(&table, entry_of(&table, object));
+        size_t width = layouts[kind].width;
         if (changed * objects <= object * entries && changed < entries) {
             while (memcmp(image->bytes + at, before->bytes + at, width) == 0 ||
                    memcmp(image->bytes + at, earlier->bytes + at, width) == 0)
-                memcpy(image->bytes + at, pool_element(type), width);
+                memcpy(image->bytes + at, pool_element(kind), width);
             changed++;
         }
         at += width;
@@ -90,10 +92,11 @@ int main(int argc, char **argv)
     fill_pool();
 
     if (strcmp(call, "check_element") == 0) {
-        const uint8_t *element = pool_element((uint8_t)objects);
-        others = width_of_type((uint8_t)objects);
+        uint8_t type = (uint8_t)objects, kind = catalogues[1][type];
+        const uint8_t *element = pool_element(kind);
+        others = layouts[kind].width;
         while (repeats-- > 0)
-            face->check_element(1, 0, (uint8_t)objects, element, others, answer);
+            face->check_element(1, 0, type, element, others, answer);
         printf("0 %zu\n", others);
         return 0;
     }

@@ -139,15 +139,15 @@ static void join_data(struct request *request)
 
 static void choose_element(struct request *request)
 {
-    uint8_t type = carried[draw(TYPES)];
-    element.len = width_of_type(type);
-    memcpy(element.bytes, pool_element(type), element.len);
+    uint8_t x = draw_catalogue(), type = draw_type(x), kind = catalogues[x][type];
+    element.len = layouts[kind].width;
+    memcpy(element.bytes, pool_element(kind), element.len);
     for (uint32_t times = draw(3); times > 0; times--)
         flip_bit(element.bytes, element.len);
     if (once_in(8))
         element.len = draw(6);
     request->type = once_in(8) ? (uint8_t)draw(256) : type;
-    request->x = once_in(8) ? (uint8_t)draw(once_in(2) ? 5 : 256) : 1;
+    request->x = once_in(8) ? (uint8_t)draw(once_in(2) ? 5 : 256) : x;
     request->y = once_in(8) ? (uint8_t)draw(once_in(2) ? 5 : 256) : 0;
     request->table = &element;
 }
@@ -157,17 +157,20 @@ static void choose_state(struct request *request)
     static const uint32_t values[] = {0, 1, 2, 3, 4, 5, 7, 8, 13, 16, 256, 0x80000000u, 0xFFFFFFFFu};
     uint32_t count = objects_of(&table);
     request->object = (uint16_t)(once_in(12) ? count + draw(2) : once_in(30) ? 65535 : draw(count));
-    request->kind = request->object < count ? table.bytes[entry_of(&table, request->object)] : carried[draw(TYPES)];
-    memcpy(request->fields, pool_fields((uint8_t)request->kind, pool_element((uint8_t)request->kind)), 128);
-    uint32_t *field = &request->fields[draw(24)];
+    uint8_t x = table.bytes[CATALOGUE];
+    uint8_t type = request->object < count ? table.bytes[entry_of(&table, request->object)] : draw_type(x);
+    uint8_t kind = catalogues[once_in(4) ? draw_catalogue() : x][type]; /* the type's own, or by another catalogue */
+    request->kind = kind;
+    memcpy(request->fields, pool_fields(kind, pool_element(kind)), 128);
+    uint32_t *field = &request->fields[draw(FIELDS_MOST)];
     if (once_in(3))
         *field = values[draw(13)];
     if (once_in(8))
         request->fields[0] = 0;
     if (once_in(2))
-        memset(request->fields + 23, 0xFF, 9 * sizeof *request->fields); /* beyond every type's fields */
+        memset(request->fields + FIELDS_MOST, 0xFF, (32 - FIELDS_MOST) * sizeof(uint32_t)); /* beyond every kind's */
     if (once_in(8))
-        request->kind = once_in(3) ? request->kind + 256 : draw(26);
+        request->kind = once_in(3) ? request->kind + 256 : draw(KINDS);
     request->position = draw_position();
 }
 
@@ -222,26 +225,46 @@ static void compare_one(void)
         compare(&request);
 }
 
-/* Every field of every type, written with each value up to 17 and read again, with and without data. */
-static void sweep_states(void)
+/* A table of one object, and an image of it. */
+static void make_single(uint8_t x, uint8_t type)
 {
-    for (int i = 0; i < TYPES; i++) {
-        static struct form written;
-        empty_table(&table);
-        add_object(&table, carried[i], "A:A", 3);
-        first_image(&images[0], &table);
-        for (uint32_t place = 0; place < 24 * 18 * 2; place++) {
-            struct request write = {.call = WRITE_STATE, .table = &table, .first = &images[0], .kind = carried[i]};
-            write.room = images[0].len;
-            write.fields[0] = place % 2;
-            write.fields[place / 36] = place / 2 % 18;
-            struct outcome outcome = compare(&write);
-            if (outcome.answer[0] != 0)
-                continue;
-            written.len = images[0].len;
-            memcpy(written.bytes, outcome.out, written.len);
-            compare(&(struct request){.call = READ_STATE, .table = &table, .first = &written});
-        }
+    empty_table(&table, x);
+    add_object(&table, type, "A:A", 3);
+    first_image(&images[0], &table);
+}
+
+/* Every field of a type, written with each value up to 17 and read again, with and without data. */
+static void sweep_states(uint8_t x, uint8_t type, uint8_t kind)
+{
+    static struct form written;
+    make_single(x, type);
+    for (uint32_t place = 0; place < FIELDS_MOST * 18 * 2; place++) {
+        struct request write = {.call = WRITE_STATE, .table = &table, .first = &images[0], .kind = kind};
+        write.room = images[0].len;
+        write.fields[0] = place % 2;
+        write.fields[place / 36] = place / 2 % 18;
+        struct outcome outcome = compare(&write);
+        if (outcome.answer[0] != 0)
+            continue;
+        written.len = images[0].len;
+        memcpy(written.bytes, outcome.out, written.len);
+        compare(&(struct request){.call = READ_STATE, .table = &table, .first = &written});
+    }
+}
+
+/* A state of every kind for an object of a type, with and without data, and with another field set: 22 comes before
+   12. */
+static void sweep_kinds(uint8_t x, uint8_t type, uint8_t own)
+{
+    make_single(x, type);
+    for (uint32_t place = 0; place < 2 * (KINDS + 1); place++) {
+        uint32_t kind = place / 2;
+        struct request write = {.call = WRITE_STATE, .table = &table, .first = &images[0], .kind = kind};
+        write.room = images[0].len;
+        write.fields[0] = place % 2;
+        write.fields[1] = 1;
+        uint32_t code = compare(&write).answer[0];
+        hold((code == 22) == (kind != own), "22 is given exactly where the kind isn't the object's");
     }
 }
 
@@ -260,7 +283,7 @@ static void sweep_labels(void)
                 labels[1][place == len + 1 ? 2 : 1] = ':';
                 if (place < len)
                     labels[1][place] = 'B';
-                empty_table(&table);
+                empty_table(&table, draw_catalogue());
                 add_object(&table, 4, labels[!later], lens[!later]);
                 add_object(&table, 5, labels[0], len);
                 add_object(&table, 4, labels[later], lens[later]);
@@ -292,30 +315,45 @@ static void sweep_collisions(void)
     }
 }
 
-/* Every element of one and two bytes, and many of the longer. */
-static unsigned long sweep_elements(void)
+static unsigned long elements, elements_differing;
+
+/* The answers of one element alone */
+static void compare_element(uint8_t x, uint8_t y, uint8_t type, const uint8_t *bytes, size_t len)
 {
-    unsigned long count = 0, differing = 0;
-    for (int i = 0; i < TYPES; i++) {
-        size_t width = width_of_type(carried[i]);
-        uint32_t end = width == 1 ? 256 : 65536;
-        for (uint32_t value = 0; value < end; value++, count++) {
-            uint8_t bytes[4];
-            uint32_t expected[8], found[8], made[8];
-            put_number(bytes, width, value);
-            if (width > 2) /* an accepted one with up to three bits changed */
-                memcpy(bytes, pool_element(carried[i]), width);
-            for (uint32_t flips = width > 2 ? draw(4) : 0; flips > 0; flips--)
-                flip_bit(bytes, width);
-            reference.check_element(1, 0, carried[i], bytes, width, expected);
-            library.check_element(1, 0, carried[i], bytes, width, found);
-            handmade.check_element(1, 0, carried[i], bytes, width, made);
-            differing += memcmp(expected, found, sizeof expected) != 0 || memcmp(expected, made, sizeof expected) != 0;
-        }
+    uint32_t expected[8], found[8], made[8];
+    reference.check_element(x, y, type, bytes, len, expected);
+    library.check_element(x, y, type, bytes, len, found);
+    handmade.check_element(x, y, type, bytes, len, made);
+    elements++;
+    elements_differing +=
+        memcmp(expected, found, sizeof expected) != 0 || memcmp(expected, made, sizeof expected) != 0;
+}
+
+/* Every element of one and two bytes, and many of the longer. */
+static void sweep_elements(uint8_t x, uint8_t type, uint8_t kind)
+{
+    size_t width = layouts[kind].width;
+    uint32_t end = width == 1 ? 256 : 65536;
+    for (uint32_t value = 0; value < end; value++) {
+        uint8_t bytes[4];
+        put_number(bytes, width, value);
+        if (width > 2) /* an accepted one with up to three bits changed */
+            memcpy(bytes, pool_element(kind), width);
+        for (uint32_t flips = width > 2 ? draw(4) : 0; flips > 0; flips--)
+            flip_bit(bytes, width);
+        compare_element(x, 0, type, bytes, width);
     }
-    printf("elements by type: %lu compared, %lu differ\n", count, differing);
-    failed += differing;
-    return count - differing;
+}
+
+/* Every type under every X, and every X and Y. */
+static void sweep_catalogues(void)
+{
+    static const uint8_t element[4] = {0};
+    for (uint32_t place = 0; place < 65536; place++) {
+        uint8_t x = (uint8_t)(place >> 8), other = (uint8_t)place;
+        compare_element(x, 0, other, element, 1 + draw(4));
+        compare_element(x, other, 2, element, 1);
+    }
 }
 
 int main(int argc, char **argv)
@@ -327,7 +365,7 @@ int main(int argc, char **argv)
     fill_pool();
     setvbuf(stdout, NULL, _IOLBF, 0); /* what was printed stays, should a call be stopped */
     printf("compare: %lu requests, seed %" PRIu64 "\n", requests, start);
-    unsigned long laws = 0;
+    unsigned long laws[256] = {0}; /* by the table's X */
     for (unsigned long round = 0; compared < requests; round++) {
         make_round(round);
         for (int i = 0; i < REQUESTS_A_ROUND; i++)
@@ -340,14 +378,21 @@ int main(int argc, char **argv)
         if (once_in(2))
             damage_list(&bent_second, &table);
         hold_laws(&table, images, &bent_first, &bent_second);
-        laws += passed + failed - before;
+        laws[table.bytes[CATALOGUE]] += passed + failed - before;
     }
-    sweep_states();
+    each_type(sweep_states);
+    each_type(sweep_kinds);
     sweep_labels();
     sweep_collisions();
     print_counts(requests >= REQUESTS);
-    printf("laws held to: %lu\n", laws);
-    passed += sweep_elements();
+    for (int x = 0; x < 256; x++)
+        if (catalogues[x] != NULL)
+            printf("laws held to under %d.0: %lu\n", x, laws[x]);
+    each_type(sweep_elements);
+    sweep_catalogues();
+    printf("elements: %lu compared, %lu differ\n", elements, elements_differing);
+    passed += elements - elements_differing;
+    failed += elements_differing;
     printf("compare: %lu passed, %lu failed\n", passed, failed);
     return failed != 0;
 }

@@ -2,28 +2,8 @@
 
 #include "faces.h"
 
-#include <stdio.h>
-#include <stdlib.h>
-#include <string.h>
-
-enum { POOL = 128, TABLE_ENTRIES = 9, IMAGE_ELEMENTS = 11, LIST_ENTRIES = 17 };
-
-const uint8_t carried[TYPES] = {1, 2, 3, 4, 5, 6, 7, 8, 9, 22, 23};
-static const uint8_t widths[TYPES] = {4, 1, 1, 2, 2, 2, 1, 3, 1, 2, 2};
-
-static size_t index_of_type(uint8_t type)
-{
-    for (size_t i = 0; i < TYPES; i++)
-        if (carried[i] == type)
-            return i;
-    fprintf(stderr, "type %u is not carried\n", type);
-    exit(2);
-}
-
-size_t width_of_type(uint8_t type)
-{
-    return widths[index_of_type(type)];
-}
+/* The norm's catalogues and types are below these. */
+enum { CATALOGUES = 4, TYPES = 26, POOL = 128 };
 
 /* Random numbers: splitmix64 */
 
@@ -56,6 +36,43 @@ uint32_t draw_position(void)
 {
     static const uint32_t edges[] = {0, 1, 7, 255, 256, 65535, 65536, 0x80000000u, 0xFFFFFFFEu, 0xFFFFFFFFu};
     return once_in(3) ? (uint32_t)next() : edges[draw(sizeof edges / sizeof *edges)];
+}
+
+/* Catalogues */
+
+uint8_t draw_catalogue(void)
+{
+    uint8_t x;
+    do
+        x = (uint8_t)draw(CATALOGUES);
+    while (catalogues[x] == NULL);
+    return x;
+}
+
+uint8_t draw_type(uint8_t x)
+{
+    uint8_t type;
+    do
+        type = (uint8_t)draw(TYPES);
+    while (catalogues[x][type] == 0);
+    return type;
+}
+
+/* The first behind the last */
+static uint8_t next_type(uint8_t x, uint8_t type)
+{
+    do
+        type++;
+    while (catalogues[x][type] == 0);
+    return type;
+}
+
+void each_type(void (*visit)(uint8_t x, uint8_t type, uint8_t kind))
+{
+    for (uint8_t x = 0; x < CATALOGUES; x++)
+        for (uint8_t type = 0; catalogues[x] != NULL && type < TYPES; type++)
+            if (catalogues[x][type] != 0)
+                visit(x, type, catalogues[x][type]);
 }
 
 /* Bytes */
@@ -94,41 +111,39 @@ void flip_bit(uint8_t *bytes, size_t len)
 
 /* Accepted elements */
 
-static uint8_t pool[TYPES][POOL][4];
-static uint32_t fields[TYPES][POOL][32];
+static uint8_t pool[KINDS][POOL][4];
+static uint32_t fields[KINDS][POOL][32];
 
 /* The fields by a table and an image of one object. */
-static void fill_fields(size_t type, size_t i)
+static void fill_kind(uint8_t x, uint8_t type, uint8_t kind)
 {
     uint32_t answer[8];
-    uint8_t table[] = {0, 0, 0, 10, 1, 1, 0, 0, 1, carried[type], 3, 'A', ':', 'A'};
-    uint8_t image[IMAGE_ELEMENTS + 4] = {0, 0, 0, (uint8_t)(7 + widths[type]), 1, 1, 0};
-    memcpy(image + IMAGE_ELEMENTS, pool[type][i], widths[type]);
-    reference.read_state(table, sizeof table, image, IMAGE_ELEMENTS + (size_t)widths[type], 0, fields[type][i], answer);
+    size_t width = layouts[kind].width;
+    const uint8_t table[] = {0, 0, 0, 10, 1, x, 0, 0, 1, type, 3, 'A', ':', 'A'};
+    uint8_t image[IMAGE_ELEMENTS + 4] = {0, 0, 0, (uint8_t)(IMAGE_LEAST + width), 1, x, 0};
+    for (size_t i = 1; i < POOL; i++) { /* the first is without data */
+        do {
+            put_number(pool[kind][i], width, (uint32_t)next() | (kind != KIND_WITHOUT_DAT)); /* DAT */
+            reference.check_element(x, 0, type, pool[kind][i], width, answer);
+        } while (answer[0] != 0);
+        memcpy(image + IMAGE_ELEMENTS, pool[kind][i], width);
+        reference.read_state(table, sizeof table, image, IMAGE_ELEMENTS + width, 0, fields[kind][i], answer);
+    }
 }
 
 void fill_pool(void)
 {
-    for (size_t type = 0; type < TYPES; type++)
-        for (size_t i = 1; i < POOL; i++) { /* the first is without data */
-            uint32_t answer[8];
-            do {
-                put_number(pool[type][i], widths[type], (uint32_t)next() | (carried[type] != 22)); /* DAT */
-                reference.check_element(1, 0, carried[type], pool[type][i], widths[type], answer);
-            } while (answer[0] != 0);
-            fill_fields(type, i);
-        }
+    each_type(fill_kind);
 }
 
-const uint8_t *pool_element(uint8_t type)
+const uint8_t *pool_element(uint8_t kind)
 {
-    return pool[index_of_type(type)][once_in(8) ? 0 : draw(POOL)];
+    return pool[kind][once_in(8) ? 0 : draw(POOL)];
 }
 
-const uint32_t *pool_fields(uint8_t type, const uint8_t *element)
+const uint32_t *pool_fields(uint8_t kind, const uint8_t *element)
 {
-    size_t at = index_of_type(type);
-    return fields[at][(size_t)(element - pool[at][0]) / sizeof pool[at][0]];
+    return fields[kind][(size_t)(element - pool[kind][0]) / sizeof pool[kind][0]];
 }
 
 /* Accepted forms */
@@ -146,11 +161,16 @@ size_t entry_of(const struct form *table, uint32_t object)
     return at;
 }
 
-static void put_head(struct form *form)
+uint8_t kind_at(const struct form *table, size_t entry)
 {
-    form->bytes[4] = 1;
-    form->bytes[5] = 1;
-    form->bytes[6] = 0;
+    return catalogues[table->bytes[CATALOGUE]][table->bytes[entry]];
+}
+
+static void put_head(struct form *form, uint8_t x)
+{
+    form->bytes[VERSION] = 1;
+    form->bytes[CATALOGUE] = x;
+    form->bytes[CATALOGUE + 1] = 0;
 }
 
 static uint8_t printable(void)
@@ -184,22 +204,22 @@ static size_t put_label(uint8_t *label, uint32_t object)
 void random_table(struct form *table, uint32_t objects)
 {
     size_t at = TABLE_ENTRIES, last = 0;
-    size_t type = draw(TYPES);
+    uint8_t x = draw_catalogue(), type = 0;
     bool shared = true;
-    put_head(table);
+    put_head(table, x);
     put_number(table->bytes + 7, 2, objects);
     for (uint32_t object = 0; object < objects; object++) {
         uint8_t *entry = table->bytes + at;
         shared = !shared && once_in(5); /* the label of the object before, under another type */
         if (shared) {
-            type = (type + 1) % TYPES;
+            type = next_type(x, type);
             entry[1] = table->bytes[last + 1];
             memcpy(entry + 2, table->bytes + last + 2, entry[1]);
         } else {
-            type = draw(TYPES);
+            type = draw_type(x);
             entry[1] = (uint8_t)put_label(entry + 2, object);
         }
-        entry[0] = carried[type];
+        entry[0] = type;
         last = at;
         at += 2 + (size_t)entry[1];
     }
@@ -207,9 +227,9 @@ void random_table(struct form *table, uint32_t objects)
     refit(table);
 }
 
-void empty_table(struct form *table)
+void empty_table(struct form *table, uint8_t x)
 {
-    put_head(table);
+    put_head(table, x);
     put_number(table->bytes + 7, 2, 0);
     table->len = TABLE_ENTRIES;
     refit(table);
@@ -231,7 +251,7 @@ void colliding_table(struct form *table, uint32_t objects)
 {
     enum { TYPE = 4, CROWDED = 529, VALUES = 94 };
     char label[] = "????:CV0017000000000000000000000";
-    empty_table(table);
+    empty_table(table, 1);
     for (uint32_t front = 0; objects_of(table) < objects; front++) {
         uint32_t hash = TYPE, rest = front;
         for (int i = 0; i < 4; i++, rest /= VALUES) {
@@ -243,15 +263,15 @@ void colliding_table(struct form *table, uint32_t objects)
     }
 }
 
-void put_image(struct form *image, const struct form *table, uint32_t position, const uint8_t *(*element)(uint8_t type))
+void put_image(struct form *image, const struct form *table, uint32_t position, const uint8_t *(*element)(uint8_t kind))
 {
     size_t at = IMAGE_ELEMENTS, entry = TABLE_ENTRIES;
-    put_head(image);
+    put_head(image, table->bytes[CATALOGUE]);
     put_number(image->bytes + 7, 4, position);
     for (uint32_t object = 0; object < objects_of(table); object++) {
-        uint8_t type = table->bytes[entry];
-        memcpy(image->bytes + at, element(type), width_of_type(type));
-        at += width_of_type(type);
+        uint8_t kind = kind_at(table, entry);
+        memcpy(image->bytes + at, element(kind), layouts[kind].width);
+        at += layouts[kind].width;
         entry += 2 + (size_t)table->bytes[entry + 1];
     }
     image->len = at;
@@ -271,10 +291,10 @@ void next_image(struct form *image, const struct form *table, const struct form 
     copy_form(image, before);
     put_number(image->bytes + 7, 4, draw_position());
     for (uint32_t object = 0; object < objects_of(table); object++) {
-        uint8_t type = table->bytes[entry];
+        uint8_t kind = kind_at(table, entry);
         if (once_in(rate)) /* back to what it was, or to anything */
-            memcpy(image->bytes + at, once_in(3) ? earlier->bytes + at : pool_element(type), width_of_type(type));
-        at += width_of_type(type);
+            memcpy(image->bytes + at, once_in(3) ? earlier->bytes + at : pool_element(kind), layouts[kind].width);
+        at += layouts[kind].width;
         entry += 2 + (size_t)table->bytes[entry + 1];
     }
 }
@@ -304,7 +324,7 @@ static void damage_any(struct form *form, size_t count_at)
     static const uint32_t lengths[] = {0, 4, 5, 6, 7, 12, 13, 0x7FFFFFFFu, 0xFFFFFFFBu, 0xFFFFFFFCu, 0xFFFFFFFFu};
     static const uint32_t counts[] = {0, 1, 2, 1023, 1024, 1025, 65535};
     size_t at = draw((uint32_t)form->len);
-    switch (draw(10)) {
+    switch (draw(11)) {
     case 0: put_byte(form, at, (uint8_t)next()); break;
     case 1:
     case 2: put_byte(form, at, (uint8_t)(form->bytes[at] ^ 1u << draw(8))); break;
@@ -312,12 +332,13 @@ static void damage_any(struct form *form, size_t count_at)
     case 4: resize(form, form->len + 1 + draw(8)); break;
     case 5: resize(form, draw(21)); break;
     case 6: put_byte(form, 4, (uint8_t)(once_in(2) ? draw(4) : next())); break;
-    case 7: put_byte(form, 5 + at % 2, (uint8_t)draw(4)); break;
-    case 8:
+    case 7: put_byte(form, CATALOGUE + at % 2, (uint8_t)draw(4)); break;
+    case 8: put_byte(form, CATALOGUE, draw_catalogue()); break;
+    case 9:
         if (form->len >= 4)
             put_number(form->bytes, 4, once_in(2) ? number(form->bytes, 4) + draw(3) - 1 : lengths[draw(11)]);
         break;
-    case 9:
+    case 10:
         if (count_at != 0 && form->len >= count_at + 2)
             put_number(form->bytes + count_at, 2,
                        once_in(2) ? number(form->bytes + count_at, 2) + draw(3) - 1 : counts[draw(7)]);
@@ -337,7 +358,7 @@ void damage_table(struct form *table)
     }
     size_t label_len = table->bytes[at + 1], place = at + 2 + draw((uint32_t)label_len);
     switch (draw(6)) {
-    case 0: put_byte(table, at, (uint8_t)(once_in(2) ? draw(26) : next())); break;
+    case 0: put_byte(table, at, once_in(2) ? draw_type(draw_catalogue()) : (uint8_t)draw(KINDS)); break;
     case 1: put_byte(table, at + 1, once_in(2) ? label_lengths[draw(10)] : (uint8_t)(label_len + draw(3) - 1)); break;
     case 2: put_byte(table, place, label_bytes[draw(9)]); break;
     case 3: /* the colon moved to an edge, the others taken away */
@@ -354,7 +375,7 @@ void damage_table(struct form *table)
         if (label_len > 0 && once_in(4))
             table->bytes[table->len + (place - at)] ^= 1;
         if (once_in(4))
-            table->bytes[table->len] = carried[draw(TYPES)];
+            table->bytes[table->len] = draw_type(draw_catalogue());
         table->len += 2 + label_len;
         put_number(table->bytes + 7, 2, count + 1);
         refit(table);
@@ -377,15 +398,16 @@ void damage_image(struct form *image, const struct form *table)
     }
     size_t at = IMAGE_ELEMENTS, entry = TABLE_ENTRIES;
     for (uint32_t object = draw(count); object > 0; object--) {
-        at += width_of_type(table->bytes[entry]);
+        at += layouts[kind_at(table, entry)].width;
         entry += 2 + (size_t)table->bytes[entry + 1];
     }
-    size_t width = width_of_type(table->bytes[entry]);
+    uint8_t kind = kind_at(table, entry);
+    size_t width = layouts[kind].width;
     if (at + width > image->len)
         return;
     switch (draw(4)) {
     case 0: nudge_position(image, 7); break;
-    case 1: memcpy(image->bytes + at, pool_element(table->bytes[entry]), width); break;
+    case 1: memcpy(image->bytes + at, pool_element(kind), width); break;
     case 2: image->bytes[at + width - 1] &= 0xFE; break; /* DAT, but for type 22 */
     case 3: flip_bit(image->bytes + at, width); break;
     }
@@ -402,12 +424,14 @@ void damage_list(struct form *list, const struct form *table)
         return;
     }
     /* an entry and the one before it, while they are whole */
-    size_t at = LIST_ENTRIES, before = 0, width = 0;
+    size_t at = LIST_ENTRIES, before = 0, width;
+    uint8_t kind;
     for (uint32_t entry = draw(count);; entry--) {
         uint32_t object = at + 2 > list->len ? 65535 : number(list->bytes + at, 2);
         if (object >= objects_of(table))
             return;
-        width = width_of_type(table->bytes[entry_of(table, object)]);
+        kind = kind_at(table, entry_of(table, object));
+        width = layouts[kind].width;
         if (at + 2 + 2 * width > list->len)
             return;
         if (entry == 0)
@@ -417,7 +441,6 @@ void damage_list(struct form *list, const struct form *table)
     }
     uint8_t *old = list->bytes + at + 2;
     uint8_t *new = old + width;
-    uint8_t type = table->bytes[entry_of(table, number(list->bytes + at, 2))];
     switch (draw(8)) {
     case 0: put_number(list->bytes + at, 2, draw(objects_of(table) + 2)); break;
     case 1: put_number(list->bytes + at, 2, once_in(2) ? 65535 : objects_of(table)); break;
@@ -426,8 +449,8 @@ void damage_list(struct form *list, const struct form *table)
             memcpy(list->bytes + at, list->bytes + before, 2);
         break;
     case 3: memcpy(new, old, width); break;
-    case 4: memcpy(old, pool_element(type), width); break;
-    case 5: memcpy(new, pool_element(type), width); break;
+    case 4: memcpy(old, pool_element(kind), width); break;
+    case 5: memcpy(new, pool_element(kind), width); break;
     case 6: (once_in(2) ? old : new)[width - 1] &= 0xFE; break;
     case 7: flip_bit(old, 2 * width); break;
     }

@@ -87,11 +87,11 @@ static void hold_turned_join(const struct form *first, const struct form *second
 static void hold_states(const struct form *image, uint16_t object)
 {
     static struct form written;
-    size_t entry = entry_of(under, object), at = 11;
+    size_t entry = entry_of(under, object), at = IMAGE_ELEMENTS;
     for (uint16_t i = 0; i < object; i++)
-        at += width_of_type(under->bytes[entry_of(under, i)]);
-    uint8_t type = under->bytes[entry];
-    const uint8_t *element = pool_element(type);
+        at += layouts[kind_at(under, entry_of(under, i))].width;
+    uint8_t kind = kind_at(under, entry);
+    const uint8_t *element = pool_element(kind);
 
     struct request read = {.call = READ_STATE, .table = under, .first = image, .object = object};
     struct outcome outcome = perform(&library, &read);
@@ -108,17 +108,17 @@ static void hold_states(const struct form *image, uint16_t object)
          "a state read and written at the image's own position gives the image");
 
     write.position = draw_position();
-    memcpy(write.fields, pool_fields(type, element), sizeof write.fields);
+    memcpy(write.fields, pool_fields(kind, element), sizeof write.fields);
     outcome = perform(&library, &write);
     copy_form(&written, image);
     put_number(written.bytes + 7, 4, write.position);
-    memcpy(written.bytes + at, element, width_of_type(type));
+    memcpy(written.bytes + at, element, layouts[kind].width);
     hold(outcome.answer[0] == 0 && memcmp(outcome.out, written.bytes, written.len) == 0,
          "a write replaces the object's element and the position, and nothing else");
 
     read.first = &written;
     outcome = perform(&library, &read);
-    hold(outcome.answer[0] == 0 && outcome.answer[5] == type && memcmp(outcome.fields, write.fields, 128) == 0,
+    hold(outcome.answer[0] == 0 && outcome.answer[5] == kind && memcmp(outcome.fields, write.fields, 128) == 0,
          "a state that is written is read");
 
     struct request label = {.call = LABEL, .table = under, .object = object};

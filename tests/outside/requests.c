@@ -36,7 +36,7 @@ static const uint32_t codes[CALLS] = {
 };
 
 unsigned long compared, passed, failed;
-static unsigned long counts[CALLS][CODES];
+static unsigned long counts[256][CALLS][CODES]; /* by X, 0 where the catalogue isn't carried or can't be read */
 
 /* What each face is lent. The guards differ, so that a look before a buffer shows. */
 static struct buffers {
@@ -217,6 +217,18 @@ static void compare_face(const struct face *face, const struct request *request,
         fail(request, "standing");
 }
 
+/* X of the catalogue under which a request is looked at, 0 where there is none. */
+static uint8_t catalogue_of(const struct request *request)
+{
+    const uint8_t named[] = {request->x, request->y}, *at = named;
+    if (request->call != CHECK_ELEMENT) {
+        if (request->table->len < TABLE_COUNT)
+            return 0;
+        at = request->table->bytes + CATALOGUE;
+    }
+    return kinds_under(at[0], at[1]) == NULL ? 0 : at[0];
+}
+
 struct outcome compare(const struct request *request)
 {
     unsigned long before = failed;
@@ -224,7 +236,7 @@ struct outcome compare(const struct request *request)
     compared++;
     uint32_t code = expected.answer[0];
     if (code < CODES)
-        counts[request->call][code]++;
+        counts[catalogue_of(request)][request->call][code]++;
     compare_face(&library, request, &expected);
     compare_face(&handmade, request, &expected);
     if (failed == before)
@@ -232,28 +244,46 @@ struct outcome compare(const struct request *request)
     return expected;
 }
 
-void print_counts(bool all_reached)
+/* The codes that a call can give under a catalogue, or under none. */
+static uint32_t codes_under(int x, int call)
 {
-    printf("%-13s %8s", "requests", "all");
+    return codes[call] & (x == 0 ? CODE(1) | CODE(2) | CODE(3) : ~CODE(3));
+}
+
+static void print_catalogue(int x)
+{
+    char name[16] = "no catalogue";
+    if (x != 0)
+        snprintf(name, sizeof name, "under %d.0", x);
+    printf("%-13s %8s", name, "all");
     for (int code = 0; code < CODES; code++)
         printf(" %6d", code);
     printf("\n");
     for (int call = 0; call < CALLS; call++) {
         unsigned long all = 0;
         for (int code = 0; code < CODES; code++)
-            all += counts[call][code];
+            all += counts[x][call][code];
         printf("%-13s %8lu", call_names[call], all);
         for (int code = 0; code < CODES; code++)
-            if (codes[call] & CODE(code))
-                printf(" %6lu", counts[call][code]);
+            if (codes_under(x, call) & CODE(code))
+                printf(" %6lu", counts[x][call][code]);
             else
-                printf(" %6s", counts[call][code] == 0 ? "" : "?");
+                printf(" %6s", counts[x][call][code] == 0 ? "" : "?");
         printf("\n");
     }
-    for (int call = 0; call < CALLS; call++)
-        for (int code = 0; code < CODES && all_reached; code++)
-            if ((codes[call] & CODE(code)) != 0 && counts[call][code] == 0) {
-                printf("not reached: %s, code %d\n", call_names[call], code);
-                failed++;
-            }
+}
+
+void print_counts(bool all_reached)
+{
+    for (int x = 0; x < 256; x++) {
+        if (x != 0 && catalogues[x] == NULL)
+            continue;
+        print_catalogue(x);
+        for (int call = 0; call < CALLS && all_reached; call++)
+            for (int code = x == 0 ? 3 : 0; code < CODES; code++)
+                if ((codes_under(x, call) & CODE(code)) != 0 && counts[x][call][code] == 0) {
+                    printf("not reached: %s, code %d\n", call_names[call], code);
+                    failed++;
+                }
+    }
 }

@@ -54,7 +54,8 @@ struct outcome compare(const struct request *request);
 /* One law: counted as passed or failed. */
 void hold(bool law, const char *name);
 
-/* How many requests there were by call and code; a code that a call can give and none reached is counted as failed. */
+/* How many requests there were by catalogue, call and code; a code that a call can give under a catalogue and that none
+   reached is counted as failed. */
 void print_counts(bool all_reached);
 
 #endif
