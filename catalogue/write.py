@@ -450,7 +450,7 @@ use Rattle.rows.specs.Fields.{bitNo}
 
 
 def states_laws():
-    text = '''-- Of each type: the values of a state that is made of values are the listed ones, and a state's own values make it again.
+    text = '''-- Of each layout: the values of a state that is made of values are the listed ones, and a state's own values make it again.
 -- Written by catalogue/write.py. Assumes nothing.
 use mathlib.Core.Path.{_≡_}
 use mathlib.Core.List.{List, [], _∷_}
@@ -666,7 +666,7 @@ pub fn values_of(element: Element) -> [u32; 24]
 
 def kinds_specs():
     kinds = ' ∷ '.join(f'Kind.{s}' for s in STRUCTS)
-    text = '''-- An element state is one of the types, each with its own struct: the kinds, the layout of each, and the state of any kind from
+    text = '''-- An element state is one of the layouts, each with its own struct: the kinds, the layout of each, and the state of any kind from
 -- its fields' values.
 -- Written by catalogue/write.py.
 use mathlib.Core.Bool.{cond}

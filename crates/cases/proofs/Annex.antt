@@ -218,7 +218,7 @@ pub boundary-movement : map boundaryMovementOf (0 ∷ 1 ∷ 2 ∷ 3 ∷ 4 ∷ 5 
     []
 boundary-movement = refl
 
--- ---- catalogue 3.0, TIPO 1: SEÑAL LUMINOSA (SIG); the other cases of types 1 to 7 are printed there as in annex 1
+-- ---- catalogue 3.0, TIPO 1: SEÑAL LUMINOSA (SIG); the other named cases of its types are those of annex 1
 
 -- SIG_FAI (Formación Automática de Itinerarios, FAI)
 pub auto-route : map autoRouteOf (0 ∷ 1 ∷ 2 ∷ 3 ∷ []) ≡

@@ -5,12 +5,13 @@
 use mathlib.Core.Path.{_≡_, refl, ap}
 use mathlib.Core.Bool.{Bool, true, false, cond, not, _||_}
 use mathlib.Core.List.{List, [], _∷_, map}
-use Prim.Native.Nat.{ℕ}
-use lib.Dec.{T, eqb}
+use Prim.Native.Nat.{ℕ, _+_, _-_}
+use lib.Dec.{T, eqb, eqb→eq}
+use lib.ListN.{length}
 use borrow.Author.Tests.{eq-eqb}
-use Rattle.rows.specs.Table.{table, layouts}
+use Rattle.rows.specs.Table.{Row, table, layouts, rowTotal}
 use Rattle.states.proofs.Annex.{signalIn, signal-bits, changerSignalIn, changer-signal-bits, virtualBoardIn, virtual-board-bits, lineTrackCircuitIn, line-track-circuit-bits, pointsTrackCircuitIn, points-track-circuit-bits, crossingTrackCircuitIn, crossing-track-circuit-bits, dualDetectionIn, dual-detection-bits, pointsIn, points-bits, electricLockIn, electric-lock-bits, generalNoticesIn, general-notices-bits, controlBoundaryIn, control-boundary-bits, signalV3In, signal-v3-bits}
-use Rattle.kinds.specs.Kinds.{Line, sortIn, kindIn}
+use Rattle.kinds.specs.Kinds.{Line, sortIn, kindIn, kinds, layoutNo, rowsOf}
 use Rattle.kinds.specs.declared.Kind.{Kind}
 use Rattle.kinds.specs.declared.Element.{Element}
 use Rattle.kinds.specs.declared.Sort.{Sort}
@@ -88,6 +89,35 @@ by-type w = (
   (refl, ap Element.SignalV3 (signal-v3-bits w)),
 )
 
+-- ---- what is reserved
+
+-- the reserved rows among rows, each by its lowest bit, which 10 names, and its highest
+abbrev reservedIn : List Row → List (ℕ × ℕ)
+reservedIn [] = []
+reservedIn (r ∷ rs) = cond (eqb (r .top) 0) ((r .low, (r .low + r .width) - 1) ∷ reservedIn rs) (reservedIn rs)
+
+pub reserved-rows : map (λ (k : Kind). reservedIn (rowsOf k)) kinds ≡
+    ((31, 31) ∷ []) ∷  -- SIG: 31 (reserva)
+    ((3, 7) ∷ []) ∷  -- IC: 3..7 (reserva)
+    ((4, 7) ∷ []) ∷  -- PV: 4..7 (reserva)
+    ((14, 15) ∷ []) ∷  -- CV: 14..15 (reserva)
+    ((2, 2) ∷ (6, 7) ∷ (14, 15) ∷ []) ∷  -- CVA: 2 (reserva), 6..7 (reserva), 14..15 (reserva)
+    ((15, 15) ∷ []) ∷  -- CVX: 15 (reserva)
+    ((6, 7) ∷ []) ∷  -- SDT: 6..7 (reserva)
+    ((19, 23) ∷ []) ∷  -- AG: 19..23 (reserva)
+    ((4, 7) ∷ []) ∷  -- BOU: 4..7 (reserva)
+    ((9, 15) ∷ []) ∷  -- AVG: 9..15 (reserva)
+    ((12, 15) ∷ []) ∷  -- FRA: 12..15 (reserva)
+    [] ∷  -- SIG of catalogue 3.0: none
+    []
+unfolding table layouts
+reserved-rows = refl
+
+-- "107 rows", and 24 of 3.0's signal; four numbers each
+pub rows-counted : (rowTotal ≡ 131) × (length table ≡ 524)
+unfolding table
+rows-counted = (refl, refl)
+
 -- ---- a type that two catalogues carry
 
 -- the same truth value
@@ -111,3 +141,8 @@ unfolding layouts
 one-kind x y type cx cy =
     let other = every-carried (λ (x : ℕ) (type : ℕ) (k : Kind). allTypes (alikeUnder x type k) catalogues) tt x type cx in
     agreed _ _ (same-type type _ (every-carried (alikeUnder x type (kindOf x type)) other y type cy))
+
+-- a kind's number is the type's, but that of type 1 under catalogue 3.0, which is 31: what C sees
+pub kind-number : (x type : ℕ) → carried x type ≡ true → layoutNo (kindOf x type) ≡ cond (eqb x 3) (cond (eqb type 1) 31 type) type
+unfolding layouts
+kind-number x type c = eqb→eq _ _ (every-carried (λ (x : ℕ) (type : ℕ) (k : Kind). eqb (layoutNo k) (cond (eqb x 3) (cond (eqb type 1) 31 type) type)) tt x type c)

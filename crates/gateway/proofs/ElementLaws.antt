@@ -2,8 +2,8 @@
 -- Assumes nothing.
 use Prim.Native.Nat.{ℕ, _<_}
 use native.Mathlib.Omega.{arith}
-use mathlib.Core.Path.{_≡_, refl, sym, _∙_}
-use mathlib.Core.Bool.{Bool, false, false≢true}
+use mathlib.Core.Path.{_≡_, sym, _∙_}
+use mathlib.Core.Bool.{false, false≢true}
 use mathlib.Core.List.{List}
 use mathlib.Core.Logic.{_↔_}
 use lib.Dec.{eqb}
@@ -14,10 +14,10 @@ use Rattle.elements.specs.Elements.{carried, kindOf}
 use Rattle.history.specs.Verdict.{Verdict, done, refusal, _unless_⨾_}
 use Rattle.history.specs.Table.{catalogueGood}
 use Rattle.history.specs.Image.{element, _of_⨾_}
-use Rattle.history.proofs.VerdictLaws.{past, stopped}
+use Rattle.history.proofs.VerdictLaws.{refuted, past, stopped}
 use Rattle.history.proofs.ElementLaws.{refuses-as}
 use Rattle.history.proofs.NameLaws.{Named, accepts, refuses, named-unless, named-of}
-use Rattle.history.proofs.CatalogueLaws.{OneOrThree, refuted, one-or-three, catalogue-carried, element-codes}
+use Rattle.history.proofs.CatalogueLaws.{CarriedCatalogue, catalogue-is, catalogue-carried, element-codes}
 use Rattle.gateway.specs.Calls.{elementCall}
 
 module _ (x y type : ℕ) (b : List ℕ) where
@@ -36,14 +36,14 @@ module _ (x y type : ℕ) (b : List ℕ) where
   above-three : Named (λ code object bit. 3 < code) (refusal 5 unless carried x type ⨾ typed)
   above-three = named-unless (carried x type) _ _ (λ f. refuses (omega arith)) λ t. record { names = λ e. omega (arith, above-five .names e) }
 
-  pub element-catalogue : (elementCall x y type b ≡ refusal 3) ↔ (OneOrThree x y → ⊥)
+  pub element-catalogue : (elementCall x y type b ≡ refusal 3) ↔ (CarriedCatalogue x y → ⊥)
   unfolding elementCall
   element-catalogue = (
     (λ r c. false≢true (sym (stopped (catalogueGood x y) 3 65535 255 _ (λ q. omega (arith, above-three .names q)) r) ∙ catalogue-carried x y c)),
-    (λ n. rw (refuted (catalogueGood x y) (λ q. n (one-or-three x y q)))),
+    (λ n. rw (refuted (catalogueGood x y) (λ q. n (catalogue-is x y q)))),
   )
 
-  pub element-type : OneOrThree x y → (elementCall x y type b ≡ refusal 5) ↔ (carried x type ≡ false)
+  pub element-type : CarriedCatalogue x y → (elementCall x y type b ≡ refusal 5) ↔ (carried x type ≡ false)
   unfolding elementCall
   element-type c = (
     (λ r. stopped (carried x type) 5 65535 255 _ (λ q. omega (arith, above-five .names q)) (past (catalogueGood x y) 3 65535 255 _ (λ z. omega arith) r .1)),

@@ -2,7 +2,7 @@
 -- a state is not of its object's kind, and of a state that was read from an object of the same type, exactly where it is a type 1 state
 -- of another catalogue.
 -- Assumes nothing.
-use Prim.Native.Nat.{ℕ, zero, suc, _<_, _≤_}
+use Prim.Native.Nat.{ℕ, zero, suc, _+_, _<_, _≤_}
 use native.Mathlib.Omega.{arith}
 use mathlib.Core.Path.{_≡_, refl, sym, ap, _∙_}
 use mathlib.Core.Bool.{Bool, true, false, false≢true, not, _||_}
@@ -12,7 +12,7 @@ use lib.ListN.{length, getD, take, drop, length-map}
 use lib.Dec.{eqb, leb, ltb}
 use borrow.Author.Tests.{lt-ltb, eqb-true, eq-eqb, ne-eqb}
 use Rattle.octets.specs.Octets.{number}
-use Rattle.kinds.specs.Kinds.{kindIn}
+use Rattle.kinds.specs.Kinds.{kindIn, widthOf}
 use Rattle.kinds.specs.declared.Kind.{Kind}
 use Rattle.kinds.specs.declared.Element.{Element}
 use Rattle.elements.specs.Elements.{carried, kindOf, sameKind, wordOf}
@@ -21,36 +21,28 @@ use Rattle.elements.proofs.Annex.{one-kind}
 use Rattle.history.specs.Verdict.{Verdict, refused, done, then, refusal, _unless_⨾_}
 use Rattle.history.specs.Form.{Form, readForm}
 use Rattle.history.specs.Table.{Object, Table, object, versionGood, catalogueGood, readObjects, readTable, Plan, planOf, kindAt, sameCatalogue}
-use Rattle.history.specs.Image.{Image, imageVersionGood, element, _of_⨾_, readImage}
-use Rattle.history.specs.Changes.{listVersion, readList}
+use Rattle.history.specs.Image.{Image, imageVersionGood, element, _of_⨾_, widths, readWords, readImage}
+use Rattle.history.specs.Changes.{Changes, Entry, entryAt, checkChange, checkEntry, readEntries, listVersion, readList}
 use Rattle.history.specs.Calls.{readPlan, tableCall, imageCall, listCall, readStateCall, checkState, writeStateUnder, writeStateCall}
-use Rattle.history.proofs.VerdictLaws.{left, right, past, stopped, passed-up}
+use Rattle.history.proofs.VerdictLaws.{left, right, either, refuted, past, stopped, passed-up}
 use Rattle.history.proofs.TableLaws.{table-is}
 use Rattle.history.proofs.ElementLaws.{same-kind, is-same-kind, refuses-as}
 use Rattle.history.proofs.ImageLaws.{same-catalogue}
 use Rattle.history.proofs.NameLaws.{objects, oneOf, Named, accepts, refuses, named-unless, named-of, named-then, objects-named, read-object}
 
-pub refuted : (b : Bool) → (b ≡ true → ⊥) → b ≡ false
-refuted true n = absurd (n refl)
-refuted false n = refl
-
 -- ---- 3
 
 -- 1.0 or 3.0
-abbrev pub OneOrThree : ℕ → ℕ → Type 0
-OneOrThree x y = ((x ≡ 1) ⊎ (x ≡ 3)) × (y ≡ 0)
+abbrev pub CarriedCatalogue : ℕ → ℕ → Type 0
+CarriedCatalogue x y = ((x ≡ 1) ⊎ (x ≡ 3)) × (y ≡ 0)
 
-pub catalogue-carried : (x y : ℕ) → OneOrThree x y → catalogueGood x y ≡ true
+pub catalogue-carried : (x y : ℕ) → CarriedCatalogue x y → catalogueGood x y ≡ true
 unfolding catalogueGood
 catalogue-carried x y c = rw (c .1) (⊎-elim (λ q. rw q refl) (λ q. rw q refl) (c .0))
 
-either : (a b : Bool) → (a || b) ≡ true → (a ≡ true) ⊎ (b ≡ true)
-either true b e = inl refl
-either false b e = inr e
-
-pub one-or-three : (x y : ℕ) → catalogueGood x y ≡ true → OneOrThree x y
+pub catalogue-is : (x y : ℕ) → catalogueGood x y ≡ true → CarriedCatalogue x y
 unfolding catalogueGood
-one-or-three x y e = (
+catalogue-is x y e = (
   ⊎-elim (λ q. inl (eqb-true x 1 q)) (λ q. inr (eqb-true x 3 q)) (either (eqb x 1) (eqb x 3) (left (eqb x 1 || eqb x 3) (eqb y 0) e)),
   eqb-true y 0 (right (eqb x 1 || eqb x 3) (eqb y 0) e),
 )
@@ -64,34 +56,82 @@ not-three f g =
     (objects-named (number (take 2 (f .contents))) (λ code i h l c. false≢true (sym (ap (oneOf objects) c) ∙ h)) (λ c. omega arith) (f .version) (f .x) [] (number (take 2 (f .contents))) (drop 2 (f .contents)) (omega arith))
     λ os q. accepts
 
-pub catalogue-exactly : (T : List ℕ) {f : Form} → readForm 5 versionGood T ≡ done f → (tableCall T ≡ refusal 3) ↔ (OneOrThree (f .x) (f .y) → ⊥)
+pub catalogue-exactly : (T : List ℕ) {f : Form} → readForm 5 versionGood T ≡ done f → (tableCall T ≡ refusal 3) ↔ (CarriedCatalogue (f .x) (f .y) → ⊥)
 unfolding tableCall readTable
 catalogue-exactly T {f} e = (
   (λ r c. false≢true (sym (stopped (catalogueGood (f .x) (f .y)) 3 65535 255 _ (λ q. not-three f _ .names q refl) (rw e at r)) ∙ catalogue-carried (f .x) (f .y) c)),
-  (λ n. rw (e, refuted (catalogueGood (f .x) (f .y)) (λ q. n (one-or-three (f .x) (f .y) q)))),
+  (λ n. rw (e, refuted (catalogueGood (f .x) (f .y)) (λ q. n (catalogue-is (f .x) (f .y) q)))),
 )
 
 -- ---- 9
-
-other-form : (f : Form) (p : Plan) → ((f .x ≡ p .x) × (f .y ≡ p .y) → ⊥) → sameCatalogue f p ≡ false
-other-form f p n = refuted (sameCatalogue f p) (λ q. n (same-catalogue f p q))
-
-module _ (T : List ℕ) {p : Plan} (t : readPlan T ≡ done p) {f : Form} (n : (f .x ≡ p .x) × (f .y ≡ p .y) → ⊥) where
-  pub other-image : (A : List ℕ) → readForm 7 imageVersionGood A ≡ done f → imageCall T A ≡ refusal 9
-  unfolding imageCall readImage
-  other-image A e = rw (t, e, other-form f p n)
-
-  pub other-list : (L : List ℕ) → readForm 13 (eqb listVersion) L ≡ done f → listCall T L ≡ refusal 9
-  unfolding listCall readList
-  other-list L e = rw (t, e, other-form f p n)
-
--- ---- 22
 
 -- an element's own codes
 pub element-codes : {k : Kind} {code bit : ℕ} → Refuses k code bit → (10 ≤ code) × (code ≤ 12)
 element-codes (reserved r h) = omega arith
 element-codes (unlisted r h) = omega arith
 element-codes (silent h) = omega arith
+
+abbrev Not9 : ℕ → ℕ → ℕ → Type 0
+Not9 code object bit = code ≡ 9 → ⊥
+
+element-not-9 : {A : Type 0} (k : Kind) (w i : ℕ) (r : Verdict A) → Named Not9 r → Named Not9 (element k w of i ⨾ r)
+element-not-9 k w i r = named-of (element k w) i r (λ x q c. omega (arith, element-codes (refuses-as k w q)))
+
+words-not-9 : (i : ℕ) (ks : List Kind) (b : List ℕ) → Named Not9 (readWords i ks b)
+words-not-9 i [] b = accepts
+words-not-9 i (k ∷ ks) b = element-not-9 k (number (take (widthOf k) b)) i _ (named-then (readWords (suc i) ks (drop (widthOf k) b)) _ (words-not-9 (suc i) ks (drop (widthOf k) b)) λ ws q. accepts)
+
+entry-not-9 : (ks : List Kind) (low : ℕ) (b : List ℕ) (e : Entry) → Named Not9 (checkEntry ks low b e)
+unfolding checkEntry checkChange
+entry-not-9 ks low b e =
+    named-unless (leb 2 (length b)) _ _ (λ f. refuses (λ c. omega arith)) λ t.
+    named-unless (ltb (e .object) (length ks)) _ _ (λ f. refuses (λ c. omega arith)) λ t.
+    named-unless (leb low (e .object)) _ _ (λ f. refuses (λ c. omega arith)) λ t.
+    named-unless (leb (2 + (widthOf (e .kind) + widthOf (e .kind))) (length b)) _ _ (λ f. refuses (λ c. omega arith)) λ t.
+    element-not-9 (e .kind) (e .old) (e .object) _ (element-not-9 (e .kind) (e .new) (e .object) _
+    (named-unless (not (eqb (e .old) (e .new))) _ _ (λ f. refuses (λ c. omega arith)) λ t. accepts))
+
+entries-not-9 : (ks : List Kind) (low n : ℕ) (b : List ℕ) → Named Not9 (readEntries ks low n b)
+entries-not-9 ks low zero b = named-unless (eqb (length b) 0) _ _ (λ f. refuses (λ c. omega arith)) λ t. accepts
+entries-not-9 ks low (suc n) b =
+    named-then (checkEntry ks low b (entryAt ks b)) _ (entry-not-9 ks low b (entryAt ks b)) λ e q.
+    named-then (readEntries ks (suc (e .object)) n (e .rest)) _ (entries-not-9 ks (suc (e .object)) n (e .rest)) λ cs q. accepts
+
+-- the catalogues are the same
+abbrev pub OfTable : Form → Plan → Type 0
+OfTable f p = (f .x ≡ p .x) × (f .y ≡ p .y)
+
+same-form : (f : Form) (p : Plan) → OfTable f p → sameCatalogue f p ≡ true
+same-form f p c = rw (eq-eqb (f .x) (p .x) (c .0), eq-eqb (f .y) (p .y) (c .1))
+
+other-form : (f : Form) (p : Plan) → (OfTable f p → ⊥) → sameCatalogue f p ≡ false
+other-form f p n = refuted (sameCatalogue f p) (λ q. n (same-catalogue f p q))
+
+module _ (T : List ℕ) {p : Plan} (t : readPlan T ≡ done p) {f : Form} where
+  pub other-image : (A : List ℕ) → readForm 7 imageVersionGood A ≡ done f → (imageCall T A ≡ refusal 9) ↔ (OfTable f p → ⊥)
+  unfolding imageCall readImage
+  other-image A e = (
+    (λ r c. false≢true (sym (stopped (sameCatalogue f p) 9 65535 255 _ (λ q. rest .names q refl) (rw (t, e) at r)) ∙ same-form f p c)),
+    (λ n. rw (t, e, other-form f p n)),
+  )
+    where
+      rest : Named Not9 {A = Image} (refusal 8 unless eqb (length (f .contents)) (4 + widths (p .kinds)) ⨾ then (readWords 0 (p .kinds) (drop 4 (f .contents))) λ ws. done (record { version = f .version; position = number (take 4 (f .contents)); words = ws }))
+      rest = named-unless (eqb (length (f .contents)) (4 + widths (p .kinds))) _ _ (λ f. refuses (λ c. omega arith)) λ t. named-then (readWords 0 (p .kinds) (drop 4 (f .contents))) _ (words-not-9 0 (p .kinds) (drop 4 (f .contents))) λ ws q. accepts
+
+  pub other-list : (L : List ℕ) → readForm 13 (eqb listVersion) L ≡ done f → (listCall T L ≡ refusal 9) ↔ (OfTable f p → ⊥)
+  unfolding listCall readList
+  other-list L e = (
+    (λ r c. false≢true (sym (stopped (sameCatalogue f p) 9 65535 255 _ (λ q. rest .names q refl) (rw (t, e) at r)) ∙ same-form f p c)),
+    (λ n. rw (t, e, other-form f p n)),
+  )
+    where
+      n : ℕ
+      n = number (take 2 (drop 8 (f .contents)))
+
+      rest : Named Not9 {A = Changes} (then (readEntries (p .kinds) 0 n (drop 10 (f .contents))) λ cs. done (record { from = number (take 4 (f .contents)); to = number (take 4 (drop 4 (f .contents))); each = cs }))
+      rest = named-then (readEntries (p .kinds) 0 n (drop 10 (f .contents))) _ (entries-not-9 (p .kinds) 0 n (drop 10 (f .contents))) λ cs q. accepts
+
+-- ---- 22
 
 module _ (T A : List ℕ) {p : Plan} {a : Image} (t : readPlan T ≡ done p) (ea : imageCall T A ≡ done a) (i : ℕ) (e : Element) (position : ℕ) where
   not-22 : Named (λ code object bit. code ≡ 22 → ⊥) (element (kindAt (p .kinds) i) (wordOf e) of i ⨾ done (wordOf e))
@@ -142,16 +182,28 @@ placed T {t} e = record {
   type = λ i l. table-is T e .legal .each i l .type;
 }
 
--- a state that is read from an object is refused with 22 by one of the same type exactly where the type is 1 and the catalogues differ
+-- a state that is read is of the kind that its object's type has under the table's X
+pub read-by-type : (T A : List ℕ) (i : ℕ) {t : Table} {e : Element} → tableCall T ≡ done t → readStateCall T A i ≡ done e
+    → (i < length (t .objects)) × (kindIn e ≡ kindOf (t .x) (object t i .type))
+read-by-type T A i {t} rt re =
+    let s = placed T rt in
+    let r = read-object T A re in
+    let inside : i < length (t .objects) = omega (arith, rw (s .reads) at (r .1), s .count) in
+    (inside, (rw (s .reads) at (r .2)) ∙ s .kind i inside)
+
+-- a state of the object's type under any X, handed in: 22 exactly where the type is 1 and the X is not the table's; with data or without
+pub handed-across : (U B : List ℕ) (x j : ℕ) (e : Element) (position : ℕ) {u : Table} {b : Image} → tableCall U ≡ done u → imageCall U B ≡ done b → j < length (u .objects)
+    → carried x (object u j .type) ≡ true → kindIn e ≡ kindOf x (object u j .type)
+    → (writeStateCall U B j e position ≡ refused 22 j 255) ↔ ((object u j .type ≡ 1) × (x ≡ u .x → ⊥))
+handed-across U B x j e position {u} ru rb l held mine =
+    let w = placed U ru in
+    let exactly = kind-exactly U B (w .reads) rb j e position (omega (arith, w .count)) in
+    Iff·trans (rw (mine, w .kind j l) at exactly) (kinds-differ x (u .x) (object u j .type) held (w .type j l))
+
+-- .. so of a state that is read from an object of the same type under any table
 pub across-catalogues : (T A U B : List ℕ) (i j position : ℕ) {t u : Table} {b : Image} {e : Element}
     → tableCall T ≡ done t → readStateCall T A i ≡ done e → tableCall U ≡ done u → imageCall U B ≡ done b → j < length (u .objects) → object t i .type ≡ object u j .type
     → (writeStateCall U B j e position ≡ refused 22 j 255) ↔ ((object u j .type ≡ 1) × (t .x ≡ u .x → ⊥))
-across-catalogues T A U B i j position {t} {u} {b} {e} rt re ru rb l same =
-    let s = placed T rt in
-    let w = placed U ru in
-    let r = read-object T A re in
-    let inside : i < length (t .objects) = omega (arith, rw (s .reads) at (r .1), s .count) in
-    let mine : kindIn e ≡ kindOf (t .x) (object u j .type) = (rw (s .reads) at (r .2)) ∙ s .kind i inside ∙ ap (kindOf (t .x)) same in
-    let held : carried (t .x) (object u j .type) ≡ true = sym (ap (carried (t .x)) same) ∙ s .type i inside in
-    let exactly = kind-exactly U B (w .reads) rb j e position (omega (arith, w .count)) in
-    Iff·trans (rw (mine, w .kind j l) at exactly) (kinds-differ (t .x) (u .x) (object u j .type) held (w .type j l))
+across-catalogues T A U B i j position {t} {u} {e = e} rt re ru rb l same =
+    let r = read-by-type T A i rt re in
+    handed-across U B (t .x) j e position ru rb l (sym (ap (carried (t .x)) same) ∙ placed T rt .type i (r .0)) (r .1 ∙ ap (kindOf (t .x)) same)

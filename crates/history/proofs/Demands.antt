@@ -22,7 +22,7 @@ use Rattle.history.specs.Legal.{LegalTable, LegalImage, LegalList}
 use Rattle.history.proofs.VerdictLaws.{Lowest, passed-up}
 use Rattle.history.proofs.OperationLaws.{one-version, keeps-version, late-exactly as late, gap-exactly as gap, apart-exactly as apart, names-old, names-meeting}
 use Rattle.history.proofs.TableLaws.{table-form, plan-fair}
-use Rattle.history.proofs.EntryLaws.{FirstOther, FirstRepeat, table-others, table-repeats}
+use Rattle.history.proofs.EntryLaws.{FirstNotCarried, FirstRepeat, table-others, table-repeats}
 use Rattle.history.proofs.ImageLaws.{image-form}
 use Rattle.history.proofs.ListLaws.{list-form}
 use Rattle.history.proofs.CallLaws.{accepted-image, accepted-list, turn-is, image-accepted, list-accepted, difference-is, difference-list, difference-applies, only-difference-applies, differences-join, difference-turned, joined-list, turned-list, applied-image}
@@ -37,7 +37,7 @@ unfolding tableCall
 table-exactly T h t = table-form T h t
 
 -- 5 exactly where the objects before are those of a legal table and the next is of a type that its catalogue doesn't carry; the next is named
-pub type-exactly : (T : List ℕ) → Bytes T → (k bit : ℕ) → (tableCall T ≡ refused 5 k bit) ↔ (FirstOther T k × (bit ≡ 255))
+pub type-exactly : (T : List ℕ) → Bytes T → (k bit : ℕ) → (tableCall T ≡ refused 5 k bit) ↔ (FirstNotCarried T k × (bit ≡ 255))
 unfolding tableCall
 type-exactly T h k bit = table-others T h k bit
 
@@ -201,7 +201,7 @@ names-lowest-meeting T L M {l} {m} el em e = names-meeting l m (join-refused T L
 
 -- ---- demand 2, on images
 
--- a state of the object's type is written unless DAT is 0 and another bit 1 ..
+-- a state of the object's kind is written unless DAT is 0 and another bit 1 ..
 pub current-written : (T A : List ℕ) (i : ℕ) (e : Element) (position : ℕ) {p : Plan} {a : Image} → Bytes A → readPlan T ≡ done p → imageCall T A ≡ done a
     → i < length (p .kinds) → kindIn e ≡ kindAt (p .kinds) i → (Stale (kindIn e) (wordOf e) → ⊥)
     → writeStateCall T A i e position ≡ done (imageBytes p (placed a i (wordOf e) position))

@@ -154,22 +154,22 @@ module _ (code : ℕ) (GoesOn : Table → List ℕ → Type 0) (late : 4 < code)
 -- ---- 5
 
 -- the two first bytes of an entry are there, and its type is not carried under the table's X
-pub record Other (t : Table) (rest : List ℕ) : Type 0 where
+pub record NotCarried (t : Table) (rest : List ℕ) : Type 0 where
   pub two : 2 ≤ length rest
   pub type : carried (t .x) (getD rest 0 0) ≡ false
 
-other-exactly : RefusedWith 5 Other
+other-exactly : RefusedWith 5 NotCarried
 other-exactly t legal rest k bit =
     let e = object-other (t .version) (t .x) (t .objects) rest k bit in
     ((λ q. let w = e .0 q in (record { two = w .0; type = w .1 }, w .2, w .3)), (λ w. e .1 (w .0 .two, w .0 .type, w .1, w .2)))
 
 -- a table that begins with the objects of a legal one, and goes on with an entry of a type that its catalogue doesn't carry, whatever follows
-abbrev pub FirstOther : List ℕ → ℕ → Type 0
-FirstOther = FirstAt Other
+abbrev pub FirstNotCarried : List ℕ → ℕ → Type 0
+FirstNotCarried = FirstAt NotCarried
 
 -- 5 exactly where a table begins in this way
-pub table-others : (b : List ℕ) → Bytes b → (k bit : ℕ) → (readTable b ≡ refused 5 k bit) ↔ (FirstOther b k × (bit ≡ 255))
-table-others = first-exactly 5 Other (omega arith) (omega arith) other-exactly
+pub table-others : (b : List ℕ) → Bytes b → (k bit : ℕ) → (readTable b ≡ refused 5 k bit) ↔ (FirstNotCarried b k × (bit ≡ 255))
+table-others = first-exactly 5 NotCarried (omega arith) (omega arith) other-exactly
 
 -- ---- 7
 

@@ -4,7 +4,7 @@ use Prim.Native.Nat.{ℕ, zero, suc, _+_, _-_, _≤_, _<_}
 use native.Mathlib.Omega.{arith}
 use mathlib.Core.Path.{_≡_, refl, sym, ap, _∙_}
 use mathlib.Core.Bool.{Bool, true, false, cond, not, _&&_, _||_}
-use mathlib.Core.List.{List, [], _∷_, _++_, map}
+use mathlib.Core.List.{List, [], _∷_, _++_}
 use mathlib.Core.Logic.{_⊎_, inl, inr}
 use lib.Dec.{eqb, leb, ltb}
 use lib.ListN.{length, take, drop, getD, replicate, length-append, length-drop, length-map, length-replicate}
@@ -15,7 +15,7 @@ use Rattle.rows.specs.declared.Refusal.{Refusal}
 use Rattle.kinds.specs.Kinds.{widthOf, kindIn}
 use Rattle.kinds.specs.declared.Kind.{Kind}
 use Rattle.kinds.specs.declared.Element.{Element}
-use Rattle.elements.specs.Elements.{carried, kindOf, sameKind, wordOf}
+use Rattle.elements.specs.Elements.{carried, sameKind, wordOf}
 use Rattle.elements.proofs.Findings.{Refuses}
 use Rattle.elements.proofs.Laws.{state-kind}
 use Rattle.octets.specs.Octets.{number}
@@ -310,8 +310,8 @@ unfolding readPlan planOf
 plan-count T {p} e =
     let q = used (readTable T) _ e in
     let t = q .0 in
-    let kinds-are : p .kinds ≡ map (λ (o : Object). kindOf (t .x) (o .type)) (t .objects) = cc (q .2) in
-    ap length kinds-are ∙ length-map (t .objects) (λ (o : Object). kindOf (t .x) (o .type)) ∙ table-is T (q .1) .count
+    let p-is : p ≡ planOf t = cc (q .2) in
+    ap (λ (p : Plan). length (p .kinds)) p-is ∙ length-map (t .objects) _ ∙ table-is T (q .1) .count
 
 module _ (T : List ℕ) {given : ℕ → Type 0} where
   plan-named : Named (NamesIn T given) (readPlan T)

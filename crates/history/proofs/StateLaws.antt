@@ -132,7 +132,7 @@ module _ (T : List ℕ) {p : Plan} (t : readPlan T ≡ done p) where
   unfolding writeStateCall writeStateUnder
   write-is a i e position l s h = rw (t, a .reads, state-checked (p .kinds) i e l s, is-accepted (element (kindAt (p .kinds) i) (wordOf e)) i (done (wordOf e)) h)
 
-  -- a state of the object's type is written, unless DAT is 0 and another bit 1: then it is refused with 12
+  -- a state of the object's kind is written, unless DAT is 0 and another bit 1: then it is refused with 12
   pub write-current : {A : List ℕ} (a : AcceptedImage p A) (i : ℕ) (e : Element) (position : ℕ) → i < length (p .kinds) → kindIn e ≡ kindAt (p .kinds) i → (Stale (kindIn e) (wordOf e) → ⊥)
       → writeStateCall T A i e position ≡ done (imageBytes p (placed (a .image) i (wordOf e) position))
   write-current a i e position l s n = write-is a i e position l s (ap isAccepted (state-current (kindAt (p .kinds) i) e s n))

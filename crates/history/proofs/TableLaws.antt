@@ -5,7 +5,7 @@ use native.Mathlib.Omega.{arith}
 use native.Mathlib.Nat.{add-zero, zero-add, suc-add}
 use mathlib.Core.Path.{_≡_, refl, sym, ap, ap₂, _∙_}
 use mathlib.Core.Bool.{Bool, true, false, not, _&&_, _||_, not-eq-not, or-true}
-use mathlib.Core.List.{List, [], _∷_, _++_, map, append-assoc, append-nil}
+use mathlib.Core.List.{List, [], _∷_, _++_, append-assoc, append-nil}
 use mathlib.Core.Logic.{_↔_}
 use lib.Dec.{eqb, leb}
 use lib.ListN.{length, take, drop, getD, length-append, length-drop, length-map, take-append-drop, List·getD-append}
@@ -15,7 +15,7 @@ use Rattle.octets.specs.Octets.{bytes, number, Bytes}
 use Rattle.history.specs.Verdict.{Verdict, refused, done, refusalAt, _unless_⨾_}
 use Rattle.history.specs.Form.{Form, formBytes, readForm}
 use Rattle.history.specs.Table.{Object, Table, versionGood, catalogueGood, labelLimit, labelGood, objectBytes, objectsBytes, tableBytes, sameObject, repeats, ObjectEntry, objectAt, checkObject, readObjects, readTable, Plan, planOf, object}
-use Rattle.elements.specs.Elements.{carried, kindOf}
+use Rattle.elements.specs.Elements.{carried}
 use Rattle.octets.specs.Octets.{sameBytes}
 use Rattle.history.specs.Calls.{readPlan}
 use Rattle.history.specs.Legal.{LegalObject, LegalTable}
@@ -348,5 +348,6 @@ plan-fair b {p} e =
     let q = used (readTable b) _ e in
     let t = q .0 in
     let few = table-is b (q .1) .legal .count in
-    let p-is : p ≡ record { x = t .x; y = t .y; kinds = map (λ (o : Object). kindOf (t .x) (o .type)) (t .objects) } = cc (q .2) in
-    rw p-is (record { count = omega (arith, length-map (t .objects) (λ (o : Object). kindOf (t .x) (o .type))) })
+    let p-is : p ≡ planOf t = cc (q .2) in
+    let count : length (p .kinds) ≡ length (t .objects) = ap (λ (p : Plan). length (p .kinds)) p-is ∙ length-map (t .objects) _ in
+    record { count = omega (arith, count) }

@@ -4,7 +4,7 @@ use Prim.Native.Nat.{ℕ, zero, suc, _+_, _<_}
 use native.Mathlib.Nat.{add-zero, add-suc, suc-add}
 use native.Mathlib.Omega.{arith}
 use mathlib.Core.Path.{_≡_, refl, sym, ap, _∙_}
-use mathlib.Core.Bool.{Bool, true, false, _&&_}
+use mathlib.Core.Bool.{Bool, true, false, _&&_, _||_}
 use mathlib.Core.List.{List, [], _∷_}
 use mathlib.Core.Logic.{_⊎_, inl, inr}
 use lib.ListN.{length, getD}
@@ -23,6 +23,15 @@ left false b e = e
 pub right : (a b : Bool) → (a && b) ≡ true → b ≡ true
 right true b e = e
 right false b e = absurd (let z : _≡_ {A = ℕ} 0 1 = cc in omega arith)
+
+-- one of two tests; a test that can't hold
+pub either : (a b : Bool) → (a || b) ≡ true → (a ≡ true) ⊎ (b ≡ true)
+either true b e = inl refl
+either false b e = inr e
+
+pub refuted : (b : Bool) → (b ≡ true → ⊥) → b ≡ false
+refuted true n = absurd (n refl)
+refuted false n = refl
 
 -- a verdict other than the test's refusal: the test held, and the rest gave it
 pub kept : {A : Type 0} (t : Bool) (code object bit : ℕ) (r : Verdict A) {v : Verdict A} → (refused code object bit ≡ v → ⊥) → (refused code object bit unless t ⨾ r) ≡ v → (t ≡ true) × (r ≡ v)

@@ -1,4 +1,4 @@
--- An element state is one of the types, each with its own struct: the kinds, the layout of each, and the state of any kind from
+-- An element state is one of the layouts, each with its own struct: the kinds, the layout of each, and the state of any kind from
 -- its fields' values.
 -- Written by catalogue/write.py.
 use mathlib.Core.Bool.{cond}

@@ -1,6 +1,7 @@
 -- Each layout's state by the bits of its word, as annexes 1 and 3 of NAS 831 print them: every field by its name, with its bit or bits.
 -- Kept by hand and typed from the annex, whose line stands beside each field; catalogue/write.py leaves this file as it is.
 -- `..-bits`: the state is so at every word. `..-words`: in each field wider than one bit, a word with a middle value has that named case.
+-- Annex 3 prints types 2 to 7 with the same bits and values, some under other names: CV_EST, CVA_EST, CVX_EST, CVX_DIR, CEJES.
 -- Assumes nothing.
 use mathlib.Core.Path.{_≡_, refl}
 use mathlib.Core.Bool.{Bool, false, cond}
@@ -188,7 +189,7 @@ points-track-circuit-words = (refl, refl)
 abbrev pub crossingTrackCircuitIn : ℕ → CrossingTrackCircuit
 crossingTrackCircuitIn w = record {
   current = bit w 0;  -- CVX_DAT: 1 = Con datos del elemento
-  «special_command_pending» = bit w 1;  -- CVX_ME (Mando Especial, ME): garbled in the annex; by the paper 1 is confirmation pending, as for CV
+  «special_command_pending» = bit w 1;  -- CVX_ME (Mando Especial, ME): garbled in annex 1; by the paper, and in annex 3, 1 is confirmation pending, as for CV
   «movement_blocked» = bit w 2;  -- CVX_BV (Bloqueo de movimientos): 1= Con Bloqueo "BV" establecido
   «unexpected_occupancy» = bit w 3;  -- CVX_OCUP_TIPO: 0 = Normal 1 = Intempestiva
   occupancy = legOccupancyOf (bits w 4 5);  -- CVX_OCUP_EST (Estado de CV)

@@ -1,4 +1,4 @@
--- Of each type: the values of a state that is made of values are the listed ones, and a state's own values make it again.
+-- Of each layout: the values of a state that is made of values are the listed ones, and a state's own values make it again.
 -- Written by catalogue/write.py. Assumes nothing.
 use mathlib.Core.Path.{_≡_}
 use mathlib.Core.List.{List, [], _∷_}
