@@ -167,15 +167,16 @@ kind-of-object x [] i o l = absurd (omega arith)
 kind-of-object x (p ∷ os) zero o l = refl
 kind-of-object x (p ∷ os) (suc i) o l = kind-of-object x os i o (omega arith)
 
-record Placed (T : List ℕ) (t : Table) : Type 0 where
+-- what the plan of an accepted table has of it
+record Planned (T : List ℕ) (t : Table) : Type 0 where
   reads : readPlan T ≡ done (planOf t)
   count : length (planOf t .kinds) ≡ length (t .objects)
   kind : (i : ℕ) → i < length (t .objects) → kindAt (planOf t .kinds) i ≡ kindOf (t .x) (object t i .type)
   type : (i : ℕ) → i < length (t .objects) → carried (t .x) (object t i .type) ≡ true
 
-placed : (T : List ℕ) {t : Table} → tableCall T ≡ done t → Placed T t
+planned : (T : List ℕ) {t : Table} → tableCall T ≡ done t → Planned T t
 unfolding tableCall readPlan planOf
-placed T {t} e = record {
+planned T {t} e = record {
   reads = rw e;
   count = length-map (t .objects) _;
   kind = λ i l. kind-of-object (t .x) (t .objects) i _ l;
@@ -186,7 +187,7 @@ placed T {t} e = record {
 pub read-by-type : (T A : List ℕ) (i : ℕ) {t : Table} {e : Element} → tableCall T ≡ done t → readStateCall T A i ≡ done e
     → (i < length (t .objects)) × (kindIn e ≡ kindOf (t .x) (object t i .type))
 read-by-type T A i {t} rt re =
-    let s = placed T rt in
+    let s = planned T rt in
     let r = read-object T A re in
     let inside : i < length (t .objects) = omega (arith, rw (s .reads) at (r .1), s .count) in
     (inside, (rw (s .reads) at (r .2)) ∙ s .kind i inside)
@@ -196,7 +197,7 @@ pub handed-across : (U B : List ℕ) (x j : ℕ) (e : Element) (position : ℕ) 
     → carried x (object u j .type) ≡ true → kindIn e ≡ kindOf x (object u j .type)
     → (writeStateCall U B j e position ≡ refused 22 j 255) ↔ ((object u j .type ≡ 1) × (x ≡ u .x → ⊥))
 handed-across U B x j e position {u} ru rb l held mine =
-    let w = placed U ru in
+    let w = planned U ru in
     let exactly = kind-exactly U B (w .reads) rb j e position (omega (arith, w .count)) in
     Iff·trans (rw (mine, w .kind j l) at exactly) (kinds-differ x (u .x) (object u j .type) held (w .type j l))
 
@@ -206,4 +207,4 @@ pub across-catalogues : (T A U B : List ℕ) (i j position : ℕ) {t u : Table} 
     → (writeStateCall U B j e position ≡ refused 22 j 255) ↔ ((object u j .type ≡ 1) × (t .x ≡ u .x → ⊥))
 across-catalogues T A U B i j position {t} {u} {e = e} rt re ru rb l same =
     let r = read-by-type T A i rt re in
-    handed-across U B (t .x) j e position ru rb l (sym (ap (carried (t .x)) same) ∙ placed T rt .type i (r .0)) (r .1 ∙ ap (kindOf (t .x)) same)
+    handed-across U B (t .x) j e position ru rb l (sym (ap (carried (t .x)) same) ∙ planned T rt .type i (r .0)) (r .1 ∙ ap (kindOf (t .x)) same)
