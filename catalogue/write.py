@@ -343,8 +343,9 @@ def module(struct):
 def states_source():
     text = '''// The floor of states: a struct for each layout with its named fields, its width in bytes and its state without data, and the
 // way between a state and its fields' values in the rows' order, each in a module of its own. Written by catalogue/write.py from
-// catalogue/fields.tsv. It checks nothing; the annex's mnemonic stands beside each field. All bits are read in one place, `bits_of`:
-// the check of a function costs its steps times its locals, and a field that is copied from there costs neither.
+// catalogue/fields.tsv. It checks nothing. Beside a field stands its mnemonic in the first annex that prints the layout. All bits are
+// read in one place, `bits_of`: the check of a function costs its steps times its locals, and a field that is copied from there
+// costs neither.
 '''
     text += ''.join(f'mod {module(s)};\n' for s in sorted(STRUCTS)) + '\n'
     text += ''.join(f'pub use {module(s)}::{s};\n' for s in sorted(STRUCTS))
@@ -370,7 +371,7 @@ fn bit(values: [u32; 24], place: usize) -> bool
     values[place] == 1
 }}
 
-// The bits at the places where a type has one.
+// The bits at the places where a layout has one.
 struct Bits {{
 {''.join(f"    b{k}: bool,{chr(10)}" for k in BITS)}}}
 
@@ -422,7 +423,7 @@ pub struct {l.struct} {{
 
 
 def states_specs():
-    text = '''-- Each type's state from its fields' values in the rows' order, and a state's values (a reserved row's is 0).
+    text = '''-- Each layout's state from its fields' values in the rows' order, and a state's values (a reserved row's is 0).
 -- Written by catalogue/write.py.
 use mathlib.Core.List.{List, [], _∷_}
 use Prim.Native.Nat.{ℕ}

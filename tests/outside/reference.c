@@ -1,4 +1,5 @@
-/* The paper in plain C11, written from the paper alone: what the library is compared with, in answers and in speed. */
+/* The paper in plain C11, written from the paper and annex 3 of NAS 831 alone: what the library is compared with, in answers
+   and in speed. */
 #include "reference.h"
 
 #include "paper.h"

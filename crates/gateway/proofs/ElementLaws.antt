@@ -1,13 +1,15 @@
--- Of an element by itself: 3 exactly where its catalogue is neither 1.0 nor 3.0, and else 5 exactly where its type is not carried.
+-- Of an element by itself: 3 exactly where its catalogue is not carried, else 5 exactly where its type is not carried, else 8
+-- exactly where it is not as long as its kind's; else what the element's check finds.
 -- Assumes nothing.
 use Prim.Native.Nat.{ℕ, _<_}
 use native.Mathlib.Omega.{arith}
 use mathlib.Core.Path.{_≡_, sym, _∙_}
-use mathlib.Core.Bool.{false, false≢true}
+use mathlib.Core.Bool.{true, false, false≢true}
 use mathlib.Core.List.{List}
 use mathlib.Core.Logic.{_↔_}
 use lib.Dec.{eqb}
 use lib.ListN.{length}
+use borrow.Author.Tests.{eq-eqb, ne-eqb}
 use Rattle.octets.specs.Octets.{number}
 use Rattle.kinds.specs.Kinds.{widthOf}
 use Rattle.elements.specs.Elements.{carried, kindOf}
@@ -21,17 +23,18 @@ use Rattle.history.proofs.CatalogueLaws.{CarriedCatalogue, catalogue-is, catalo
 use Rattle.gateway.specs.Calls.{elementCall}
 
 module _ (x y type : ℕ) (b : List ℕ) where
-  -- what follows 5, and what follows 3
+  -- what follows 5
   abbrev typed : Verdict ℕ
   typed =
       refusal 8 unless eqb (length b) (widthOf (kindOf x type)) ⨾
       element (kindOf x type) (number b) of 65535 ⨾
       done (number b)
 
+  above-eight : Named (λ code object bit. 8 < code) (element (kindOf x type) (number b) of 65535 ⨾ done (number b))
+  above-eight = named-of (element (kindOf x type) (number b)) 65535 _ (λ r q. omega (arith, element-codes (refuses-as (kindOf x type) (number b) q))) accepts
+
   above-five : Named (λ code object bit. 5 < code) typed
-  above-five =
-      named-unless (eqb (length b) (widthOf (kindOf x type))) _ _ (λ f. refuses (omega arith)) λ t.
-      named-of (element (kindOf x type) (number b)) 65535 _ (λ r q. omega (arith, element-codes (refuses-as (kindOf x type) (number b) q))) accepts
+  above-five = named-unless (eqb (length b) (widthOf (kindOf x type))) _ _ (λ f. refuses (omega arith)) λ t. record { names = λ e. omega (arith, above-eight .names e) }
 
   above-three : Named (λ code object bit. 3 < code) (refusal 5 unless carried x type ⨾ typed)
   above-three = named-unless (carried x type) _ _ (λ f. refuses (omega arith)) λ t. record { names = λ e. omega (arith, above-five .names e) }
@@ -49,3 +52,15 @@ module _ (x y type : ℕ) (b : List ℕ) where
     (λ r. stopped (carried x type) 5 65535 255 _ (λ q. omega (arith, above-five .names q)) (past (catalogueGood x y) 3 65535 255 _ (λ z. omega arith) r .1)),
     (λ f. rw (catalogue-carried x y c, f)),
   )
+
+  module _ (c : CarriedCatalogue x y) (h : carried x type ≡ true) where
+    pub element-length : (elementCall x y type b ≡ refusal 8) ↔ (length b ≡ widthOf (kindOf x type) → ⊥)
+    unfolding elementCall
+    element-length = (
+      (λ r e. false≢true (sym (stopped (eqb (length b) (widthOf (kindOf x type))) 8 65535 255 _ (λ q. omega (arith, above-eight .names q)) (rw (catalogue-carried x y c, h) at r)) ∙ eq-eqb _ _ e)),
+      (λ n. rw (catalogue-carried x y c, h, ne-eqb _ _ n)),
+    )
+
+    pub element-alone : length b ≡ widthOf (kindOf x type) → elementCall x y type b ≡ (element (kindOf x type) (number b) of 65535 ⨾ done (number b))
+    unfolding elementCall
+    element-alone e = rw (catalogue-carried x y c, h, eq-eqb _ _ e)

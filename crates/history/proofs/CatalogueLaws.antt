@@ -1,4 +1,4 @@
--- What catalogues refuse, over the calls: 3 exactly where a table's is neither 1.0 nor 3.0; 9 where a form's is not the table's; 22 exactly where
+-- What catalogues refuse, over the calls: 3 exactly where a table's is not carried; 9 exactly where a form's is not the table's; 22 exactly where
 -- a state is not of its object's kind, and of a state that was read from an object of the same type, exactly where it is a type 1 state
 -- of another catalogue.
 -- Assumes nothing.
@@ -12,23 +12,23 @@ use lib.ListN.{length, getD, take, drop, length-map}
 use lib.Dec.{eqb, leb, ltb}
 use borrow.Author.Tests.{lt-ltb, eqb-true, eq-eqb, ne-eqb}
 use Rattle.octets.specs.Octets.{number}
-use Rattle.kinds.specs.Kinds.{kindIn, widthOf}
+use Rattle.kinds.specs.Kinds.{kindIn}
 use Rattle.kinds.specs.declared.Kind.{Kind}
 use Rattle.kinds.specs.declared.Element.{Element}
 use Rattle.elements.specs.Elements.{carried, kindOf, sameKind, wordOf}
 use Rattle.elements.proofs.Findings.{Refuses, reserved, unlisted, silent}
 use Rattle.elements.proofs.Annex.{one-kind}
-use Rattle.history.specs.Verdict.{Verdict, refused, done, then, refusal, _unless_⨾_}
+use Rattle.history.specs.Verdict.{refused, done, then, refusal, _unless_⨾_}
 use Rattle.history.specs.Form.{Form, readForm}
 use Rattle.history.specs.Table.{Object, Table, object, versionGood, catalogueGood, readObjects, readTable, Plan, planOf, kindAt, sameCatalogue}
 use Rattle.history.specs.Image.{Image, imageVersionGood, element, _of_⨾_, widths, readWords, readImage}
-use Rattle.history.specs.Changes.{Changes, Entry, entryAt, checkChange, checkEntry, readEntries, listVersion, readList}
+use Rattle.history.specs.Changes.{Changes, readEntries, listVersion, readList}
 use Rattle.history.specs.Calls.{readPlan, tableCall, imageCall, listCall, readStateCall, checkState, writeStateUnder, writeStateCall}
 use Rattle.history.proofs.VerdictLaws.{left, right, either, refuted, past, stopped, passed-up}
 use Rattle.history.proofs.TableLaws.{table-is}
 use Rattle.history.proofs.ElementLaws.{same-kind, is-same-kind, refuses-as}
 use Rattle.history.proofs.ImageLaws.{same-catalogue}
-use Rattle.history.proofs.NameLaws.{objects, oneOf, Named, accepts, refuses, named-unless, named-of, named-then, objects-named, read-object}
+use Rattle.history.proofs.NameLaws.{objects, itsNumbers, oneOf, Named, accepts, refuses, named-unless, named-of, named-then, objects-named, words-named, entries-named, read-object}
 
 -- ---- 3
 
@@ -63,6 +63,34 @@ catalogue-exactly T {f} e = (
   (λ n. rw (e, refuted (catalogueGood (f .x) (f .y)) (λ q. n (catalogue-is (f .x) (f .y) q)))),
 )
 
+-- ---- what the plan of a table has of it
+
+-- an object's kind goes by its type and the table's X
+kind-of-object : (x : ℕ) (os : List Object) (i : ℕ) (o : Object) → i < length os → kindAt (map (λ (o : Object). kindOf x (o .type)) os) i ≡ kindOf x (getD os i o .type)
+kind-of-object x [] i o l = absurd (omega arith)
+kind-of-object x (p ∷ os) zero o l = refl
+kind-of-object x (p ∷ os) (suc i) o l = kind-of-object x os i o (omega arith)
+
+-- what the plan of an accepted table has of it
+record Planned (T : List ℕ) (t : Table) : Type 0 where
+  reads : readPlan T ≡ done (planOf t)
+  x : planOf t .x ≡ t .x
+  y : planOf t .y ≡ t .y
+  count : length (planOf t .kinds) ≡ length (t .objects)
+  kind : (i : ℕ) → i < length (t .objects) → kindAt (planOf t .kinds) i ≡ kindOf (t .x) (object t i .type)
+  type : (i : ℕ) → i < length (t .objects) → carried (t .x) (object t i .type) ≡ true
+
+planned : (T : List ℕ) {t : Table} → tableCall T ≡ done t → Planned T t
+unfolding tableCall readPlan planOf
+planned T {t} e = record {
+  reads = rw e;
+  x = refl;
+  y = refl;
+  count = length-map (t .objects) _;
+  kind = λ i l. kind-of-object (t .x) (t .objects) i _ l;
+  type = λ i l. table-is T e .legal .each i l .type;
+}
+
 -- ---- 9
 
 -- an element's own codes
@@ -74,62 +102,53 @@ element-codes (silent h) = omega arith
 abbrev Not9 : ℕ → ℕ → ℕ → Type 0
 Not9 code object bit = code ≡ 9 → ⊥
 
-element-not-9 : {A : Type 0} (k : Kind) (w i : ℕ) (r : Verdict A) → Named Not9 r → Named Not9 (element k w of i ⨾ r)
-element-not-9 k w i r = named-of (element k w) i r (λ x q c. omega (arith, element-codes (refuses-as k w q)))
+field-not-9 : (ks : List Kind) (code i bit : ℕ) → i < length ks → Refuses (kindAt ks i) code bit → Not9 code i bit
+field-not-9 ks code i bit l r c = omega (arith, element-codes r)
 
-words-not-9 : (i : ℕ) (ks : List Kind) (b : List ℕ) → Named Not9 (readWords i ks b)
-words-not-9 i [] b = accepts
-words-not-9 i (k ∷ ks) b = element-not-9 k (number (take (widthOf k) b)) i _ (named-then (readWords (suc i) ks (drop (widthOf k) b)) _ (words-not-9 (suc i) ks (drop (widthOf k) b)) λ ws q. accepts)
+-- the catalogue is the table's
+abbrev pub OfTable : Form → Table → Type 0
+OfTable f t = (f .x ≡ t .x) × (f .y ≡ t .y)
 
-entry-not-9 : (ks : List Kind) (low : ℕ) (b : List ℕ) (e : Entry) → Named Not9 (checkEntry ks low b e)
-unfolding checkEntry checkChange
-entry-not-9 ks low b e =
-    named-unless (leb 2 (length b)) _ _ (λ f. refuses (λ c. omega arith)) λ t.
-    named-unless (ltb (e .object) (length ks)) _ _ (λ f. refuses (λ c. omega arith)) λ t.
-    named-unless (leb low (e .object)) _ _ (λ f. refuses (λ c. omega arith)) λ t.
-    named-unless (leb (2 + (widthOf (e .kind) + widthOf (e .kind))) (length b)) _ _ (λ f. refuses (λ c. omega arith)) λ t.
-    element-not-9 (e .kind) (e .old) (e .object) _ (element-not-9 (e .kind) (e .new) (e .object) _
-    (named-unless (not (eqb (e .old) (e .new))) _ _ (λ f. refuses (λ c. omega arith)) λ t. accepts))
+module _ (T : List ℕ) {t : Table} (rt : tableCall T ≡ done t) where
+  same-form : (f : Form) → OfTable f t → sameCatalogue f (planOf t) ≡ true
+  same-form f c = rw (eq-eqb (f .x) (planOf t .x) (c .0 ∙ sym (planned T rt .x)), eq-eqb (f .y) (planOf t .y) (c .1 ∙ sym (planned T rt .y)))
 
-entries-not-9 : (ks : List Kind) (low n : ℕ) (b : List ℕ) → Named Not9 (readEntries ks low n b)
-entries-not-9 ks low zero b = named-unless (eqb (length b) 0) _ _ (λ f. refuses (λ c. omega arith)) λ t. accepts
-entries-not-9 ks low (suc n) b =
-    named-then (checkEntry ks low b (entryAt ks b)) _ (entry-not-9 ks low b (entryAt ks b)) λ e q.
-    named-then (readEntries ks (suc (e .object)) n (e .rest)) _ (entries-not-9 ks (suc (e .object)) n (e .rest)) λ cs q. accepts
+  other-form : (f : Form) → (OfTable f t → ⊥) → sameCatalogue f (planOf t) ≡ false
+  other-form f n = refuted (sameCatalogue f (planOf t)) (λ q. let s = same-catalogue f (planOf t) q in n (s .0 ∙ planned T rt .x, s .1 ∙ planned T rt .y))
 
--- the catalogues are the same
-abbrev pub OfTable : Form → Plan → Type 0
-OfTable f p = (f .x ≡ p .x) × (f .y ≡ p .y)
-
-same-form : (f : Form) (p : Plan) → OfTable f p → sameCatalogue f p ≡ true
-same-form f p c = rw (eq-eqb (f .x) (p .x) (c .0), eq-eqb (f .y) (p .y) (c .1))
-
-other-form : (f : Form) (p : Plan) → (OfTable f p → ⊥) → sameCatalogue f p ≡ false
-other-form f p n = refuted (sameCatalogue f p) (λ q. n (same-catalogue f p q))
-
-module _ (T : List ℕ) {p : Plan} (t : readPlan T ≡ done p) {f : Form} where
-  pub other-image : (A : List ℕ) → readForm 7 imageVersionGood A ≡ done f → (imageCall T A ≡ refusal 9) ↔ (OfTable f p → ⊥)
+  pub other-image : (A : List ℕ) {f : Form} → readForm 7 imageVersionGood A ≡ done f → (imageCall T A ≡ refusal 9) ↔ (OfTable f t → ⊥)
   unfolding imageCall readImage
-  other-image A e = (
-    (λ r c. false≢true (sym (stopped (sameCatalogue f p) 9 65535 255 _ (λ q. rest .names q refl) (rw (t, e) at r)) ∙ same-form f p c)),
-    (λ n. rw (t, e, other-form f p n)),
+  other-image A {f} e = (
+    (λ r c. false≢true (sym (stopped (sameCatalogue f p) 9 65535 255 _ (λ q. rest .names q refl) (rw (planned T rt .reads, e) at r)) ∙ same-form f c)),
+    (λ n. rw (planned T rt .reads, e, other-form f n)),
   )
     where
-      rest : Named Not9 {A = Image} (refusal 8 unless eqb (length (f .contents)) (4 + widths (p .kinds)) ⨾ then (readWords 0 (p .kinds) (drop 4 (f .contents))) λ ws. done (record { version = f .version; position = number (take 4 (f .contents)); words = ws }))
-      rest = named-unless (eqb (length (f .contents)) (4 + widths (p .kinds))) _ _ (λ f. refuses (λ c. omega arith)) λ t. named-then (readWords 0 (p .kinds) (drop 4 (f .contents))) _ (words-not-9 0 (p .kinds) (drop 4 (f .contents))) λ ws q. accepts
+      p : Plan
+      p = planOf t
 
-  pub other-list : (L : List ℕ) → readForm 13 (eqb listVersion) L ≡ done f → (listCall T L ≡ refusal 9) ↔ (OfTable f p → ⊥)
+      rest : Named Not9 {A = Image} (refusal 8 unless eqb (length (f .contents)) (4 + widths (p .kinds)) ⨾ then (readWords 0 (p .kinds) (drop 4 (f .contents))) λ ws. done (record { version = f .version; position = number (take 4 (f .contents)); words = ws }))
+      rest =
+          named-unless (eqb (length (f .contents)) (4 + widths (p .kinds))) _ _ (λ f. refuses (λ c. omega arith)) λ t.
+          named-then (readWords 0 (p .kinds) (drop 4 (f .contents))) _ (words-named (p .kinds) (field-not-9 (p .kinds)) 0 (p .kinds) _ refl) λ ws q. accepts
+
+  pub other-list : (L : List ℕ) {f : Form} → readForm 13 (eqb listVersion) L ≡ done f → (listCall T L ≡ refusal 9) ↔ (OfTable f t → ⊥)
   unfolding listCall readList
-  other-list L e = (
-    (λ r c. false≢true (sym (stopped (sameCatalogue f p) 9 65535 255 _ (λ q. rest .names q refl) (rw (t, e) at r)) ∙ same-form f p c)),
-    (λ n. rw (t, e, other-form f p n)),
+  other-list L {f} e = (
+    (λ r c. false≢true (sym (stopped (sameCatalogue f p) 9 65535 255 _ (λ q. rest .names q refl) (rw (planned T rt .reads, e) at r)) ∙ same-form f c)),
+    (λ n. rw (planned T rt .reads, e, other-form f n)),
   )
     where
+      p : Plan
+      p = planOf t
+
       n : ℕ
       n = number (take 2 (drop 8 (f .contents)))
 
+      -- an entry's other codes are 8, 13, 14 and 15; which numbers were handed in doesn't matter
       rest : Named Not9 {A = Changes} (then (readEntries (p .kinds) 0 n (drop 10 (f .contents))) λ cs. done (record { from = number (take 4 (f .contents)); to = number (take 4 (drop 4 (f .contents))); each = cs }))
-      rest = named-then (readEntries (p .kinds) 0 n (drop 10 (f .contents))) _ (entries-not-9 (p .kinds) 0 n (drop 10 (f .contents))) λ cs q. accepts
+      rest = named-then (readEntries (p .kinds) 0 n (drop 10 (f .contents))) _
+          (entries-named (p .kinds) (λ i. i ≡ i) (λ c. omega arith) (λ i g l c. omega arith) (λ code i h g l c. false≢true (sym (ap (oneOf itsNumbers) c) ∙ h)) (field-not-9 (p .kinds)) 0 n (drop 10 (f .contents)) λ i s. refl)
+          λ cs q. accepts
 
 -- ---- 22
 
@@ -160,28 +179,6 @@ kinds-differ x y type cx cy = (
 
     differ : type ≡ 1 → (x ≡ y → ⊥) → sameKind (kindOf x type) (kindOf y type) ≡ false
     differ p n = one-kind x y type cx cy ∙ rw (ne-eqb x y n, eq-eqb type 1 p)
-
--- an object's kind goes by its type and the table's X
-kind-of-object : (x : ℕ) (os : List Object) (i : ℕ) (o : Object) → i < length os → kindAt (map (λ (o : Object). kindOf x (o .type)) os) i ≡ kindOf x (getD os i o .type)
-kind-of-object x [] i o l = absurd (omega arith)
-kind-of-object x (p ∷ os) zero o l = refl
-kind-of-object x (p ∷ os) (suc i) o l = kind-of-object x os i o (omega arith)
-
--- what the plan of an accepted table has of it
-record Planned (T : List ℕ) (t : Table) : Type 0 where
-  reads : readPlan T ≡ done (planOf t)
-  count : length (planOf t .kinds) ≡ length (t .objects)
-  kind : (i : ℕ) → i < length (t .objects) → kindAt (planOf t .kinds) i ≡ kindOf (t .x) (object t i .type)
-  type : (i : ℕ) → i < length (t .objects) → carried (t .x) (object t i .type) ≡ true
-
-planned : (T : List ℕ) {t : Table} → tableCall T ≡ done t → Planned T t
-unfolding tableCall readPlan planOf
-planned T {t} e = record {
-  reads = rw e;
-  count = length-map (t .objects) _;
-  kind = λ i l. kind-of-object (t .x) (t .objects) i _ l;
-  type = λ i l. table-is T e .legal .each i l .type;
-}
 
 -- a state that is read is of the kind that its object's type has under the table's X
 pub read-by-type : (T A : List ℕ) (i : ℕ) {t : Table} {e : Element} → tableCall T ≡ done t → readStateCall T A i ≡ done e

@@ -109,9 +109,6 @@ module _ {n : ℕ} {ks : List Kind} {given : ℕ → Type 0} where
       → Named (Names n ks given) (refused code i 255 unless t ⨾ r)
   named-at t code i r h l k = named-unless t _ r (λ e. refuses (an-object h l)) k
 
-  named-element : {A : Type 0} (k : Kind) (w i : ℕ) (r : Verdict A) → i < length ks → kindAt ks i ≡ k → Named (Names n ks given) r → Named (Names n ks given) (element k w of i ⨾ r)
-  named-element k w i r l e h = named-of (element k w) i r (λ x q. its-field l (rw e (refuses-as k w q))) h
-
   -- ---- forms
 
   form-named : (least : ℕ) (good : ℕ → Bool) (b : List ℕ) → Named (Names n ks given) (readForm least good b)
@@ -156,8 +153,12 @@ table-named b =
 abbrev pub NamesUnder : List Kind → (ℕ → Type 0) → ℕ → ℕ → ℕ → Type 0
 NamesUnder ks given = Names (length ks) ks given
 
-module _ (all : List Kind) {given : ℕ → Type 0} where
-  words-named : (i : ℕ) (ks : List Kind) (b : List ℕ) → drop i all ≡ ks → Named (NamesUnder all given) (readWords i ks b)
+-- elements refuse with a code of their own
+module _ {P : ℕ → ℕ → ℕ → Type 0} (all : List Kind) (field : (code i bit : ℕ) → i < length all → Refuses (kindAt all i) code bit → P code i bit) where
+  named-element : {A : Type 0} (k : Kind) (w i : ℕ) (r : Verdict A) → i < length all → kindAt all i ≡ k → Named P r → Named P (element k w of i ⨾ r)
+  named-element k w i r l e h = named-of (element k w) i r (λ x q. field _ _ _ l (rw e (refuses-as k w q))) h
+
+  pub words-named : (i : ℕ) (ks : List Kind) (b : List ℕ) → drop i all ≡ ks → Named P (readWords i ks b)
   words-named i [] b e = accepts
   words-named i (k ∷ ks) b e =
       let h = head-at all i k ks e in
@@ -170,7 +171,7 @@ image-named p b =
     named-then (readForm 7 imageVersionGood b) _ (form-named 7 imageVersionGood b) λ f e.
     named-test (sameCatalogue f p) _ _ refl λ t.
     named-test (eqb (length (f .contents)) (4 + widths (p .kinds))) _ _ refl λ t.
-    named-then (readWords 0 (p .kinds) (drop 4 (f .contents))) _ (words-named (p .kinds) 0 (p .kinds) _ refl) λ ws e. accepts
+    named-then (readWords 0 (p .kinds) (drop 4 (f .contents))) _ (words-named (p .kinds) (λ code i bit. its-field) 0 (p .kinds) _ refl) λ ws e. accepts
 
 -- the two bytes of a number stand in a list
 pub record Stands (L : List ℕ) (i : ℕ) : Type 0 where
@@ -185,23 +186,25 @@ stands-behind k b s = record {
   is = ap (λ (c : List ℕ). number (take 2 c)) (sym (drop-drop (s .at) k b)) ∙ s .is;
 }
 
-module _ (ks : List Kind) {given : ℕ → Type 0} where
-  entry-named : (low : ℕ) (b : List ℕ) → ((i : ℕ) → Stands b i → given i) → Named (NamesUnder ks given) (checkEntry ks low b (entryAt ks b))
+-- entries refuse with 8, 13, 14, 15 or an element's code
+module _ {P : ℕ → ℕ → ℕ → Type 0} (ks : List Kind) (given : ℕ → Type 0) (eight : P 8 65535 255) (beyond : (i : ℕ) → given i → length ks ≤ i → P 13 i 255)
+    (its : (code i : ℕ) → oneOf itsNumbers code ≡ true → given i → i < length ks → P code i 255) (field : (code i bit : ℕ) → i < length ks → Refuses (kindAt ks i) code bit → P code i bit) where
+  entry-named : (low : ℕ) (b : List ℕ) → ((i : ℕ) → Stands b i → given i) → Named P (checkEntry ks low b (entryAt ks b))
   unfolding checkEntry checkChange
   entry-named low b g =
       let e : Entry = entryAt ks b in
-      named-test (leb 2 (length b)) _ _ refl λ t.
-      let its : given (e .object) = g (e .object) (record { at = 0; inside = leb-true _ _ t; is = refl }) in
-      named-unless (ltb (e .object) (length ks)) _ _ (λ f. refuses (no-object its (ltb-false _ _ f))) λ t.
+      named-unless (leb 2 (length b)) _ _ (λ f. refuses eight) λ t.
+      let mine : given (e .object) = g (e .object) (record { at = 0; inside = leb-true _ _ t; is = refl }) in
+      named-unless (ltb (e .object) (length ks)) _ _ (λ f. refuses (beyond _ mine (ltb-false _ _ f))) λ t.
       let l : e .object < length ks = ltb-true _ _ t in
-      named-unless (leb low (e .object)) _ _ (λ f. refuses (its-number refl its l)) λ t.
-      named-test (leb (2 + (widthOf (e .kind) + widthOf (e .kind))) (length b)) _ _ refl λ t.
-      named-element (e .kind) (e .old) (e .object) _ l refl
-      (named-element (e .kind) (e .new) (e .object) _ l refl
-      (named-unless (not (eqb (e .old) (e .new))) _ _ (λ f. refuses (its-number refl its l)) λ t. accepts))
+      named-unless (leb low (e .object)) _ _ (λ f. refuses (its 14 _ refl mine l)) λ t.
+      named-unless (leb (2 + (widthOf (e .kind) + widthOf (e .kind))) (length b)) _ _ (λ f. refuses eight) λ t.
+      named-element ks field (e .kind) (e .old) (e .object) _ l refl
+      (named-element ks field (e .kind) (e .new) (e .object) _ l refl
+      (named-unless (not (eqb (e .old) (e .new))) _ _ (λ f. refuses (its 15 _ refl mine l)) λ t. accepts))
 
-  entries-named : (low m : ℕ) (b : List ℕ) → ((i : ℕ) → Stands b i → given i) → Named (NamesUnder ks given) (readEntries ks low m b)
-  entries-named low zero b g = named-test (eqb (length b) 0) _ _ refl λ t. accepts
+  pub entries-named : (low m : ℕ) (b : List ℕ) → ((i : ℕ) → Stands b i → given i) → Named P (readEntries ks low m b)
+  entries-named low zero b g = named-unless (eqb (length b) 0) _ _ (λ f. refuses eight) λ t. accepts
   entries-named low (suc m) b g =
       named-then (checkEntry ks low b (entryAt ks b)) _ (entry-named low b g) λ e q.
       let w : ℕ = widthOf (entryAt ks b .kind) in
@@ -216,7 +219,7 @@ list-named p b {given} g =
     named-test (sameCatalogue f p) _ _ refl λ t.
     let c = form-contents 13 (eqb listVersion) b e in
     let behind : (i : ℕ) → Stands (drop 10 (f .contents)) i → given i = λ i s. g i (stands-behind 7 b (stands-behind 10 (drop 7 b) (rw c at s))) in
-    named-then (readEntries (p .kinds) 0 (number (take 2 (drop 8 (f .contents)))) (drop 10 (f .contents))) _ (entries-named (p .kinds) 0 (number (take 2 (drop 8 (f .contents)))) (drop 10 (f .contents)) behind) λ cs q. accepts
+    named-then (readEntries (p .kinds) 0 (number (take 2 (drop 8 (f .contents)))) (drop 10 (f .contents))) _ (entries-named (p .kinds) given (nothing refl) (λ i. no-object) (λ code i. its-number) (λ code i bit. its-field) 0 (number (take 2 (drop 8 (f .contents)))) (drop 10 (f .contents)) behind) λ cs q. accepts
 
 -- ---- operations
 
@@ -291,7 +294,7 @@ state-named ks i state =
     named-unless (ltb i (length ks)) _ _ (λ f. refuses (no-object refl (ltb-false _ _ f))) λ t.
     let l : i < length ks = ltb-true _ _ t in
     named-unless (sameKind (kindIn state) (kindAt ks i)) _ _ (λ f. refuses (its-number refl refl l)) λ t.
-    named-element (kindAt ks i) (wordOf state) i _ l refl accepts
+    named-element ks (λ code i bit. its-field) (kindAt ks i) (wordOf state) i _ l refl accepts
 
 -- ---- the calls, by the table's bytes: the count is what they say, the kinds are those of an accepted table's objects
 

@@ -1,7 +1,7 @@
 -- Each layout's state by the bits of its word, as annexes 1 and 3 of NAS 831 print them: every field by its name, with its bit or bits.
 -- Kept by hand and typed from the annex, whose line stands beside each field; catalogue/write.py leaves this file as it is.
 -- `..-bits`: the state is so at every word. `..-words`: in each field wider than one bit, a word with a middle value has that named case.
--- Annex 3 prints types 2 to 7 with the same bits and values, some under other names: CV_EST, CVA_EST, CVX_EST, CVX_DIR, CEJES.
+-- Annex 3 prints types 2 to 7 with the same bits and values, some under other names: CV_EST, CVA_EST, CVX_EST, CVX_DIR, and CEJES of CV and CVX.
 -- Assumes nothing.
 use mathlib.Core.Path.{_≡_, refl}
 use mathlib.Core.Bool.{Bool, false, cond}

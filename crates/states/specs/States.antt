@@ -1,4 +1,4 @@
--- Each type's state from its fields' values in the rows' order, and a state's values (a reserved row's is 0).
+-- Each layout's state from its fields' values in the rows' order, and a state's values (a reserved row's is 0).
 -- Written by catalogue/write.py.
 use mathlib.Core.List.{List, [], _∷_}
 use Prim.Native.Nat.{ℕ}

@@ -1,7 +1,8 @@
 // The floor of states: a struct for each layout with its named fields, its width in bytes and its state without data, and the
 // way between a state and its fields' values in the rows' order, each in a module of its own. Written by catalogue/write.py from
-// catalogue/fields.tsv. It checks nothing; the annex's mnemonic stands beside each field. All bits are read in one place, `bits_of`:
-// the check of a function costs its steps times its locals, and a field that is copied from there costs neither.
+// catalogue/fields.tsv. It checks nothing. Beside a field stands its mnemonic in the first annex that prints the layout. All bits are
+// read in one place, `bits_of`: the check of a function costs its steps times its locals, and a field that is copied from there
+// costs neither.
 mod changer_signal;
 mod control_boundary;
 mod crossing_track_circuit;
@@ -49,7 +50,7 @@ fn bit(values: [u32; 24], place: usize) -> bool
     values[place] == 1
 }
 
-// The bits at the places where a type has one.
+// The bits at the places where a layout has one.
 struct Bits {
     b0: bool,
     b1: bool,
