@@ -63,7 +63,7 @@ catalogue-exactly T {f} e = (
   (λ n. rw (e, refuted (catalogueGood (f .x) (f .y)) (λ q. n (catalogue-is (f .x) (f .y) q)))),
 )
 
--- ---- what the plan of a table has of it
+-- ---- a table's plan
 
 -- an object's kind goes by its type and the table's X
 kind-of-object : (x : ℕ) (os : List Object) (i : ℕ) (o : Object) → i < length os → kindAt (map (λ (o : Object). kindOf x (o .type)) os) i ≡ kindOf x (getD os i o .type)
