@@ -4,9 +4,9 @@ use Prim.Native.Nat.{ℕ}
 use mathlib.Core.Path.{_≡_}
 use mathlib.Core.List.{List}
 use Rattle.history.specs.declared.Answer.{Answer}
+use Rattle.history.specs.Verdict.{Leaves}
 use Rattle.history.specs.Calls.{differenceCall, applyCall, joinCall, turnCall}
 use Rattle.history.proofs.OneOutcome.{one-pair}
-use Rattle.history.proofs.OutputLaws.{Leaves}
 
 module _ (T out : List ℕ) {r r′ : Answer} {m m′ : List ℕ} where
   pub one-difference : (A B : List ℕ) → Leaves (differenceCall T A B) out r m → Leaves (differenceCall T A B) out r′ m′ → (r ≡ r′) × (m ≡ m′)

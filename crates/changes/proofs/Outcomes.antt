@@ -15,7 +15,7 @@ use Rattle.history.specs.Image.{Image, widths, wordsBytes, imageBytes}
 use Rattle.history.specs.Changes.{listBytes}
 use Rattle.history.specs.Calls.{differenceUnder, applyUnder, joinUnder, turnUnder}
 use Rattle.history.specs.Operations.{after, resultOf, jointOf, difference, applied, join, turned}
-use Rattle.history.proofs.CallLaws.{AcceptedImage, AcceptedList}
+use Rattle.history.specs.Legal.{AcceptedImage, AcceptedList}
 use Rattle.history.proofs.CodeLaws.{Coded, applied-coded, zero-told}
 use Rattle.history.proofs.ImageLaws.{length-words}
 use Rattle.history.proofs.OperationLaws.{takes}

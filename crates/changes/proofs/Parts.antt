@@ -10,9 +10,9 @@ use Rattle.history.specs.Form.{formBytes}
 use Rattle.history.specs.Table.{Plan}
 use Rattle.history.specs.Image.{Image, widths, wordsBytes, imageBytes}
 use Rattle.history.specs.Changes.{Changes, entries, entriesBytes, listBytes}
+use Rattle.history.specs.Legal.{AcceptedImage, AcceptedList}
 use Rattle.octets.proofs.NumberLaws.{length-bytes, read-bytes}
 use Rattle.history.proofs.ImageLaws.{length-words, image-words, image-position, image-long}
-use Rattle.history.proofs.CallLaws.{AcceptedImage, AcceptedList}
 use Rattle.tables.specs.Outlines.{kindsOf, planAs}
 
 -- ---- an image: its position from byte 7 on, its elements from byte 11 on

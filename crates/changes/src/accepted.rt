@@ -1,5 +1,4 @@
 // Where the forms are accepted: what is left to test are positions and values, in the paper's order, and the room last.
-use super::Operation;
 use history::Answer;
 use steps::Walk;
 use tables::accepted;
@@ -9,43 +8,17 @@ use walks::Size;
 ghost use mathlib.Core.Path.{_≡_};
 ghost use Prim.Native.Nat.{_≤_};
 ghost use lib.ListN.{length, drop};
-ghost use Rattle.history.specs.Verdict.{told, settled};
+ghost use Rattle.history.specs.Verdict.{told, Leaves};
 ghost use Rattle.history.specs.Calls.{differenceUnder, applyUnder, joinUnder, turnUnder};
-ghost use Rattle.history.proofs.CallLaws.{AcceptedImage, AcceptedList};
+ghost use Rattle.history.specs.Legal.{AcceptedImage, AcceptedList};
 ghost use Rattle.tables.specs.Outlines.{planAs};
-ghost use Rattle.changes.specs.OneCall.{operationUnder, FirstAccepted, SecondAccepted};
-
-// By the operation.
-pub fn write(
-    operation: Operation,
-    x: u8,
-    y: u8,
-    kinds: &[u8],
-    first: &[u8],
-    second: &[u8],
-    out: &mut [u8],
-) -> Answer
-    requires { ⌜ length (now kinds) ≤ 1024 ⌝ }
-    requires { ⌜ FirstAccepted operation (planAs x y (now kinds)) (now first) ⌝ }
-    requires { ⌜ SecondAccepted operation (planAs x y (now kinds)) (now second) ⌝ }
-    ensures { λ r. ⌜ r ≡ settled (operationUnder operation (planAs x y (now (kinds .entry))) (now (first .entry)) (now (second .entry))) (now (out .entry)) .answer ⌝ }
-    ensures { λ _. ⌜ now (out .exit) ≡ settled (operationUnder operation (planAs x y (now (kinds .entry))) (now (first .entry)) (now (second .entry))) (now (out .entry)) .output ⌝ }
-{
-    match operation {
-        Operation::Difference => write_difference(x, y, kinds, first, second, out),
-        Operation::Apply => write_applied(x, y, kinds, first, second, out),
-        Operation::Join => write_joined(x, y, kinds, first, second, out),
-        Operation::Turn => write_turned(x, y, kinds, first, out),
-    }
-}
 
 // The list from image a to image b.
-fn write_difference(x: u8, y: u8, kinds: &[u8], a: &[u8], b: &[u8], out: &mut [u8]) -> Answer
+pub fn write_difference(x: u8, y: u8, kinds: &[u8], a: &[u8], b: &[u8], out: &mut [u8]) -> Answer
     requires { ⌜ length (now kinds) ≤ 1024 ⌝ }
     requires { ⌜ AcceptedImage (planAs x y (now kinds)) (now a) ⌝ }
     requires { ⌜ AcceptedImage (planAs x y (now kinds)) (now b) ⌝ }
-    ensures { λ r. ⌜ r ≡ settled (differenceUnder (planAs x y (now (kinds .entry))) (now (a .entry)) (now (b .entry))) (now (out .entry)) .answer ⌝ }
-    ensures { λ _. ⌜ now (out .exit) ≡ settled (differenceUnder (planAs x y (now (kinds .entry))) (now (a .entry)) (now (b .entry))) (now (out .entry)) .output ⌝ }
+    ensures { λ r. ⌜ Leaves (differenceUnder (planAs x y (now (kinds .entry))) (now (a .entry)) (now (b .entry))) (now (out .entry)) r (now (out .exit)) ⌝ }
 {
     let from = octets::get_at(a, 7, 4);
     let to = octets::get_at(b, 7, 4);
@@ -56,12 +29,18 @@ fn write_difference(x: u8, y: u8, kinds: &[u8], a: &[u8], b: &[u8], out: &mut [u
 }
 
 // The image after the list: 16, 17, 18.
-fn write_applied(x: u8, y: u8, kinds: &[u8], image: &[u8], list: &[u8], out: &mut [u8]) -> Answer
+pub fn write_applied(
+    x: u8,
+    y: u8,
+    kinds: &[u8],
+    image: &[u8],
+    list: &[u8],
+    out: &mut [u8],
+) -> Answer
     requires { ⌜ length (now kinds) ≤ 1024 ⌝ }
     requires { ⌜ AcceptedImage (planAs x y (now kinds)) (now image) ⌝ }
     requires { ⌜ AcceptedList (planAs x y (now kinds)) (now list) ⌝ }
-    ensures { λ r. ⌜ r ≡ settled (applyUnder (planAs x y (now (kinds .entry))) (now (image .entry)) (now (list .entry))) (now (out .entry)) .answer ⌝ }
-    ensures { λ _. ⌜ now (out .exit) ≡ settled (applyUnder (planAs x y (now (kinds .entry))) (now (image .entry)) (now (list .entry))) (now (out .entry)) .output ⌝ }
+    ensures { λ r. ⌜ Leaves (applyUnder (planAs x y (now (kinds .entry))) (now (image .entry)) (now (list .entry))) (now (out .entry)) r (now (out .exit)) ⌝ }
 {
     let answer = check_applies(x, y, kinds, image, list);
     if answer.code != 0 {
@@ -72,12 +51,18 @@ fn write_applied(x: u8, y: u8, kinds: &[u8], image: &[u8], list: &[u8], out: &mu
 }
 
 // The join of two lists: 19, 20.
-fn write_joined(x: u8, y: u8, kinds: &[u8], first: &[u8], second: &[u8], out: &mut [u8]) -> Answer
+pub fn write_joined(
+    x: u8,
+    y: u8,
+    kinds: &[u8],
+    first: &[u8],
+    second: &[u8],
+    out: &mut [u8],
+) -> Answer
     requires { ⌜ length (now kinds) ≤ 1024 ⌝ }
     requires { ⌜ AcceptedList (planAs x y (now kinds)) (now first) ⌝ }
     requires { ⌜ AcceptedList (planAs x y (now kinds)) (now second) ⌝ }
-    ensures { λ r. ⌜ r ≡ settled (joinUnder (planAs x y (now (kinds .entry))) (now (first .entry)) (now (second .entry))) (now (out .entry)) .answer ⌝ }
-    ensures { λ _. ⌜ now (out .exit) ≡ settled (joinUnder (planAs x y (now (kinds .entry))) (now (first .entry)) (now (second .entry))) (now (out .entry)) .output ⌝ }
+    ensures { λ r. ⌜ Leaves (joinUnder (planAs x y (now (kinds .entry))) (now (first .entry)) (now (second .entry))) (now (out .entry)) r (now (out .exit)) ⌝ }
 {
     let end = octets::get_at(first, 11, 4);
     let start = octets::get_at(second, 7, 4);
@@ -108,11 +93,10 @@ fn write_joined(x: u8, y: u8, kinds: &[u8], first: &[u8], second: &[u8], out: &m
 }
 
 // The list turned back. The walk looks at one list only. What it writes is as long as the list, so nothing is measured.
-fn write_turned(x: u8, y: u8, kinds: &[u8], list: &[u8], out: &mut [u8]) -> Answer
+pub fn write_turned(x: u8, y: u8, kinds: &[u8], list: &[u8], out: &mut [u8]) -> Answer
     requires { ⌜ length (now kinds) ≤ 1024 ⌝ }
     requires { ⌜ AcceptedList (planAs x y (now kinds)) (now list) ⌝ }
-    ensures { λ r. ⌜ r ≡ settled (turnUnder (planAs x y (now (kinds .entry))) (now (list .entry))) (now (out .entry)) .answer ⌝ }
-    ensures { λ _. ⌜ now (out .exit) ≡ settled (turnUnder (planAs x y (now (kinds .entry))) (now (list .entry))) (now (out .entry)) .output ⌝ }
+    ensures { λ r. ⌜ Leaves (turnUnder (planAs x y (now (kinds .entry))) (now (list .entry))) (now (out .entry)) r (now (out .exit)) ⌝ }
 {
     let from = octets::get_at(list, 11, 4);
     let to = octets::get_at(list, 7, 4);

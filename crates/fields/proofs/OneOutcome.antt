@@ -4,9 +4,9 @@ use Prim.Native.Nat.{ℕ}
 use mathlib.Core.Path.{_≡_}
 use mathlib.Core.List.{List}
 use Rattle.history.specs.declared.Answer.{Answer}
+use Rattle.history.specs.Verdict.{Leaves}
 use Rattle.history.specs.Calls.{readStateCall}
 use Rattle.history.proofs.OneOutcome.{one-outcome, one-pair}
-use Rattle.history.proofs.OutputLaws.{Leaves}
 use Rattle.panel.specs.Readings.{readingOf}
 use Rattle.fields.specs.declared.Plain.{Plain}
 use Rattle.fields.specs.Fields.{plainOf}

@@ -18,7 +18,7 @@ use walk::show_rows;
 use walk::take_rows;
 ghost use mathlib.Core.Path.{_≡_};
 ghost use Rattle.kinds.specs.Kinds.{rowsOf, sortNumbered};
-ghost use Rattle.history.specs.Verdict.{told, settled};
+ghost use Rattle.history.specs.Verdict.{told, Leaves};
 ghost use Rattle.history.specs.Calls.{readStateCall};
 ghost use Rattle.panel.specs.Readings.{readingOf};
 ghost use Rattle.fields.specs.Fields.{shownOf, plainOf, valuesIn, named};
@@ -49,8 +49,7 @@ pub fn write_fields(
     position: u32,
     out: &mut [u8],
 ) -> Answer
-    ensures { λ r. ⌜ r ≡ settled (writeFieldsCall (now (table .entry)) (now (image .entry)) object number fields position) (now (out .entry)) .answer ⌝ }
-    ensures { λ _. ⌜ now (out .exit) ≡ settled (writeFieldsCall (now (table .entry)) (now (image .entry)) object number fields position) (now (out .entry)) .output ⌝ }
+    ensures { λ r. ⌜ Leaves (writeFieldsCall (now (table .entry)) (now (image .entry)) object number fields position) (now (out .entry)) r (now (out .exit)) ⌝ }
 {
     let sort = sort_of(number);
     let Sort::Carried(kind) = sort else {

@@ -18,12 +18,11 @@ use Rattle.octets.specs.Octets.{number}
 use Rattle.elements.specs.Elements.{carried, kindOf, elementCheck}
 use Rattle.history.specs.declared.Answer.{Answer}
 use Rattle.history.specs.declared.Standing.{Standing}
-use Rattle.history.specs.Verdict.{Verdict, refused, done, numbers, unnamed, told, settled}
+use Rattle.history.specs.Verdict.{Verdict, refused, done, numbers, unnamed, told, settled, Leaves}
 use Rattle.history.specs.Table.{catalogueGood, Object, Table, objectBytes, objectsBytes, labelLimit, readTable}
 use Rattle.history.specs.Image.{element, _of_⨾_}
 use Rattle.history.specs.Calls.{readStateCall, Place, labelPlace, labelCall}
 use Rattle.history.specs.Legal.{LegalTable}
-use Rattle.history.proofs.OutputLaws.{Leaves}
 use Rattle.history.proofs.CodeLaws.{Coded, not-zero, read-call-coded}
 use Rattle.history.proofs.VerdictLaws.{held, used}
 use Rattle.history.proofs.TableLaws.{nobody, table-is}
@@ -37,7 +36,7 @@ use Rattle.receiver.specs.declared.Taken.{Taken}
 use Rattle.receiver.specs.Receive.{answerOf, standingOf, takenOf}
 use Rattle.history.specs.Standing.{talliesOf}
 use Rattle.gateway.specs.Calls.{elementCall}
-use Rattle.gateway.specs.Slots.{slots, answerSlots, readSlots, fieldsAfter, standingIn}
+use Rattle.gateway.specs.Slots.{slots, answerSlots, LeavesSlots, readSlots, fieldsAfter, standingIn}
 
 -- ---- a label stands within 65,536 bytes
 
@@ -145,7 +144,7 @@ pub answered : {l : List ℕ} {a b : Answer} → l ≡ answerSlots a → a ≡ b
 answered e f = e ∙ ap answerSlots f
 
 -- of a call that writes: its answer's, and its output
-pub wrote : (v : Verdict (List ℕ)) (out : List ℕ) {a : Answer} {l m : List ℕ} → l ≡ answerSlots a → Leaves v out a m → (l ≡ answerSlots (settled v out .answer)) × (m ≡ settled v out .output)
+pub wrote : (v : Verdict (List ℕ)) (out : List ℕ) {a : Answer} {l m : List ℕ} → l ≡ answerSlots a → Leaves v out a m → LeavesSlots v out l m
 wrote v out e q = (answered e (q .0), q .1)
 
 module _ (T A L out : List ℕ) (s : Standing) {t : Taken} (t-is : t ≡ takenOf T A L out s) where

@@ -1,10 +1,11 @@
 -- Eight numbers of a call: code, object, bit, length, a place for a value, which is 0 for now, then what the call adds, then zeros; the
 -- fields of a state that is read; and a standing by its tallies.
 use Prim.Native.Nat.{ℕ}
+use mathlib.Core.Path.{_≡_}
 use mathlib.Core.List.{List, [], _∷_}
 use lib.ListN.{getD}
 use Rattle.kinds.specs.declared.Element.{Element}
-use Rattle.history.specs.Verdict.{Verdict, refused, done}
+use Rattle.history.specs.Verdict.{Verdict, refused, done, settled}
 use Rattle.history.specs.declared.Answer.{Answer}
 use Rattle.history.specs.declared.Standing.{Standing}
 use Rattle.tables.specs.declared.place.LabelAt.{LabelAt}
@@ -16,6 +17,10 @@ slots a sixth seventh = a .code ∷ a .object ∷ a .bit ∷ a .length ∷ 0 ∷
 
 unfoldable pub answerSlots : Answer → List ℕ
 answerSlots a = slots a 0 0
+
+-- what a call that writes leaves: the eight numbers ns, and m for the output that was out
+abbrev pub LeavesSlots : Verdict (List ℕ) → List ℕ → List ℕ → List ℕ → Type 0
+LeavesSlots v out ns m = (ns ≡ answerSlots (settled v out .answer)) × (m ≡ settled v out .output)
 
 -- the sixth is the state's kind
 unfoldable pub readSlots : Plain → List ℕ

@@ -17,7 +17,7 @@ use slots::standing_in;
 use slots::tallies_of;
 use tables::check_table;
 ghost use mathlib.Core.Path.{_≡_};
-ghost use Rattle.history.specs.Verdict.{told, settled};
+ghost use Rattle.history.specs.Verdict.{told};
 ghost use Rattle.history.specs.Calls.{tableCall, imageCall, listCall, readStateCall, labelCall, differenceCall, applyCall, joinCall, turnCall};
 ghost use Rattle.tables.specs.LabelPlaces.{labelTold};
 ghost use Rattle.panel.specs.Readings.{readingOf};
@@ -26,7 +26,7 @@ ghost use Rattle.fields.specs.Calls.{writeFieldsCall};
 ghost use Rattle.receiver.specs.Receive.{answerOf, outputOf, standingOf};
 ghost use Rattle.listing.specs.Listing.{listingCall};
 ghost use Rattle.history.specs.Standing.{talliesOf};
-ghost use Rattle.gateway.specs.Slots.{answerSlots, readSlots, fieldsAfter, labelSlots, standingIn};
+ghost use Rattle.gateway.specs.Slots.{answerSlots, LeavesSlots, readSlots, fieldsAfter, labelSlots, standingIn};
 ghost use Rattle.gateway.specs.Calls.{elementCall};
 
 // ---- checks
@@ -98,8 +98,7 @@ pub extern "C" fn shefumbari_write_state(
     out: &mut [u8],
     answer: &mut [u32; 8],
 )
-    ensures { λ _. ⌜ now (answer .exit) ≡ answerSlots (settled (writeFieldsCall (now (table .entry)) (now (image .entry)) object kind (now (fields .entry)) position) (now (out .entry)) .answer) ⌝ }
-    ensures { λ _. ⌜ now (out .exit) ≡ settled (writeFieldsCall (now (table .entry)) (now (image .entry)) object kind (now (fields .entry)) position) (now (out .entry)) .output ⌝ }
+    ensures { λ _. ⌜ LeavesSlots (writeFieldsCall (now (table .entry)) (now (image .entry)) object kind (now (fields .entry)) position) (now (out .entry)) (now (answer .exit)) (now (out .exit)) ⌝ }
 {
     *answer = answer_slots(write_fields(table, image, object, kind, *fields, position, out));
 }
@@ -122,8 +121,7 @@ pub extern "C" fn shefumbari_difference(
     out: &mut [u8],
     answer: &mut [u32; 8],
 )
-    ensures { λ _. ⌜ now (answer .exit) ≡ answerSlots (settled (differenceCall (now (table .entry)) (now (a .entry)) (now (b .entry))) (now (out .entry)) .answer) ⌝ }
-    ensures { λ _. ⌜ now (out .exit) ≡ settled (differenceCall (now (table .entry)) (now (a .entry)) (now (b .entry))) (now (out .entry)) .output ⌝ }
+    ensures { λ _. ⌜ LeavesSlots (differenceCall (now (table .entry)) (now (a .entry)) (now (b .entry))) (now (out .entry)) (now (answer .exit)) (now (out .exit)) ⌝ }
 {
     *answer = answer_slots(changes::difference(table, a, b, out));
 }
@@ -136,8 +134,7 @@ pub extern "C" fn shefumbari_apply(
     out: &mut [u8],
     answer: &mut [u32; 8],
 )
-    ensures { λ _. ⌜ now (answer .exit) ≡ answerSlots (settled (applyCall (now (table .entry)) (now (image .entry)) (now (list .entry))) (now (out .entry)) .answer) ⌝ }
-    ensures { λ _. ⌜ now (out .exit) ≡ settled (applyCall (now (table .entry)) (now (image .entry)) (now (list .entry))) (now (out .entry)) .output ⌝ }
+    ensures { λ _. ⌜ LeavesSlots (applyCall (now (table .entry)) (now (image .entry)) (now (list .entry))) (now (out .entry)) (now (answer .exit)) (now (out .exit)) ⌝ }
 {
     *answer = answer_slots(changes::apply(table, image, list, out));
 }
@@ -150,8 +147,7 @@ pub extern "C" fn shefumbari_join(
     out: &mut [u8],
     answer: &mut [u32; 8],
 )
-    ensures { λ _. ⌜ now (answer .exit) ≡ answerSlots (settled (joinCall (now (table .entry)) (now (first .entry)) (now (second .entry))) (now (out .entry)) .answer) ⌝ }
-    ensures { λ _. ⌜ now (out .exit) ≡ settled (joinCall (now (table .entry)) (now (first .entry)) (now (second .entry))) (now (out .entry)) .output ⌝ }
+    ensures { λ _. ⌜ LeavesSlots (joinCall (now (table .entry)) (now (first .entry)) (now (second .entry))) (now (out .entry)) (now (answer .exit)) (now (out .exit)) ⌝ }
 {
     *answer = answer_slots(changes::join(table, first, second, out));
 }
@@ -163,8 +159,7 @@ pub extern "C" fn shefumbari_turn_back(
     out: &mut [u8],
     answer: &mut [u32; 8],
 )
-    ensures { λ _. ⌜ now (answer .exit) ≡ answerSlots (settled (turnCall (now (table .entry)) (now (list .entry))) (now (out .entry)) .answer) ⌝ }
-    ensures { λ _. ⌜ now (out .exit) ≡ settled (turnCall (now (table .entry)) (now (list .entry))) (now (out .entry)) .output ⌝ }
+    ensures { λ _. ⌜ LeavesSlots (turnCall (now (table .entry)) (now (list .entry))) (now (out .entry)) (now (answer .exit)) (now (out .exit)) ⌝ }
 {
     *answer = answer_slots(changes::turn_back(table, list, out));
 }
@@ -193,8 +188,7 @@ pub extern "C" fn shefumbari_receive(
 // The text of a table and its image one behind the other.
 #[no_mangle]
 pub extern "C" fn shefumbari_listing(input: &[u8], out: &mut [u8], answer: &mut [u32; 8])
-    ensures { λ _. ⌜ now (answer .exit) ≡ answerSlots (settled (listingCall (now (input .entry))) (now (out .entry)) .answer) ⌝ }
-    ensures { λ _. ⌜ now (out .exit) ≡ settled (listingCall (now (input .entry))) (now (out .entry)) .output ⌝ }
+    ensures { λ _. ⌜ LeavesSlots (listingCall (now (input .entry))) (now (out .entry)) (now (answer .exit)) (now (out .exit)) ⌝ }
 {
     *answer = answer_slots(listing::list_into(input, out));
 }

@@ -10,10 +10,10 @@ use Rattle.history.specs.Table.{Plan}
 use Rattle.history.specs.Image.{Image, readImage}
 use Rattle.history.specs.Changes.{Changes, readList}
 use Rattle.history.specs.Calls.{readPlan, imageCall, listCall, differenceUnder, differenceCall, applyUnder, applyCall, joinUnder, joinCall, writeStateUnder, writeStateCall}
+use Rattle.history.specs.Legal.{AcceptedImage, AcceptedList}
 use Rattle.history.proofs.VerdictLaws.{used}
 use Rattle.history.proofs.ImageLaws.{image-is}
 use Rattle.history.proofs.ListLaws.{list-is}
-use Rattle.history.proofs.CallLaws.{AcceptedImage, AcceptedList}
 
 -- ---- the table
 

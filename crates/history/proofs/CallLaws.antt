@@ -10,25 +10,12 @@ use Rattle.history.specs.Image.{Image, imageBytes, readImage}
 use Rattle.history.specs.Changes.{Changes, listBytes, readList}
 use Rattle.history.specs.Operations.{difference, applied, join, turned}
 use Rattle.history.specs.Calls.{readPlan, imageCall, listCall, differenceUnder, differenceCall, applyUnder, applyCall, joinUnder, joinCall, turnUnder, turnCall}
-use Rattle.history.specs.Legal.{LegalImage, LegalList}
+use Rattle.history.specs.Legal.{LegalImage, LegalList, AcceptedImage, AcceptedList}
 use Rattle.history.proofs.VerdictLaws.{used}
 use Rattle.history.proofs.OperationLaws.{difference-legal, apply-difference, only-difference, result-legal, join-differences, join-legal, turned-legal, turned-difference}
 use Rattle.history.proofs.ImageLaws.{image-is, image-reads}
 use Rattle.history.proofs.ListLaws.{list-is, list-reads}
 use Rattle.history.proofs.TableLaws.{plan-fair}
-
--- accepted bytes: what they are read as, and that they are what would be written for it
-pub record AcceptedImage (p : Plan) (A : List ℕ) : Type 0 where
-  pub image : Image
-  pub legal : LegalImage p image
-  pub reads : readImage p A ≡ done image
-  pub same : A ≡ imageBytes p image
-
-pub record AcceptedList (p : Plan) (L : List ℕ) : Type 0 where
-  pub list : Changes
-  pub legal : LegalList p list
-  pub reads : readList p L ≡ done list
-  pub same : L ≡ listBytes p list
 
 module _ (T : List ℕ) {p : Plan} (t : readPlan T ≡ done p) where
   -- a call's acceptance, and what it tells

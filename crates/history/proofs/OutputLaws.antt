@@ -11,7 +11,7 @@ use lib.Seq.{take-append-seam, drop-append-seam}
 use borrow.Rule.Slice.PartMut.{putMid}
 use borrow.Author.Tests.{le-leb, lt-leb, leb-true, leb-false}
 use Rattle.history.specs.declared.Answer.{Answer}
-use Rattle.history.specs.Verdict.{Verdict, refused, done, then, Outcome, numbers, unnamed, told, settled}
+use Rattle.history.specs.Verdict.{Verdict, refused, done, then, Outcome, numbers, unnamed, told, settled, Leaves}
 
 -- the numbers of success, the answer's bytes in front, the rest as it was
 pub record Success (b out : List ℕ) (o : Outcome) : Type 0 where
@@ -63,12 +63,9 @@ length-output (done b) out = go (leb (length b) (length out)) refl
         )
     go false e = ap length (too-short out refl (leb-false _ _ e) .1)
 
--- ---- what a call that writes leaves, for the code that settles: its answer, and the output at the end
+-- ---- what a call that writes leaves, for the code that settles
 
-abbrev pub Leaves : Verdict (List ℕ) → List ℕ → Answer → List ℕ → Type 0
-Leaves v out r m = (r ≡ settled v out .answer) × (m ≡ settled v out .output)
-
--- .. as a premise of laws, which find the verdict in its type
+-- as a premise of laws, which find the verdict in its type
 pub record Ran (v : Verdict (List ℕ)) (out : List ℕ) (r : Answer) (m : List ℕ) : Type 0 where
   pub leaves : Leaves v out r m
 

@@ -21,13 +21,13 @@ use Rattle.history.specs.declared.Change.the-variants.{Keep as keep, Swa
 use Rattle.history.specs.Changes.{Changes, entriesBytes, listBytes}
 use Rattle.history.specs.Operations.{differ, joined}
 use Rattle.history.specs.Calls.{readPlan, differenceCall, applyCall, joinCall}
-use Rattle.history.specs.Legal.{Every, nil, and, admits, lawful}
+use Rattle.history.specs.Legal.{Every, nil, and, admits, lawful, AcceptedImage, AcceptedList}
 use Rattle.octets.proofs.NumberLaws.{length-bytes}
 use Rattle.history.proofs.VerdictLaws.{left, right}
 use Rattle.history.proofs.ElementLaws.{admits-fits}
 use Rattle.history.proofs.ImageLaws.{image-long}
 use Rattle.history.proofs.OperationLaws.{joins}
-use Rattle.history.proofs.CallLaws.{AcceptedImage, AcceptedList, difference-is, only-difference-applies, differences-join, applied-image, joined-list}
+use Rattle.history.proofs.CallLaws.{difference-is, only-difference-applies, differences-join, applied-image, joined-list}
 
 size : Kind → Change → ℕ
 size k keep = 0

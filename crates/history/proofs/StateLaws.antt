@@ -21,11 +21,11 @@ use Rattle.history.specs.Table.{Plan, kindAt}
 use Rattle.history.specs.Image.{Image, element, _of_⨾_, imageBytes}
 use Rattle.history.specs.Calls.{readPlan, placed, stateAt, readStateUnder, readStateCall, checkState, writeStateUnder, writeStateCall}
 use Rattle.elements.specs.Elements.{sameKind}
-use Rattle.history.specs.Legal.{isAccepted, admits, Every, nil, and, LegalImage}
+use Rattle.history.specs.Legal.{isAccepted, admits, Every, nil, and, LegalImage, AcceptedImage}
 use Rattle.history.proofs.VerdictLaws.{held, used}
 use Rattle.history.proofs.ElementLaws.{was-accepted, is-accepted, admits-accepted, word-again, state-again, state-admitted, same-kind, is-same-kind, state-current, state-twelve}
 use Rattle.history.proofs.OperationLaws.{one-version}
-use Rattle.history.proofs.CallLaws.{AcceptedImage, legal-image}
+use Rattle.history.proofs.CallLaws.{legal-image}
 
 -- ---- all objects
 

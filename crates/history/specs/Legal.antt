@@ -9,12 +9,13 @@ use lib.ListN.{length}
 use Rattle.rows.specs.declared.Finding.{Finding}
 use Rattle.kinds.specs.Kinds.{widthOf}
 use Rattle.kinds.specs.declared.Kind.{Kind}
+use Rattle.history.specs.Verdict.{done}
 use Rattle.history.specs.Table.{versionGood, catalogueGood, labelLimit, labelGood, Object, object, Table, Plan}
 use Rattle.elements.specs.Elements.{carried}
-use Rattle.history.specs.Image.{Image, imageVersionGood, element}
+use Rattle.history.specs.Image.{Image, imageVersionGood, element, imageBytes, readImage}
 use Rattle.history.specs.declared.Change.{Change}
 use Rattle.history.specs.declared.Change.the-variants.{Keep as keep, Swap as swap}
-use Rattle.history.specs.Changes.{Changes}
+use Rattle.history.specs.Changes.{Changes, listBytes, readList}
 
 pub record LegalObject (version x : ℕ) (o : Object) : Type 0 where
   pub type : carried x (o .type) ≡ true
@@ -57,3 +58,16 @@ pub record LegalList (p : Plan) (l : Changes) : Type 0 where
   pub from : l .from < 2 ^ 32
   pub to : l .to < 2 ^ 32
   pub each : Every lawful (p .kinds) (l .each)
+
+-- accepted bytes: what they are read as, and that they are what would be written for it
+pub record AcceptedImage (p : Plan) (A : List ℕ) : Type 0 where
+  pub image : Image
+  pub legal : LegalImage p image
+  pub reads : readImage p A ≡ done image
+  pub same : A ≡ imageBytes p image
+
+pub record AcceptedList (p : Plan) (L : List ℕ) : Type 0 where
+  pub list : Changes
+  pub legal : LegalList p list
+  pub reads : readList p L ≡ done list
+  pub same : L ≡ listBytes p list

@@ -2,6 +2,7 @@
 -- as named, else 65535 and 255; length 0 except code 21." "Success writes the front of the output; the rest stays. Refusal writes no output."
 use Prim.Native.Nat.{ℕ}
 use mathlib.Core.Bool.{Bool, true, false, cond}
+use mathlib.Core.Path.{_≡_}
 use mathlib.Core.List.{List, _++_}
 use lib.Dec.{leb}
 use lib.ListN.{length, drop}
@@ -55,3 +56,7 @@ settled (done b) out =
     cond (leb (length b) (length out))
     (record { answer = unnamed 0 (length b); output = b ++ drop (length b) out })
     (record { answer = unnamed 21 (length b); output = out })
+
+-- what a call that writes leaves: the numbers r, and m for the output that was out
+abbrev pub Leaves : Verdict (List ℕ) → List ℕ → Answer → List ℕ → Type 0
+Leaves v out r m = (r ≡ settled v out .answer) × (m ≡ settled v out .output)

@@ -11,8 +11,8 @@ use lib.Seq.{sets-eq, take-all, take-append-seam, drop-append-seam}
 use borrow.Author.Tests.{le-leb, lt-leb}
 use Rattle.octets.specs.Octets.{number}
 use Rattle.history.specs.declared.Answer.{Answer}
-use Rattle.history.specs.Verdict.{Verdict, refused, done, told, settled}
-use Rattle.history.proofs.OutputLaws.{Leaves, succeeds, refusal-told, refusal-stays}
+use Rattle.history.specs.Verdict.{Verdict, refused, done, told, settled, Leaves}
+use Rattle.history.proofs.OutputLaws.{succeeds, refusal-told, refusal-stays}
 use Rattle.history.proofs.CodeLaws.{zero-succeeds}
 use Rattle.text.specs.Wrote.{Wrote}
 use Rattle.listing.specs.Listing.{readBoth, tableSize, readPanel, refusedLine, textOf, listingCall, printed, listingOf}

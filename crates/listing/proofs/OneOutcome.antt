@@ -4,8 +4,8 @@ use Prim.Native.Nat.{ℕ}
 use mathlib.Core.Path.{_≡_}
 use mathlib.Core.List.{List}
 use Rattle.history.specs.declared.Answer.{Answer}
+use Rattle.history.specs.Verdict.{Leaves}
 use Rattle.history.proofs.OneOutcome.{one-outcome, one-pair}
-use Rattle.history.proofs.OutputLaws.{Leaves}
 use Rattle.listing.specs.Listing.{listingCall}
 use Rattle.listing.specs.Output.{ListedInto}
 

@@ -12,7 +12,7 @@ use Rattle.octets.specs.Octets.{bytes, number}
 use Rattle.octets.proofs.NumberLaws.{read-bytes}
 use Rattle.elements.specs.Elements.{kindOf}
 use Rattle.history.specs.declared.Answer.{Answer}
-use Rattle.history.specs.Verdict.{Verdict, refused, done, then, unnamed, told, settled}
+use Rattle.history.specs.Verdict.{Verdict, refused, done, then, unnamed, told, settled, Leaves}
 use Rattle.history.specs.Form.{formBytes, readForm}
 use Rattle.history.specs.Table.{Object, Table, Plan, objectsBytes, tableBytes, versionGood, readTable, planOf}
 use Rattle.history.specs.Image.{Image, wordsBytes, imageBytes, imageVersionGood, readImage}
@@ -22,11 +22,11 @@ use Rattle.history.proofs.VerdictLaws.{used}
 use Rattle.history.proofs.FormLaws.{form-whole}
 use Rattle.history.proofs.TableLaws.{table-is, plan-fair}
 use Rattle.history.proofs.CodeLaws.{image-coded, zero-told}
-use Rattle.history.proofs.OutputLaws.{Leaves, leaves-as, written-leaves}
+use Rattle.history.proofs.OutputLaws.{leaves-as, written-leaves}
 use Rattle.tables.specs.Outlines.{kindsOf, planAs, Outlined}
 use Rattle.tables.specs.declared.answers.Outline.{Outline}
 use Rattle.tables.proofs.AnswerLaws.{told-then}
-use Rattle.forms.proofs.UnderPlan.{image-refused, image-under}
+use Rattle.forms.proofs.UnderPlan.{table-refused, image-starts, image-under}
 use Rattle.forms.proofs.Accepted.{image-accepted}
 use Rattle.forms.proofs.KindLaws.{length-kinds}
 use Rattle.text.specs.Wrote.{Wrote}
@@ -56,7 +56,7 @@ pub both-told : (t a : List ℕ) → told (imageCall t a) ≡ told (textOf (read
 both-told t a = ap told (image-in t a) ∙ told-then (readBoth t a) (λ (p : Panel). p .image) ∙ sym (told-then (readBoth t a) (λ (p : Panel). panelText (p .table) (p .image)))
 
 pub table-told : {b : List ℕ} {r : Outline} → Outlined b r → (r .answer .code ≡ 0 → ⊥) → (a : List ℕ) → r .answer ≡ told (textOf (readBoth b a))
-table-told {b} o n a = image-refused o n a ∙ both-told b a
+table-told {b} o n a = table-refused o n (image-starts b a) ∙ both-told b a
 
 -- ---- an accepted table and image
 
@@ -132,7 +132,7 @@ read-as {b} {a} {ns} r hb ha =
     let plan : planOf (t .0) ≡ planAs (r .x) (r .y) ns = cc (t .2) in
     let tab = table-is b (t .1) in
     let b-is = tab .same (λ i. hb i .fits) in
-    let i = image-accepted (planAs (r .x) (r .y) ns) a (λ i. ha i .fits) (r .image) in
+    let i = image-accepted (planAs (r .x) (r .y) ns) a ha (r .image) refl in
     let a-is = i .same in
     let kinds : planOf (t .0) .kinds ≡ kindsOf ns = ap (λ (p : Plan). p .kinds) plan in
     record {
@@ -162,7 +162,7 @@ module _ {b : List ℕ} {r : Outline} (o : Outlined b r) (z : r .answer .code �
 
   module _ (a : List ℕ) {c : Answer} (f : c ≡ told (readImage (planAs (r .x) (r .y) numbers) a)) where
     pub image-told : c ≡ told (textOf (readBoth b a))
-    image-told = let e : r .count - 0 ≡ r .count = omega arith in f ∙ image-under o z (ap (λ (n : ℕ). take n (r .kinds)) e) a ∙ both-told b a
+    image-told = let e : r .count - 0 ≡ r .count = omega arith in f ∙ ap told (image-under b a o z (ap (λ (n : ℕ). take n (r .kinds)) e)) ∙ both-told b a
 
     pub ready : c .code ≡ 0 → Ready b a numbers
     ready e = record { x = r .x; y = r .y; plan = plan-known; image = ap (λ (c : Answer). c .code) (sym f) ∙ e }

@@ -9,7 +9,7 @@ use tables::written;
 ghost use mathlib.Core.Path.{_≡_};
 ghost use Prim.Native.Nat.{_+_, _≤_, _<_};
 ghost use lib.ListN.{length, getD};
-ghost use Rattle.history.specs.Verdict.{settled};
+ghost use Rattle.history.specs.Verdict.{Leaves};
 ghost use Rattle.text.specs.Wrote.{Wrote};
 ghost use Rattle.listing.specs.Listing.{readBoth, textOf};
 ghost use Rattle.listing.specs.Walk.{Ready, linesIn};
@@ -17,8 +17,7 @@ ghost use Rattle.listing.specs.Walk.{Ready, linesIn};
 // The lines of both, or the first refusal.
 pub fn put_panel(table: &[u8], image: &[u8], out: &mut [u8]) -> Answer
     requires { ⌜ 65536 ≤ length (now out) ⌝ }
-    ensures { λ r. ⌜ r ≡ settled (textOf (readBoth (now (table .entry)) (now (image .entry)))) (now (out .entry)) .answer ⌝ }
-    ensures { λ _. ⌜ now (out .exit) ≡ settled (textOf (readBoth (now (table .entry)) (now (image .entry)))) (now (out .entry)) .output ⌝ }
+    ensures { λ r. ⌜ Leaves (textOf (readBoth (now (table .entry)) (now (image .entry)))) (now (out .entry)) r (now (out .exit)) ⌝ }
 {
     let known = outline(table);
     let answer = known.answer;
@@ -40,8 +39,7 @@ pub fn put_panel(table: &[u8], image: &[u8], out: &mut [u8]) -> Answer
 fn put_accepted(table: &[u8], image: &[u8], kinds: &[u8], out: &mut [u8]) -> Answer
     requires { ⌜ Ready (now table) (now image) (now kinds) ⌝ }
     requires { ⌜ 65536 ≤ length (now out) ⌝ }
-    ensures { λ r. ⌜ r ≡ settled (textOf (readBoth (now (table .entry)) (now (image .entry)))) (now (out .entry)) .answer ⌝ }
-    ensures { λ _. ⌜ now (out .exit) ≡ settled (textOf (readBoth (now (table .entry)) (now (image .entry)))) (now (out .entry)) .output ⌝ }
+    ensures { λ r. ⌜ Leaves (textOf (readBoth (now (table .entry)) (now (image .entry)))) (now (out .entry)) r (now (out .exit)) ⌝ }
 {
     let position = octets::get_at(image, 7, 4);
     let count = kinds.len() as u32;

@@ -12,7 +12,7 @@ use tables::written;
 ghost use mathlib.Core.Path.{_≡_};
 ghost use Prim.Native.Nat.{_≤_};
 ghost use lib.ListN.{length};
-ghost use Rattle.history.specs.Verdict.{done, settled};
+ghost use Rattle.history.specs.Verdict.{done, Leaves};
 ghost use Rattle.listing.specs.Listing.{listingCall};
 ghost use Rattle.listing.specs.Output.{ListedInto};
 
@@ -21,8 +21,7 @@ const MOST: usize = 65536;
 
 // The text of a table and its image at the front of `out`. A short output is filled by way of a buffer that every listing fits.
 pub fn list_into(input: &[u8], out: &mut [u8]) -> Answer
-    ensures { λ r. ⌜ r ≡ settled (listingCall (now (input .entry))) (now (out .entry)) .answer ⌝ }
-    ensures { λ _. ⌜ now (out .exit) ≡ settled (listingCall (now (input .entry))) (now (out .entry)) .output ⌝ }
+    ensures { λ r. ⌜ Leaves (listingCall (now (input .entry))) (now (out .entry)) r (now (out .exit)) ⌝ }
 {
     if MOST <= out.len() {
         return put_listing(input, out);
@@ -53,8 +52,7 @@ pub fn print_into(input: &[u8], out: &mut [u8]) -> usize
 // The input is split by the table's length.
 fn put_listing(input: &[u8], out: &mut [u8]) -> Answer
     requires { ⌜ 65536 ≤ length (now out) ⌝ }
-    ensures { λ r. ⌜ r ≡ settled (listingCall (now (input .entry))) (now (out .entry)) .answer ⌝ }
-    ensures { λ _. ⌜ now (out .exit) ≡ settled (listingCall (now (input .entry))) (now (out .entry)) .output ⌝ }
+    ensures { λ r. ⌜ Leaves (listingCall (now (input .entry))) (now (out .entry)) r (now (out .exit)) ⌝ }
 {
     let all = input.len();
     if MOST < all {
@@ -73,8 +71,7 @@ fn put_listing(input: &[u8], out: &mut [u8]) -> Answer
 // The bytes at the front of the output, or 21.
 fn put_front(out: &mut [u8], text: &[u8]) -> Answer
     requires { ⌜ length (now text) ≤ 65536 ⌝ }
-    ensures { λ r. ⌜ r ≡ settled (done (now (text .entry))) (now (out .entry)) .answer ⌝ }
-    ensures { λ _. ⌜ now (out .exit) ≡ settled (done (now (text .entry))) (now (out .entry)) .output ⌝ }
+    ensures { λ r. ⌜ Leaves (done (now (text .entry))) (now (out .entry)) r (now (out .exit)) ⌝ }
 {
     let size = text.len();
     if out.len() < size {

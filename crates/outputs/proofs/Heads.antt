@@ -11,14 +11,14 @@ use Rattle.octets.specs.Octets.{bytes}
 use Rattle.kinds.specs.declared.Kind.{Kind}
 use Rattle.history.specs.declared.Change.{Change}
 use Rattle.history.specs.declared.Answer.{Answer}
-use Rattle.history.specs.Verdict.{done, unnamed, settled}
+use Rattle.history.specs.Verdict.{done, unnamed, settled, Leaves}
 use Rattle.history.specs.Form.{formBytes}
 use Rattle.history.specs.Image.{widths}
 use Rattle.history.specs.Changes.{listVersion, entries, entriesBytes, listBytes}
 use Rattle.octets.proofs.NumberLaws.{length-bytes}
 use Rattle.octets.proofs.Writing.{start, append-at, append-put, append-store, as-done, filled}
 use Rattle.history.proofs.ImageLaws.{widths-few}
-use Rattle.history.proofs.OutputLaws.{Leaves, short-leaves, written-leaves}
+use Rattle.history.proofs.OutputLaws.{short-leaves, written-leaves}
 use Rattle.steps.specs.declared.Walk.{Walk}
 use Rattle.tables.specs.Outlines.{kindsOf}
 use Rattle.walks.specs.Walks.{walked, walkBytes, Measured, renewal}

@@ -8,7 +8,7 @@ use walks::Size;
 ghost use mathlib.Core.Path.{_≡_};
 ghost use Prim.Native.Nat.{_+_, _≤_};
 ghost use lib.ListN.{length};
-ghost use Rattle.history.specs.Verdict.{done, settled};
+ghost use Rattle.history.specs.Verdict.{done, Leaves};
 ghost use Rattle.history.specs.Image.{widths};
 ghost use Rattle.tables.specs.Outlines.{kindsOf};
 ghost use Rattle.walks.specs.Walks.{Asked, Measured, renewal};
@@ -30,8 +30,7 @@ pub fn write_list(
     requires { ⌜ length (now kinds) ≤ 1024 ⌝ }
     requires { ⌜ Asked walk (now kinds) (now first) (now second) ⌝ }
     requires { ⌜ Measured walk (kindsOf (now kinds)) (now first) (now second) (size .count) (size .bytes) ⌝ }
-    ensures { λ r. ⌜ r ≡ settled (done (walkList walk x y (now (kinds .entry)) from to (now (first .entry)) (now (second .entry)))) (now (out .entry)) .answer ⌝ }
-    ensures { λ _. ⌜ now (out .exit) ≡ settled (done (walkList walk x y (now (kinds .entry)) from to (now (first .entry)) (now (second .entry)))) (now (out .entry)) .output ⌝ }
+    ensures { λ r. ⌜ Leaves (done (walkList walk x y (now (kinds .entry)) from to (now (first .entry)) (now (second .entry)))) (now (out .entry)) r (now (out .exit)) ⌝ }
 {
     let count = size.count as u32;
     let bytes = size.bytes;
@@ -48,8 +47,7 @@ pub fn write_list(
 pub fn write_image(kinds: &[u8], image: &[u8], to: u32, entries: &[u8], out: &mut [u8]) -> Answer
     requires { ⌜ length (now kinds) ≤ 1024 ⌝ }
     requires { ⌜ length (now image) ≡ 11 + widths (kindsOf (now kinds)) ⌝ }
-    ensures { λ r. ⌜ r ≡ settled (done (imageAfter (kindsOf (now (kinds .entry))) (now (image .entry)) to (now (entries .entry)))) (now (out .entry)) .answer ⌝ }
-    ensures { λ _. ⌜ now (out .exit) ≡ settled (done (imageAfter (kindsOf (now (kinds .entry))) (now (image .entry)) to (now (entries .entry)))) (now (out .entry)) .output ⌝ }
+    ensures { λ r. ⌜ Leaves (done (imageAfter (kindsOf (now (kinds .entry))) (now (image .entry)) to (now (entries .entry)))) (now (out .entry)) r (now (out .exit)) ⌝ }
 {
     let need = image.len();
     let bytes = need as u32;

@@ -5,9 +5,9 @@ use mathlib.Core.Path.{_≡_}
 use mathlib.Core.List.{List}
 use Rattle.kinds.specs.declared.Element.{Element}
 use Rattle.history.specs.declared.Answer.{Answer}
+use Rattle.history.specs.Verdict.{Leaves}
 use Rattle.history.specs.Calls.{writeStateCall}
 use Rattle.history.proofs.OneOutcome.{one-outcome, one-pair}
-use Rattle.history.proofs.OutputLaws.{Leaves}
 use Rattle.panel.specs.declared.read.Reading.{Reading}
 use Rattle.panel.specs.Readings.{answerIn}
 use Rattle.panel.proofs.Demands.{Read}

@@ -25,15 +25,14 @@ use Rattle.history.specs.Verdict.{Verdict, refused, done, then, refusalAt, _unl
 use Rattle.history.specs.Table.{kindAt}
 use Rattle.history.specs.Image.{element, readImage}
 use Rattle.history.specs.Calls.{stateAt, readStateUnder, readStateCall}
-use Rattle.history.specs.Legal.{admits, Every, nil, and}
-use Rattle.history.proofs.CallLaws.{AcceptedImage}
+use Rattle.history.specs.Legal.{admits, Every, nil, and, AcceptedImage}
 use Rattle.history.proofs.ElementLaws.{admits-accepted}
 use Rattle.tables.specs.Outlines.{kindsOf, planAs, Outlined}
 use Rattle.tables.specs.declared.answers.Outline.{Outline}
 use Rattle.tables.proofs.AnswerLaws.{told-first}
 use Rattle.forms.proofs.Accepted.{image-accepted}
 use Rattle.forms.proofs.KindLaws.{length-kinds}
-use Rattle.forms.proofs.UnderPlan.{table-refused, under-plan}
+use Rattle.forms.proofs.UnderPlan.{Starts, table-refused, under-plan}
 use Rattle.panel.specs.declared.read.Reading.{Reading}
 use Rattle.panel.specs.Readings.{readingOf, answerIn}
 use Rattle.panel.specs.Places.{placeIn, Sized}
@@ -58,15 +57,17 @@ reading-told (done s) = refl
 
 -- ---- the table
 
+read-starts : (T A : List ℕ) (i : ℕ) → Starts T (readStateCall T A i) (λ p. readStateUnder p A i)
+unfolding readStateCall
+read-starts T A i = record { is = refl }
+
 module _ {T : List ℕ} {r : Outline} (o : Outlined T r) (A : List ℕ) (i : ℕ) where
   pub table-read : (r .answer .code ≡ 0 → ⊥) → Reading.Refused (r .answer) ≡ readingOf (readStateCall T A i)
-  unfolding readStateCall
-  table-read bad = refusal-read _ (table-refused o bad (λ p. readStateUnder p A i)) bad
+  table-read bad = refusal-read _ (table-refused o bad (read-starts T A i)) bad
 
   pub read-by-plan : r .answer .code ≡ 0 → {ns : List ℕ} → ns ≡ take (r .count) (r .kinds)
       → readingOf (readStateUnder (planAs (r .x) (r .y) ns) A i) ≡ readingOf (readStateCall T A i)
-  unfolding readStateCall
-  read-by-plan good n = ap readingOf (sym (under-plan o good n (λ p. readStateUnder p A i)))
+  read-by-plan good n = ap readingOf (under-plan o good n (read-starts T A i))
 
 -- ---- the image
 
@@ -89,7 +90,7 @@ module _ (x y : ℕ) (ns A : List ℕ) (i : ℕ) {r : Answer} (r-is : r ≡ told
   -- each byte is one, as the code knows it of a slice
   module _ (h : (n : ℕ) → Fits w8 (getD A n 0)) (good : r .code ≡ 0) where
     pub taken : AcceptedImage (planAs x y ns) A
-    taken = image-accepted (planAs x y ns) A (λ n. h n .fits) (ap (λ (a : Answer). a .code) (sym r-is) ∙ good)
+    taken = image-accepted (planAs x y ns) A h good r-is
 
     under : readStateUnder (planAs x y ns) A i ≡ (refusalAt 13 i unless ltb i (length (kindsOf ns)) ⨾ done (stateAt (planAs x y ns) (taken .image) i))
     unfolding readStateUnder

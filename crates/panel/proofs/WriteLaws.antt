@@ -3,7 +3,7 @@
 -- Assumes nothing.
 use Prim.Native.Nat.{ℕ, _+_, _-_, _≤_, _<_}
 use native.Mathlib.Omega.{arith}
-use mathlib.Core.Path.{_≡_, sym, ap, ap₂, _∙_}
+use mathlib.Core.Path.{_≡_, refl, sym, ap, ap₂, _∙_}
 use mathlib.Core.Bool.{Bool, true, false, not}
 use mathlib.Core.List.{List, _++_}
 use lib.Dec.{ltb}
@@ -26,14 +26,14 @@ use Rattle.history.specs.Verdict.{done, then, numbers, unnamed, told}
 use Rattle.history.specs.Table.{kindAt}
 use Rattle.history.specs.Image.{element, _of_⨾_, readImage, imageBytes}
 use Rattle.history.specs.Calls.{placed, checkState, writeStateUnder, writeStateCall}
-use Rattle.history.proofs.CallLaws.{AcceptedImage}
+use Rattle.history.specs.Legal.{AcceptedImage}
 use Rattle.history.proofs.CodeLaws.{state-coded, zero-told}
 use Rattle.history.proofs.StateLaws.{Taken, state-taken}
 use Rattle.tables.specs.Outlines.{kindsOf, planAs, Outlined}
 use Rattle.tables.specs.declared.answers.Outline.{Outline}
 use Rattle.tables.proofs.AnswerLaws.{no, yes}
 use Rattle.forms.proofs.KindLaws.{length-kinds}
-use Rattle.forms.proofs.UnderPlan.{table-refused, under-plan}
+use Rattle.forms.proofs.UnderPlan.{Starts, under-plan}
 use Rattle.panel.specs.Places.{placeIn, Sized}
 use Rattle.panel.specs.Writings.{over, imageAnew, elementAnew}
 use Rattle.panel.proofs.ElementPlaces.{image-renewed, own-width}
@@ -77,15 +77,14 @@ module _ (ns : List ℕ) (i : ℕ) (e : Element) where
 
 -- ---- the table
 
-module _ {T : List ℕ} {r : Outline} (o : Outlined T r) (A : List ℕ) (i : ℕ) (e : Element) (position : ℕ) where
-  pub table-writes : (r .answer .code ≡ 0 → ⊥) → r .answer ≡ told (writeStateCall T A i e position)
+module _ (T A : List ℕ) (i : ℕ) (e : Element) (position : ℕ) where
+  pub write-starts : Starts T (writeStateCall T A i e position) (λ p. writeStateUnder p A i e position)
   unfolding writeStateCall
-  table-writes bad = table-refused o bad (λ p. writeStateUnder p A i e position)
+  write-starts = record { is = refl }
 
-  pub write-by-plan : r .answer .code ≡ 0 → {ns : List ℕ} → ns ≡ take (r .count) (r .kinds)
+  pub write-by-plan : {r : Outline} → Outlined T r → r .answer .code ≡ 0 → {ns : List ℕ} → ns ≡ take (r .count) (r .kinds)
       → writeStateUnder (planAs (r .x) (r .y) ns) A i e position ≡ writeStateCall T A i e position
-  unfolding writeStateCall
-  write-by-plan good n = sym (under-plan o good n (λ p. writeStateUnder p A i e position))
+  write-by-plan o good n = under-plan o good n write-starts
 
 -- ---- the image
 

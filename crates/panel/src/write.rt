@@ -16,7 +16,7 @@ use tables::written;
 ghost use mathlib.Core.Path.{_≡_};
 ghost use Prim.Native.Nat.{_+_, _≤_, _-_};
 ghost use lib.ListN.{length};
-ghost use Rattle.history.specs.Verdict.{done, told, settled};
+ghost use Rattle.history.specs.Verdict.{done, told, Leaves};
 ghost use Rattle.history.specs.Calls.{checkState, writeStateUnder, writeStateCall};
 ghost use Rattle.tables.specs.Outlines.{kindsOf, planAs};
 ghost use Rattle.panel.specs.Places.{Sized};
@@ -31,8 +31,7 @@ pub fn write_state(
     position: u32,
     out: &mut [u8],
 ) -> Answer
-    ensures { λ r. ⌜ r ≡ settled (writeStateCall (now (table .entry)) (now (image .entry)) object state position) (now (out .entry)) .answer ⌝ }
-    ensures { λ _. ⌜ now (out .exit) ≡ settled (writeStateCall (now (table .entry)) (now (image .entry)) object state position) (now (out .entry)) .output ⌝ }
+    ensures { λ r. ⌜ Leaves (writeStateCall (now (table .entry)) (now (image .entry)) object state position) (now (out .entry)) r (now (out .exit)) ⌝ }
 {
     let known = outline(table);
     let answer = known.answer;
@@ -66,8 +65,7 @@ fn write_under(
     out: &mut [u8],
 ) -> Answer
     requires { ⌜ length (now kinds) ≤ 1024 ⌝ }
-    ensures { λ r. ⌜ r ≡ settled (writeStateUnder (planAs x y (now (kinds .entry))) (now (image .entry)) object state position) (now (out .entry)) .answer ⌝ }
-    ensures { λ _. ⌜ now (out .exit) ≡ settled (writeStateUnder (planAs x y (now (kinds .entry))) (now (image .entry)) object state position) (now (out .entry)) .output ⌝ }
+    ensures { λ r. ⌜ Leaves (writeStateUnder (planAs x y (now (kinds .entry))) (now (image .entry)) object state position) (now (out .entry)) r (now (out .exit)) ⌝ }
 {
     let answer = check_image_under(x, y, kinds, image);
     if answer.code != 0 {
@@ -110,8 +108,7 @@ fn put_element(
     out: &mut [u8],
 ) -> Answer
     requires { ⌜ Sized (now kinds) (now image) object ⌝ }
-    ensures { λ r. ⌜ r ≡ settled (done (elementAnew (kindsOf (now (kinds .entry))) (now (image .entry)) object position word)) (now (out .entry)) .answer ⌝ }
-    ensures { λ _. ⌜ now (out .exit) ≡ settled (done (elementAnew (kindsOf (now (kinds .entry))) (now (image .entry)) object position word)) (now (out .entry)) .output ⌝ }
+    ensures { λ r. ⌜ Leaves (done (elementAnew (kindsOf (now (kinds .entry))) (now (image .entry)) object position word)) (now (out .entry)) r (now (out .exit)) ⌝ }
 {
     let at = element_place(kinds, object);
     let kind = kind_at(kinds, object);
@@ -129,8 +126,7 @@ fn put_image(
     out: &mut [u8],
 ) -> Answer
     requires { ⌜ (11 ≤ at) × (at ≤ end) × (end ≤ at + 4) × (end ≤ length (now image)) × (length (now image) ≤ 4107) ⌝ }
-    ensures { λ r. ⌜ r ≡ settled (done (imageAnew (now (image .entry)) position at (end - at) word)) (now (out .entry)) .answer ⌝ }
-    ensures { λ _. ⌜ now (out .exit) ≡ settled (done (imageAnew (now (image .entry)) position at (end - at) word)) (now (out .entry)) .output ⌝ }
+    ensures { λ r. ⌜ Leaves (done (imageAnew (now (image .entry)) position at (end - at) word)) (now (out .entry)) r (now (out .exit)) ⌝ }
 {
     let size = image.len();
     if out.len() < size {

@@ -4,10 +4,10 @@ use Prim.Native.Nat.{ℕ}
 use mathlib.Core.Path.{_≡_, refl, ap, _∙_}
 use mathlib.Core.List.{List}
 use Rattle.history.specs.declared.Answer.{Answer}
+use Rattle.history.specs.Verdict.{Leaves}
 use Rattle.history.specs.declared.Standing.{Standing}
 use Rattle.history.specs.Calls.{applyCall}
 use Rattle.history.specs.Standing.{counted, Received, receiveCall}
-use Rattle.history.proofs.OutputLaws.{Leaves}
 use Rattle.receiver.specs.declared.Taken.{Taken}
 use Rattle.receiver.specs.Receive.{answerOf, outputOf, standingOf, takenOf}
 

@@ -1,17 +1,17 @@
 -- `forms::image::check_image` meets its contract: a refused table's answer is the whole answer, and an accepted table's kinds are checked under.
 -- Assumes nothing.
-use native.Mathlib.Omega.{arith}
-use mathlib.Core.Path.{_∙_}
+use mathlib.Core.Path.{ap, _∙_}
 use borrow.Author.Needs.{needs}
-use Rattle.forms.proofs.UnderPlan.{image-refused, image-under, kinds-inside, few-kinds}
+use Rattle.history.specs.Verdict.{told}
+use Rattle.forms.proofs.UnderPlan.{table-refused, image-starts, image-under, kinds-inside, few-kinds}
 use Rattle.forms.proofs.image.check_image.Statement.{statement}
 use Rattle.forms.proofs.image.check_image.Tie as tie
 
 returns : tie.Need-returns
-returns c = image-refused (c .before .before .before .outline .ensures) (λ e. omega arith) _
+returns c = table-refused (c .before .before .before .outline .ensures) (c .if1 .taken) (image-starts _ _)
 
 returns-2 : tie.Need-returns-2
-returns-2 c = c .check-image-under .ensures ∙ search image-under
+returns-2 c = c .check-image-under .ensures ∙ ap told (search image-under)
 
 pub check-image-spec : {M : Type 1} → statement M
 check-image-spec =

@@ -1,17 +1,17 @@
 -- `forms::list::check_list` meets its contract: a refused table's answer is the whole answer, and an accepted table's kinds are checked under.
 -- Assumes nothing.
-use native.Mathlib.Omega.{arith}
-use mathlib.Core.Path.{_∙_}
+use mathlib.Core.Path.{ap, _∙_}
 use borrow.Author.Needs.{needs}
-use Rattle.forms.proofs.UnderPlan.{list-refused, list-under, kinds-inside, few-kinds}
+use Rattle.history.specs.Verdict.{told}
+use Rattle.forms.proofs.UnderPlan.{table-refused, list-starts, list-under, kinds-inside, few-kinds}
 use Rattle.forms.proofs.list.check_list.Statement.{statement}
 use Rattle.forms.proofs.list.check_list.Tie as tie
 
 returns : tie.Need-returns
-returns c = list-refused (c .before .before .before .outline .ensures) (λ e. omega arith) _
+returns c = table-refused (c .before .before .before .outline .ensures) (c .if1 .taken) (list-starts _ _)
 
 returns-2 : tie.Need-returns-2
-returns-2 c = c .check-list-under .ensures ∙ search list-under
+returns-2 c = c .check-list-under .ensures ∙ ap told (search list-under)
 
 pub check-list-spec : {M : Type 1} → statement M
 check-list-spec =

@@ -1,14 +1,14 @@
 -- `panel::write::write_state` meets its contract: a refused table's answer is the answer and the output stays; an accepted one's plan decides.
 -- Assumes nothing.
-use Rattle.forms.proofs.UnderPlan.{kinds-inside, few-kinds}
-use Rattle.history.proofs.OutputLaws.{leaves-as, told-leaves}
-use Rattle.panel.proofs.WriteLaws.{table-writes, write-by-plan}
+use Rattle.forms.proofs.UnderPlan.{table-leaves, kinds-inside, few-kinds}
+use Rattle.history.proofs.OutputLaws.{leaves-as}
+use Rattle.panel.proofs.WriteLaws.{write-starts, write-by-plan}
 use borrow.Author.Needs.{needs}
 use Rattle.panel.proofs.write.write_state.Statement.{statement}
 use Rattle.panel.proofs.write.write_state.Tie as tie
 
 returns : tie.Need-returns
-returns c = told-leaves _ _ (search table-writes) (c .if1 .taken)
+returns c = table-leaves (c .before .before .before .outline .ensures) (c .if1 .taken) (write-starts _ _ _ _ _) _
 
 returns-2 : tie.Need-returns-2
 returns-2 c = leaves-as _ (search write-by-plan) (c .before .before .write-under .ensures)
