@@ -20,7 +20,6 @@ use Rattle.elements.specs.Elements.{datRule, elementCheck, stateOf, stat
 use Rattle.kinds.specs.declared.Kind.{Kind}
 use Rattle.kinds.specs.declared.Element.{Element}
 use Rattle.kinds.specs.declared.Glance.{Glance}
-use Rattle.elements.specs.declared.State.{State}
 use Rattle.elements.proofs.Covering.{cover}
 use Rattle.elements.proofs.DatLaws.{not-stale}
 use Rattle.elements.proofs.Laws.{word-small, compose-padded}
@@ -57,28 +56,10 @@ shown k s on e off = rw (s .accepted on, e, off)
 pub number-at : (k : Kind) {b : List ℕ} {at : ℕ} {g : Glance} {f : Finding} → Glanced k b at g → f ≡ elementCheck k (g .word) → f ≡ elementCheck k (number (take (widthOf k) (drop at b)))
 number-at k s e = e ∙ ap (elementCheck k) (s .read)
 
--- from what `read_fields` ensures
-module _ (k : Kind) (w : ℕ) (r : Fields) (e : r ≡ fieldsRead w (rowsOf k)) where
-  finding : r .finding ≡ checkRows w (rowsOf k)
-  finding = ap (λ (f : Fields). f .finding) e
-
-  answer : Finding → State
-  answer f = onFinding f (State.Read (stateOf k w)) State.Refused
-
-  pub state-refused : (x : Refusal) → r .finding ≡ Finding.Refused x → State.Refused x ≡ stateRead k w
-  unfolding answer stateRead
-  state-refused x t = ap answer (sym t ∙ check-refused k w _ finding x t)
-
-  pub state-stale : (d : Finding) (x : Refusal) → r .finding ≡ Finding.Accepted → d ≡ datRule k w → d ≡ Finding.Refused x → State.Refused x ≡ stateRead k w
-  unfolding answer stateRead
-  state-stale d x t p q = ap answer (sym q ∙ p ∙ check-rest k w _ finding t)
-
-  pub state-read : (d : Finding) (s : Element) → r .finding ≡ Finding.Accepted → d ≡ datRule k w → d ≡ Finding.Accepted → s ≡ elementOf k (r .values) → State.Read s ≡ stateRead k w
-  unfolding answer stateRead stateOf
-  state-read d s t p q h =
-      let all : r .values ≡ padded (valuesOf w (rowsOf k)) =
-      ap (λ (f : Fields). f .values) e ∙ ap (λ (f : Finding). onFinding f (padded (valuesOf w (rowsOf k))) (λ x. replicate 24 0)) (sym finding ∙ t) in
-      ap State.Read (h ∙ ap (elementOf k) all) ∙ ap answer (sym q ∙ p ∙ check-rest k w _ finding t)
+-- from the fields that were read
+pub fields-state : (k : Kind) (w : ℕ) {r : Fields} {s : Element} → r ≡ fieldsRead w (rowsOf k) → s ≡ elementOf k (r .values) → s ≡ stateRead k w
+unfolding stateRead
+fields-state k w e h = h ∙ ap (λ (r : Fields). elementOf k (r .values)) e
 
 -- the rows of a kind are in the table
 pub in-table : (k : Kind) (l : Layout) → l ≡ layoutOf k → (l .first + l .count ≤ rowTotal) × (l .count ≤ 24)

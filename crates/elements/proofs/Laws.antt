@@ -16,7 +16,6 @@ use Rattle.kinds.specs.Kinds.{widthOf, rowsOf, elementOf, elementValues, kindIn
 use Rattle.elements.specs.Elements.{datRule, elementCheck, stateOf, stateRead, wordOf}
 use Rattle.kinds.specs.declared.Kind.{Kind}
 use Rattle.kinds.specs.declared.Element.{Element}
-use Rattle.elements.specs.declared.State.{State}
 use Rattle.elements.proofs.Covering.{cover}
 use Rattle.kinds.proofs.KindLaws.{element-listed, element-back, element-kind, zero-state}
 
@@ -74,6 +73,11 @@ accepted-fields k w = go (checkRows w (rowsOf k))
 pub word-state-word : (k : Kind) (w : ℕ) → w < 2 ^ (8 * widthOf k) → elementCheck k w ≡ Finding.Accepted → wordOf (stateOf k w) ≡ w
 word-state-word k w h ok = fields-word k w h (accepted-fields k w ok)
 
+-- the fields of an accepted number are read as its state
+pub accepted-state : (k : Kind) (w : ℕ) → elementCheck k w ≡ Finding.Accepted → stateRead k w ≡ stateOf k w
+unfolding stateRead stateOf
+accepted-state k w ok = ap (λ (f : Finding). elementOf k (onFinding f (padded (valuesOf w (rowsOf k))) (λ r. replicate 24 0))) (accepted-fields k w ok)
+
 -- ---- what is found of a state's own number
 
 -- nothing but the rule of DAT: with named cases only 12 remains
@@ -84,13 +88,6 @@ state-check e =
     ap (λ (f : Finding). onFinding f (datRule k (wordOf e)) Finding.Refused)
     (within-accepted (wordOf e) (rowsOf k) (subst (Within (rowsOf k)) (sym (own-values e)) (state-within e)))
 
--- a legal state, written and read
-pub read-written : (e : Element) → elementCheck (kindIn e) (wordOf e) ≡ Finding.Accepted → stateRead (kindIn e) (wordOf e) ≡ State.Read e
-unfolding stateRead
-read-written e h =
-    let s = stateOf (kindIn e) (wordOf e) in
-    ap (λ (f : Finding). onFinding f (State.Read s) State.Refused) h ∙ ap State.Read (state-word-state e)
-
 -- the number 0 is that of the state whose fields are all 0
 pub zero-word : (k : Kind) → wordOf (elementOf k []) ≡ 0
 unfolding stateOf
@@ -100,22 +97,3 @@ zero-word k = ap wordOf (sym (zero-state k)) ∙ fields-word k 0 (pow-pos (8 * w
 pub compose-padded : (e : Element) → composeOf (rowsOf (kindIn e)) (padded (elementValues e)) ≡ wordOf e
 unfolding wordOf
 compose-padded e = compose-append (rowsOf (kindIn e)) (elementValues e) (replicate (24 - length (elementValues e)) 0) (state-within e)
-
--- ---- what an answer says
-
-module _ (k : Kind) (w : ℕ) where
-  pub read-read : (e : Element) → State.Read e ≡ stateRead k w → (elementCheck k w ≡ Finding.Accepted) × (e ≡ stateOf k w)
-  unfolding stateRead
-  read-read e = go (elementCheck k w)
-    where
-      go : (f : Finding) → State.Read e ≡ onFinding f (State.Read (stateOf k w)) State.Refused → (f ≡ Finding.Accepted) × (e ≡ stateOf k w)
-      go Finding.Accepted p = (refl, cc)
-      go (Finding.Refused r) p = let z : _≡_ {A = ℕ} 0 1 = cc in absurd (omega arith)
-
-  pub read-refused : (r : Refusal) → State.Refused r ≡ stateRead k w → elementCheck k w ≡ Finding.Refused r
-  unfolding stateRead
-  read-refused r = go (elementCheck k w)
-    where
-      go : (f : Finding) → State.Refused r ≡ onFinding f (State.Read (stateOf k w)) State.Refused → f ≡ Finding.Refused r
-      go Finding.Accepted p = let z : _≡_ {A = ℕ} 0 1 = cc in absurd (omega arith)
-      go (Finding.Refused s) p = cc

@@ -2,14 +2,13 @@
 use mathlib.Core.Bool.{Bool, true, false, cond}
 use Prim.Native.Nat.{ℕ, _%_}
 use lib.Dec.{eqb}
-use Rattle.rows.specs.Fields.{codeAt, checkRows, valuesOf, composeOf, padded, onFinding}
+use Rattle.rows.specs.Fields.{codeAt, checkRows, valuesOf, composeOf, padded, onFinding, fieldsRead}
 use Rattle.rows.specs.declared.Finding.{Finding}
 use Rattle.kinds.specs.Kinds.{layoutOf, layoutNo, rowsOf, sortNumbered, elementOf, elementValues, kindIn}
 use Rattle.kinds.specs.declared.Kind.{Kind}
 use Rattle.kinds.specs.declared.Element.{Element}
 use Rattle.kinds.specs.declared.Sort.{Sort}
 use Rattle.elements.specs.Types.{sortOf}
-use Rattle.elements.specs.declared.State.{State}
 
 -- ---- what is carried
 
@@ -56,6 +55,6 @@ stateOf k w = elementOf k (padded (valuesOf w (rowsOf k)))
 unfoldable pub wordOf : Element → ℕ
 wordOf e = composeOf (rowsOf (kindIn e)) (elementValues e)
 
--- a refused reading gives a code and no state
-unfoldable pub stateRead : Kind → ℕ → State
-stateRead k w = onFinding (elementCheck k w) (State.Read (stateOf k w)) State.Refused
+-- a state by the fields as they are read: of an accepted number it is `stateOf`
+unfoldable pub stateRead : Kind → ℕ → Element
+stateRead k w = elementOf k (fieldsRead w (rowsOf k) .values)

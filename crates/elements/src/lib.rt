@@ -20,12 +20,6 @@ ghost use Rattle.rows.specs.Fields.{codeAt, checkRows, fieldsRead};
 ghost use Rattle.kinds.specs.Kinds.{layoutNo, widthOf, rowsOf};
 ghost use Rattle.elements.specs.Elements.{carried, kindOf, kindNumbered, sameKind, datRule, elementCheck, stateRead, wordOf};
 
-// What reading an element as a state gives.
-pub enum State {
-    Read(Element),
-    Refused(Refusal),
-}
-
 // Fields from bit 0 up, then the rule of DAT. Only where a glance doesn't show that it is accepted are its rows gone through.
 pub fn check_element(word: u32, kind: Kind) -> Finding
     ensures { λ r. ⌜ r ≡ elementCheck kind word ⌝ }
@@ -48,21 +42,13 @@ pub fn check_at(s: &[u8], at: usize, kind: Kind) -> Finding
     check_by_rows(glance.word, kind)
 }
 
-// The state of an element, or its refusal.
-pub fn read_state(word: u32, kind: Kind) -> State
+// The state of a number; of one with a refused field that of zeros, so that no caller has a case for it.
+pub fn state_of(word: u32, kind: Kind) -> Element
     ensures { λ r. ⌜ r ≡ stateRead kind word ⌝ }
 {
     let fields = read_fields(word, kind);
-    let finding = fields.finding;
     let values = fields.values;
-    if let Finding::Refused(r) = finding {
-        return State::Refused(r);
-    }
-    let silent = dat_rule(word, kind);
-    if let Finding::Refused(r) = silent {
-        return State::Refused(r);
-    }
-    State::Read(kinds::element_of(kind, values))
+    kinds::element_of(kind, values)
 }
 
 // The number of a state.

@@ -1,5 +1,5 @@
-// The floor of forms: the checks of an image and of a change list under its table, and of a table. It uses tables, elements and
-// octets; it writes no output and keeps nothing.
+// The floor of forms: the checks of an image and of a change list under its table. It uses tables, elements and octets; it writes no
+// output and keeps nothing.
 mod image;
 mod list;
 mod objects;
@@ -10,4 +10,3 @@ pub use list::check_list;
 pub use list::check_list_under;
 pub use objects::kind_at;
 pub use objects::widths_of;
-pub use tables::check_table;

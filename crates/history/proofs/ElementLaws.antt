@@ -12,11 +12,11 @@ use Rattle.rows.specs.Fields.{codeAt}
 use Rattle.rows.specs.declared.Finding.{Finding}
 use Rattle.rows.specs.declared.Refusal.{Refusal}
 use Rattle.kinds.specs.Kinds.{layoutNo, widthOf, kindIn}
-use Rattle.elements.specs.Elements.{sameKind, elementCheck, stateOf, wordOf}
+use Rattle.elements.specs.Elements.{sameKind, elementCheck, stateOf, wordOf, stateRead}
 use Rattle.kinds.specs.declared.Kind.{Kind}
 use Rattle.kinds.specs.declared.Element.{Element}
 use Rattle.elements.proofs.Covering.{cover, kind-same}
-use Rattle.elements.proofs.Laws.{word-fits, state-word-state, word-state-word}
+use Rattle.elements.proofs.Laws.{word-fits, state-word-state, word-state-word, accepted-state}
 use Rattle.elements.proofs.DatLaws.{Stale, state-accepted, state-stale}
 use Rattle.elements.proofs.Findings.{Refuses, element-refuses, zero-found}
 use Rattle.history.specs.Verdict.{Verdict, done}
@@ -61,6 +61,11 @@ unfolding element
 word-again k w h =
     let fits : w < 2 ^ (8 * widthOf k) = rw (pow-256 (widthOf k)) at (admits-fits k w h) in
     word-state-word k w fits (accepted (elementCheck k w) (admits-accepted k w h))
+
+-- the fields of an element are read as its state
+pub admits-read : (k : Kind) (w : ℕ) → admits k w ≡ true → stateRead k w ≡ stateOf k w
+unfolding element
+admits-read k w h = accepted-state k w (accepted (elementCheck k w) (admits-accepted k w h))
 
 -- the state of a state's number
 pub state-again : (k : Kind) (e : Element) → kindIn e ≡ k → stateOf k (wordOf e) ≡ e

@@ -1,17 +1,14 @@
--- The turns of the loops that write a number, copy bytes and compare bytes: what is done and what is left make up the whole.
+-- The turns of the loops that write a number and copy bytes: what is done and what is left make up the whole.
 -- Assumes nothing.
 use Prim.Native.Nat.{ℕ, zero, suc, _+_, _-_, _/_, _%_, _≤_, _<_}
 use native.Mathlib.Omega.{arith}
 use native.Mathlib.Nat.{le-of-suc-le-suc, not-suc-le-zero}
 use native.Mathlib.Numerals.{add-one}
 use mathlib.Core.Path.{_≡_, refl, sym, ap, _∙_}
-use mathlib.Core.Bool.{Bool, true, false, _&&_}
 use mathlib.Core.List.{List, [], _∷_, _++_, append-assoc, append-nil}
-use lib.Dec.{eqb}
 use lib.ListN.{length, take, drop, getD, set, length-set}
 use lib.Seq.{drop-length, take-length, drop-cons, take-suc-set}
-use borrow.Author.Tests.{eq-eqb, ne-eqb}
-use Rattle.octets.specs.Octets.{bytes, sameBytes}
+use Rattle.octets.specs.Octets.{bytes}
 use Rattle.octets.proofs.NumberLaws.{bytes-snoc}
 
 -- the element at the cursor, and the rest after it
@@ -98,28 +95,3 @@ copy-turn part from i h k = rw (drop-next from i k, take-store part i (getD from
 
 pub copy-end : (part from : List ℕ) (i : ℕ) → i ≡ length from → i ≡ length part → take i part ++ drop i from ≡ part
 copy-end part from i e f = ap (λ (k : ℕ). take i part ++ drop k from) e ∙ rw (drop-length, append-nil, f, take-length)
-
--- ---- the same bytes
-
-pub same-apart : (xs ys : List ℕ) → (length xs ≡ length ys → ⊥) → sameBytes xs ys ≡ false
-same-apart [] [] n = absurd (n refl)
-same-apart [] (y ∷ ys) n = refl
-same-apart (x ∷ xs) [] n = refl
-same-apart (x ∷ xs) (y ∷ ys) n = rw (same-apart xs ys (λ e. n (ap suc e))) (never (eqb x y))
-  where
-    never : (t : Bool) → (t && false) ≡ false
-    never true = refl
-    never false = refl
-
--- the answer for the whole is the answer for what is left from i on
-module _ (xs ys : List ℕ) (i : ℕ) (left : sameBytes xs ys ≡ sameBytes (drop i xs) (drop i ys)) where
-  pub same-next : i < length xs → i < length ys → getD xs i 0 ≡ getD ys i 0 → sameBytes xs ys ≡ sameBytes (drop (i + 1) xs) (drop (i + 1) ys)
-  same-next h k e = left ∙ rw (drop-next xs i h, drop-next ys i k, e, eq-eqb _ _ refl)
-
-  pub same-stop : i < length xs → i < length ys → (getD xs i 0 ≡ getD ys i 0 → ⊥) → false ≡ sameBytes xs ys
-  same-stop h k n = sym (left ∙ rw (drop-next xs i h, drop-next ys i k, ne-eqb _ _ n))
-
-  pub same-end : i ≤ length xs → length xs ≤ i → length xs ≡ length ys → true ≡ sameBytes xs ys
-  same-end h k e =
-      let f : i ≡ length xs = omega arith in
-      sym (left ∙ ap (λ (j : ℕ). sameBytes (drop j xs) (drop i ys)) f ∙ rw (f ∙ e, drop-length xs, drop-length ys))

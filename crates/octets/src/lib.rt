@@ -3,7 +3,7 @@
 ghost use mathlib.Core.Path.{_≡_};
 ghost use Prim.Native.Nat.{_+_, _≤_, _<_, _^_};
 ghost use lib.ListN.{length, take, drop};
-ghost use Rattle.octets.specs.Octets.{bytes, number, sameBytes};
+ghost use Rattle.octets.specs.Octets.{bytes, number};
 
 // The number of at most four bytes.
 pub fn get(part: &[u8]) -> u32
@@ -82,21 +82,4 @@ pub fn copy(part: &mut [u8], from: &[u8])
         part[i] = from[i];
         i += 1;
     }
-}
-
-// Whether the two are the same bytes.
-pub fn same(a: &[u8], b: &[u8]) -> bool
-    ensures { λ r. ⌜ r ≡ sameBytes (now (a .entry)) (now (b .entry)) ⌝ }
-{
-    if a.len() != b.len() {
-        return false;
-    }
-    let mut i = 0;
-    while i < a.len() {
-        if a[i] != b[i] {
-            return false;
-        }
-        i += 1;
-    }
-    true
 }

@@ -12,21 +12,17 @@ use borrow.Author.Tests.{lt-ltb, le-ltb}
 use mir.Syntax.{w8}
 use mir.Val.{Fits}
 use Rattle.octets.specs.Octets.{number}
-use Rattle.rows.specs.declared.Finding.{Finding}
-use Rattle.rows.specs.declared.Refusal.{Refusal}
 use Rattle.kinds.specs.Kinds.{widthOf}
 use Rattle.kinds.specs.declared.Kind.{Kind}
 use Rattle.kinds.specs.declared.Element.{Element}
-use Rattle.elements.specs.Elements.{elementCheck, stateRead, stateOf}
-use Rattle.elements.specs.declared.State.{State}
-use Rattle.elements.proofs.Laws.{read-read, read-refused}
+use Rattle.elements.specs.Elements.{stateRead, stateOf}
 use Rattle.history.specs.declared.Answer.{Answer}
 use Rattle.history.specs.Verdict.{Verdict, refused, done, then, refusalAt, _unless_⨾_, numbers, told}
 use Rattle.history.specs.Table.{kindAt}
-use Rattle.history.specs.Image.{element, readImage}
+use Rattle.history.specs.Image.{readImage}
 use Rattle.history.specs.Calls.{stateAt, readStateUnder, readStateCall}
 use Rattle.history.specs.Legal.{admits, Every, nil, and, AcceptedImage}
-use Rattle.history.proofs.ElementLaws.{admits-accepted}
+use Rattle.history.proofs.ElementLaws.{admits-read}
 use Rattle.tables.specs.Outlines.{kindsOf, planAs, Outlined}
 use Rattle.tables.specs.declared.answers.Outline.{Outline}
 use Rattle.tables.proofs.AnswerLaws.{told-first}
@@ -76,12 +72,6 @@ admitted-at nil i l = absurd (omega arith)
 admitted-at (and h r) zero l = h
 admitted-at (and h r) (suc i) l = admitted-at r i (omega arith)
 
-never-refused : (k : Kind) (w : ℕ) (r : Refusal) → admits k w ≡ true → elementCheck k w ≡ Finding.Refused r → ⊥
-unfolding element
-never-refused k w r h e =
-    let z : _≡_ {A = ℕ} 0 1 = cc (admits-accepted k w h) in
-    omega arith
-
 module _ (x y : ℕ) (ns A : List ℕ) (i : ℕ) {r : Answer} (r-is : r ≡ told (readImage (planAs x y ns) A)) where
   pub image-read : (r .code ≡ 0 → ⊥) → Reading.Refused r ≡ readingOf (readStateUnder (planAs x y ns) A i)
   unfolding readStateUnder
@@ -119,11 +109,8 @@ module _ (x y : ℕ) (ns A : List ℕ) (i : ℕ) {r : Answer} (r-is : r ≡ told
         admitted : admits kind word ≡ true
         admitted = rw (kind-is, own-word) (admitted-at (taken .legal .words) i inside-kinds)
 
-        pub state-is : {e : Element} {s : State} → s ≡ State.Read e → s ≡ stateRead kind word → Reading.State e ≡ readingOf (readStateUnder (planAs x y ns) A i)
+        pub state-is : {e : Element} → e ≡ stateRead kind word → Reading.State e ≡ readingOf (readStateUnder (planAs x y ns) A i)
         unfolding readingOf
-        state-is {e} s-is s-read =
+        state-is {e} e-is =
             let own : readStateUnder (planAs x y ns) A i ≡ done (stateAt (planAs x y ns) (taken .image) i) = under ∙ rw (lt-ltb i (length (kindsOf ns)) inside-kinds) in
-            ap Reading.State (read-read kind word e (sym s-is ∙ s-read) .1 ∙ ap₂ stateOf kind-is own-word) ∙ sym (ap readingOf own)
-
-        pub no-refusal : {f : Refusal} {s : State} → s ≡ State.Refused f → s ≡ stateRead kind word → {q : Reading} → q ≡ readingOf (readStateUnder (planAs x y ns) A i)
-        no-refusal {f} s-is s-read = absurd (never-refused kind word f admitted (read-refused kind word f (sym s-is ∙ s-read)))
+            ap Reading.State (e-is ∙ admits-read kind word admitted ∙ ap₂ stateOf kind-is own-word) ∙ sym (ap readingOf own)

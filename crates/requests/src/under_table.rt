@@ -9,7 +9,7 @@ use script::print_answer;
 // An image stands first and a list second; a difference has two images, a join two lists.
 pub fn ask(line: &[u8], table: &[u8], one: &[u8], two: &[u8], out: &mut [u8]) {
     if begins(line, b"check_table ") {
-        print_answer(forms::check_table(table));
+        print_answer(tables::check_table(table));
     } else if begins(line, b"open ") {
         print_answer(view::open_answer(table));
     } else if begins(line, b"check_image ") {

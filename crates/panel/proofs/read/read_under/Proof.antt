@@ -1,7 +1,6 @@
--- `panel::read::read_under` meets its contract: the image's refusal, 13, or the state at the object's place; an accepted image's
--- element is never refused.
+-- `panel::read::read_under` meets its contract: the image's refusal, 13, or the state at the object's place.
 -- Assumes nothing.
-use Rattle.panel.proofs.ReadLaws.{image-read, other-object, image-sized, state-is, no-refusal}
+use Rattle.panel.proofs.ReadLaws.{image-read, other-object, image-sized, state-is}
 use borrow.Author.Needs.{needs}
 use Rattle.panel.proofs.read.read_under.Statement.{statement}
 use Rattle.panel.proofs.read.read_under.Tie as tie
@@ -15,9 +14,6 @@ returns-2 c = search other-object
 returns-3 : tie.Need-returns-3
 returns-3 c = search state-is
 
-returns-4 : tie.Need-returns-4
-returns-4 c = search no-refusal
-
 pub read-under-spec : {M : Type 1} → statement M
 read-under-spec =
     tie.close
@@ -29,8 +25,4 @@ read-under-spec =
     (λ c κs. search needs)
     (λ c κs. search image-sized)
     (λ c κs. search needs)
-    (λ c. search needs)
-    (λ c. search needs)
-    (λ c κs. search needs)
-    returns-3
-    returns-4)
+    returns-3)
