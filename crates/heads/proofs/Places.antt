@@ -1,0 +1,38 @@
+-- How the places lie: what is read of a head stands before them.
+-- Assumes nothing.
+use Prim.Native.Nat.{ℕ, _-_, _≤_}
+use native.Mathlib.Omega.{arith}
+use mathlib.Core.Path.{_≡_, refl, ap, _∙_}
+use mathlib.Core.List.{List}
+use lib.ListN.{length, getD, take, drop}
+use Rattle.history.specs.Image.{elementsFrom}
+use Rattle.heads.specs.Heads.{objectsPlace, elementsPlace, imageHead, elementsIn, entriesPlace}
+use Rattle.heads.proofs.Forms.{to-end}
+
+-- version, X, Y and the count stand before a table's objects
+pub objects-place : objectsPlace ≡ 9
+unfolding objectsPlace
+objects-place = refl
+
+-- .. and the position before an image's elements
+pub elements-place : (version : ℕ) → elementsPlace version ≡ 11
+unfolding elementsPlace elementsFrom
+elements-place version = refl
+
+pub head-place : (b : List ℕ) → 11 ≤ imageHead b
+unfolding imageHead
+head-place b = omega (arith, elements-place (getD b 4 0))
+
+module _ (b : List ℕ) (place : ℕ) (e : place ≡ elementsPlace (getD b 4 0)) where
+  pub place-inside : imageHead b ≤ length b → place ≤ length b
+  unfolding imageHead
+  place-inside h = omega arith
+
+  pub elements-from : take (length b - place) (drop place b) ≡ elementsIn b
+  unfolding elementsIn imageHead
+  elements-from = to-end place b ∙ ap (λ (n : ℕ). drop n b) e
+
+-- .. and the positions and the count before a list's entries
+pub entries-place : entriesPlace ≡ 17
+unfolding entriesPlace
+entries-place = refl
