@@ -11,7 +11,7 @@ use lib.Seq.{drop-drop}
 use borrow.Author.Tests.{eq-eqb, ne-eqb}
 use Rattle.octets.specs.Octets.{number}
 use Rattle.history.specs.Verdict.{done, then, refusal, _unless_⨾_, told, unnamed}
-use Rattle.history.specs.Image.{Image, imageVersionGood, widths, readWords, readImage}
+use Rattle.history.specs.Image.{Image, imageVersionGood, widths, readWords, elementsFrom, readImage}
 use Rattle.history.specs.Form.{isWhole}
 use Rattle.tables.specs.Under.{isUnder}
 use Rattle.tables.specs.Outlines.{kindsOf, planAs}
@@ -28,7 +28,7 @@ module _ (x y : ℕ) (ns b : List ℕ) where
   chain : readImage (planAs x y ns) b
       ≡ (refusal 1 unless isWhole 7 b ⨾ refusal 2 unless imageVersionGood (getD b 4 0) ⨾ refusal 9 unless isUnder x y b ⨾
       refusal 8 unless eqb (length (drop 7 b)) (4 + widths (kindsOf ns)) ⨾ then (readWords 0 (kindsOf ns) (drop 4 (drop 7 b))) (λ ws. done (imageIn b ws)))
-  unfolding readImage isUnder imageIn
+  unfolding readImage elementsFrom isUnder imageIn
   chain = form-then 7 imageVersionGood b _
 
   pub not-whole : isWhole 7 b ≡ false → unnamed 1 0 ≡ told (readImage (planAs x y ns) b)
