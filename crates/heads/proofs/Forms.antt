@@ -14,6 +14,10 @@ use Rattle.history.specs.Form.{Form, isWhole, readForm}
 use Rattle.history.proofs.FormLaws.{whole}
 use Rattle.heads.specs.Heads.{isUnder, objectsPlace, entriesPlace}
 
+pub table-inside : (b : List ℕ) → isWhole 5 b ≡ true → objectsPlace ≤ length b
+unfolding objectsPlace
+table-inside b h = whole 5 b h .long
+
 -- how long a form is that passed the first test
 module _ {t : Bool} where
   pub long-enough : (least : ℕ) (b : List ℕ) → t ≡ isWhole least b → not t ≡ false → (n : ℕ) → n ≤ 4 + least → n ≤ length b
@@ -21,8 +25,7 @@ module _ {t : Bool} where
 
   -- the count of a whole table is inside, and so are the positions and the count of a whole list
   pub table-room : (b : List ℕ) → t ≡ isWhole 5 b → not t ≡ false → objectsPlace ≤ length b
-  unfolding objectsPlace
-  table-room b e h = long-enough 5 b e h 9 (omega arith)
+  table-room b e h = table-inside b (sym e ∙ not-false t h)
 
   pub list-room : (b : List ℕ) → t ≡ isWhole 13 b → not t ≡ false → entriesPlace ≤ length b
   unfolding entriesPlace
