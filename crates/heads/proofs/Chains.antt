@@ -1,8 +1,8 @@
--- Each form's check in the code's order, by what stands in its bytes.
+-- Each form's check in the code's order, by what stands in its bytes; and that its head is inside where it is accepted.
 -- Assumes nothing.
 use Prim.Native.Nat.{ℕ, _+_, _≤_}
 use native.Mathlib.Omega.{arith}
-use mathlib.Core.Path.{_≡_, refl, ap, ap₂, _∙_}
+use mathlib.Core.Path.{_≡_, refl, sym, ap, ap₂, _∙_}
 use mathlib.Core.Bool.{Bool, true, false}
 use mathlib.Core.List.{List, []}
 use lib.Dec.{eqb, leb}
@@ -16,9 +16,10 @@ use Rattle.history.specs.Table.{Object, Table, Plan, versionGood, catalogueGood
 use Rattle.history.specs.Image.{Image, imageVersionGood, widths, readWords, elementsFrom, readImage}
 use Rattle.history.specs.declared.Change.{Change}
 use Rattle.history.specs.Changes.{Changes, listVersion, readEntries, readList}
+use Rattle.history.proofs.VerdictLaws.{held}
 use Rattle.history.proofs.FormLaws.{whole}
 use Rattle.heads.specs.Heads.{isUnder, countIn, objectsPlace, elementsPlace, imageHead, positionIn, elementsIn, fromIn, toIn, entryCountIn, entriesPlace, entriesIn}
-use Rattle.heads.proofs.Forms.{form-then}
+use Rattle.heads.proofs.Forms.{form-then, table-inside}
 
 -- what follows may use that the test holds
 unless-same : {A : Type 0} (t : Bool) (r : Verdict A) {u v : Verdict A} → (t ≡ true → u ≡ v) → (r unless t ⨾ u) ≡ (r unless t ⨾ v)
@@ -43,6 +44,9 @@ pub table-chain : (b : List ℕ) → readTable b
 unfolding readTable countIn objectsPlace
 table-chain b = form-then 5 versionGood b _ ∙ rw (drop-drop 2 7 b)
 
+pub table-held : (b : List ℕ) {t : Table} → readTable b ≡ done t → objectsPlace ≤ length b
+table-held b e = table-inside b (held (isWhole 5 b) _ _ _ _ (sym (table-chain b) ∙ e) .0)
+
 -- 1, 2, 9, 8, then the elements
 abbrev pub imageWith : List ℕ → List ℕ → Image
 imageWith b ws = record { version = getD b 4 0; position = positionIn b; words = ws }
@@ -60,6 +64,14 @@ image-chain p b =
     ∙ unless-same (isWhole 7 b) (refusal 1) λ h.
     let size : eqb (length (drop 7 b)) (from + w) ≡ eqb (length b) (7 + from + w) = eqb-left 7 (from + w) b (omega (arith, whole 7 b h .long)) ∙ ap (eqb (length b)) (omega arith) in
     ap (λ (v : Verdict Image). refusal 2 unless imageVersionGood (getD b 4 0) ⨾ v) (ap₂ last size (drop-drop from 7 b))
+
+pub image-held : (p : Plan) (b : List ℕ) {a : Image} → readImage p b ≡ done a → imageHead b ≤ length b
+image-held p b e =
+    let p₁ = held (isWhole 7 b) _ _ _ _ (sym (image-chain p b) ∙ e) in
+    let p₂ = held (imageVersionGood (getD b 4 0)) _ _ _ _ (p₁ .1) in
+    let p₃ = held (isUnder (p .x) (p .y) b) _ _ _ _ (p₂ .1) in
+    let p₄ = held (eqb (length b) (imageHead b + widths (p .kinds))) _ _ _ _ (p₃ .1) in
+    omega (arith, eqb-true (length b) (imageHead b + widths (p .kinds)) (p₄ .0))
 
 -- 1, 2, 9, then the entries
 abbrev pub listWith : List ℕ → List Change → Changes

@@ -1,22 +1,26 @@
--- Where the parts of an accepted image or list stand in its bytes.
+-- Where the parts of a table, an image and a list stand in their bytes.
 -- Assumes nothing.
 use Prim.Native.Nat.{ℕ, _+_, _-_, _≤_}
 use native.Mathlib.Omega.{arith}
 use mathlib.Core.Path.{_≡_, refl, ap, _∙_}
 use mathlib.Core.List.{List, _++_}
-use lib.ListN.{length, take, length-append, length-drop}
+use lib.ListN.{length, take, drop, length-append, length-drop}
 use Rattle.octets.specs.Octets.{bytes, number}
 use Rattle.octets.proofs.NumberLaws.{length-bytes, read-bytes}
 use Rattle.history.specs.Form.{formBytes}
-use Rattle.history.specs.Table.{Plan}
+use Rattle.history.specs.Table.{Table, objectsBytes, tableBytes, Plan}
 use Rattle.history.specs.Image.{Image, widths, wordsBytes, imageBytes, elementsFrom}
 use Rattle.history.specs.Changes.{Changes, entries, entriesBytes, listBytes}
 use Rattle.history.specs.Legal.{LegalImage}
 use Rattle.history.proofs.ImageLaws.{length-words}
 use Rattle.history.proofs.CallLaws.{AcceptedImage, AcceptedList}
-use Rattle.heads.specs.Heads.{elementsPlace, imageHead, positionIn, elementsIn, fromIn, toIn, entryCountIn, entriesPlace, entriesIn}
+use Rattle.heads.specs.Heads.{objectsPlace, elementsPlace, imageHead, positionIn, elementsIn, fromIn, toIn, entryCountIn, entriesPlace, entriesIn}
 
--- ---- an image as it is written
+-- ---- a table and an image as they are written
+
+pub written-objects : (t : Table) → drop objectsPlace (tableBytes t) ≡ objectsBytes (t .objects)
+unfolding objectsPlace tableBytes formBytes bytes
+written-objects t = refl
 
 pub written-elements : (p : Plan) (a : Image) → elementsIn (imageBytes p a) ≡ wordsBytes (p .kinds) (a .words)
 unfolding elementsIn imageHead elementsPlace elementsFrom imageBytes formBytes bytes
