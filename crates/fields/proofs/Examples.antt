@@ -10,7 +10,7 @@ use Rattle.elements.specs.Elements.{carried, kindOf, datRule, elementCheck, sta
 use Rattle.history.specs.Verdict.{refused, done, numbers, unnamed}
 use Rattle.history.specs.Form.{formBytes, isWhole, readForm}
 use Rattle.history.specs.Table.{versionGood, catalogueGood, labelLimit, labelGood, checkObject, readTable, planOf}
-use Rattle.history.specs.Image.{imageVersionGood, element, imageBytes, readImage}
+use Rattle.history.specs.Image.{imageVersionGood, element, imageBytes, elementsFrom, readImage}
 use Rattle.history.specs.Calls.{readPlan, readStateUnder, readStateCall, checkState, writeStateUnder, writeStateCall}
 use Rattle.history.proofs.Examples.{T, A, C, T3, A3}
 use Rattle.panel.specs.declared.read.Reading.{Reading}
@@ -31,13 +31,13 @@ pub taken-in : (writeFieldsCall T A 1 2 (1 ∷ 2 ∷ replicate 30 0) 9 ≡ done 
     × (writeFieldsCall T A 1 4 (1 ∷ 4 ∷ replicate 30 0) 9 ≡ refused 22 1 255)
     × (writeFieldsCall T A 7 2 (1 ∷ 4 ∷ replicate 30 0) 9 ≡ refused 13 7 255)
     × (writeFieldsCall T A 1 2 (0 ∷ 1 ∷ replicate 30 0) 9 ≡ refused 12 1 0)
-unfolding table layouts datRule elementCheck stateOf wordOf bytes formBytes isWhole readForm versionGood catalogueGood labelLimit carried kindOf labelGood checkObject readTable planOf imageVersionGood element imageBytes readImage readPlan readStateUnder readStateCall checkState writeStateUnder writeStateCall writeFieldsCall
+unfolding table layouts datRule elementCheck stateOf wordOf bytes formBytes isWhole readForm versionGood catalogueGood labelLimit carried kindOf labelGood checkObject readTable planOf imageVersionGood element imageBytes elementsFrom readImage readPlan readStateUnder readStateCall checkState writeStateUnder writeStateCall writeFieldsCall
 taken-in = (refl, refl, refl, refl, refl)
 
 -- a signal's number is 31 under catalogue 3.0 and 1 under 1.0: the other's is refused with 22
 pub other-signal : (writeFieldsCall T3 A3 0 1 (1 ∷ replicate 31 0) 7 ≡ refused 22 0 255)
     × (writeFieldsCall (set T3 5 1) (set (set A3 5 1) 14 0x01) 0 31 (1 ∷ replicate 31 0) 7 ≡ refused 22 0 255)
-unfolding table layouts datRule elementCheck stateOf wordOf bytes formBytes isWhole readForm versionGood catalogueGood labelLimit carried kindOf labelGood checkObject readTable planOf imageVersionGood element imageBytes readImage readPlan readStateUnder readStateCall checkState writeStateUnder writeStateCall writeFieldsCall
+unfolding table layouts datRule elementCheck stateOf wordOf bytes formBytes isWhole readForm versionGood catalogueGood labelLimit carried kindOf labelGood checkObject readTable planOf imageVersionGood element imageBytes elementsFrom readImage readPlan readStateUnder readStateCall checkState writeStateUnder writeStateCall writeFieldsCall
 other-signal = (refl, refl)
 
 -- two faults at once: table, image and 13 before 22, 22 before 11, the lowest value before another, 11 before 12; a value of one bit; a number that
@@ -49,5 +49,5 @@ pub taken-orders : (writeFieldsCall (set T 6 1) (take 3 A) 7 4 (1 ∷ 4 ∷ repl
     × (writeFieldsCall T A 0 4 (1 ∷ 0 ∷ 0 ∷ 2 ∷ replicate 28 0) 9 ≡ refused 11 0 3)
     × (writeFieldsCall T A 1 10 (1 ∷ 2 ∷ replicate 30 0) 9 ≡ refused 22 1 255)
     × (writeFieldsCall T A 1 2 (1 ∷ 2 ∷ replicate 30 9) 9 ≡ done C)
-unfolding table layouts datRule elementCheck stateOf wordOf bytes formBytes isWhole readForm versionGood catalogueGood labelLimit carried kindOf labelGood checkObject readTable planOf imageVersionGood element imageBytes readImage readPlan readStateUnder readStateCall checkState writeStateUnder writeStateCall writeFieldsCall
+unfolding table layouts datRule elementCheck stateOf wordOf bytes formBytes isWhole readForm versionGood catalogueGood labelLimit carried kindOf labelGood checkObject readTable planOf imageVersionGood element imageBytes elementsFrom readImage readPlan readStateUnder readStateCall checkState writeStateUnder writeStateCall writeFieldsCall
 taken-orders = (refl, refl, refl, refl, refl, refl, refl)

@@ -1,12 +1,14 @@
 // The check of an image: 1, 2, 9, 8, then its elements from object 0 up.
 use super::objects::kind_at;
 use super::objects::widths_of;
+use heads::elements_of;
+use heads::elements_place;
+use heads::is_under;
+use heads::is_whole;
 use history::Answer;
 use rows::Finding;
 use tables::accepted;
 use tables::first_kinds;
-use tables::is_under;
-use tables::is_whole;
 use tables::outline;
 use tables::refused;
 use tables::refused_bit;
@@ -47,10 +49,10 @@ pub fn check_image_under(x: u8, y: u8, kinds: &[u8], image: &[u8]) -> Answer
     if !is_under(image, x, y) {
         return refused(9);
     }
-    if image.len() != 11 + widths_of(kinds) {
+    if image.len() != elements_place(image[4]) + widths_of(kinds) {
         return refused(8);
     }
-    check_words(kinds, &image[11..])
+    check_words(kinds, elements_of(image))
 }
 
 // The version byte is one that is read.

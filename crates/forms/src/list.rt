@@ -1,12 +1,14 @@
 // The check of a change list: 1, 2, 9, then entry by entry 8, 13, 14, 8, old element, new element, 15; last 8.
 use super::objects::kind_at;
+use heads::entries_of;
+use heads::entry_count;
+use heads::is_under;
+use heads::is_whole;
 use history::Answer;
 use kinds::Kind;
 use rows::Finding;
 use tables::accepted;
 use tables::first_kinds;
-use tables::is_under;
-use tables::is_whole;
 use tables::outline;
 use tables::refused;
 use tables::refused_at;
@@ -50,8 +52,7 @@ pub fn check_list_under(x: u8, y: u8, kinds: &[u8], list: &[u8]) -> Answer
     if !is_under(list, x, y) {
         return refused(9);
     }
-    let count = octets::get_at(list, 15, 2) as usize;
-    check_entries(kinds, count, &list[17..])
+    check_entries(kinds, entry_count(list), entries_of(list))
 }
 
 // As many entries as are counted fill the bytes.

@@ -21,7 +21,7 @@ use Rattle.elements.proofs.Annex.{one-kind}
 use Rattle.history.specs.Verdict.{refused, done, then, refusal, _unless_⨾_}
 use Rattle.history.specs.Form.{Form, readForm}
 use Rattle.history.specs.Table.{Object, Table, object, versionGood, catalogueGood, readObjects, readTable, Plan, planOf, kindAt, sameCatalogue}
-use Rattle.history.specs.Image.{Image, imageVersionGood, element, _of_⨾_, widths, readWords, readImage}
+use Rattle.history.specs.Image.{Image, imageVersionGood, element, _of_⨾_, widths, readWords, elementsFrom, readImage}
 use Rattle.history.specs.Changes.{Changes, readEntries, listVersion, readList}
 use Rattle.history.specs.Calls.{readPlan, tableCall, imageCall, listCall, readStateCall, checkState, writeStateUnder, writeStateCall}
 use Rattle.history.proofs.VerdictLaws.{left, right, either, refuted, past, stopped, passed-up}
@@ -126,10 +126,10 @@ module _ (T : List ℕ) {t : Table} (rt : tableCall T ≡ done t) where
       p : Plan
       p = planOf t
 
-      rest : Named Not9 {A = Image} (refusal 8 unless eqb (length (f .contents)) (4 + widths (p .kinds)) ⨾ then (readWords 0 (p .kinds) (drop 4 (f .contents))) λ ws. done (record { version = f .version; position = number (take 4 (f .contents)); words = ws }))
+      rest : Named Not9 {A = Image} (refusal 8 unless eqb (length (f .contents)) (elementsFrom (f .version) + widths (p .kinds)) ⨾ then (readWords 0 (p .kinds) (drop (elementsFrom (f .version)) (f .contents))) λ ws. done (record { version = f .version; position = number (take 4 (f .contents)); words = ws }))
       rest =
-          named-unless (eqb (length (f .contents)) (4 + widths (p .kinds))) _ _ (λ f. refuses (λ c. omega arith)) λ t.
-          named-then (readWords 0 (p .kinds) (drop 4 (f .contents))) _ (words-named (p .kinds) (field-not-9 (p .kinds)) 0 (p .kinds) _ refl) λ ws q. accepts
+          named-unless (eqb (length (f .contents)) (elementsFrom (f .version) + widths (p .kinds))) _ _ (λ f. refuses (λ c. omega arith)) λ t.
+          named-then (readWords 0 (p .kinds) (drop (elementsFrom (f .version)) (f .contents))) _ (words-named (p .kinds) (field-not-9 (p .kinds)) 0 (p .kinds) _ refl) λ ws q. accepts
 
   pub other-list : (L : List ℕ) {f : Form} → readForm 13 (eqb listVersion) L ≡ done f → (listCall T L ≡ refusal 9) ↔ (OfTable f t → ⊥)
   unfolding listCall readList

@@ -16,7 +16,7 @@ use Rattle.octets.specs.Octets.{bytes, number, Bytes}
 use Rattle.history.specs.Verdict.{done}
 use Rattle.history.specs.Form.{Form, formBytes, readForm}
 use Rattle.history.specs.Table.{Plan, sameCatalogue}
-use Rattle.history.specs.Image.{Image, imageVersionGood, element, widths, wordsBytes, imageBytes, readWords, readImage}
+use Rattle.history.specs.Image.{Image, imageVersionGood, element, widths, wordsBytes, imageBytes, readWords, elementsFrom, readImage}
 use Rattle.history.specs.Legal.{admits, Every, nil, and, LegalImage}
 use Rattle.octets.proofs.NumberLaws.{length-bytes, read-bytes, drop-bytes, drop-is, cut, below}
 use Rattle.history.proofs.VerdictLaws.{all, left, right, held, used}
@@ -88,7 +88,7 @@ contents-are p f b o x y long ws e a a-is =
     )
 
 pub image-is : (p : Plan) (b : List ℕ) {a : Image} → Bytes b → readImage p b ≡ done a → LegalImage p a × (b ≡ imageBytes p a)
-unfolding readImage
+unfolding readImage elementsFrom
 image-is p b {a} h e =
     let q = used (readForm 7 imageVersionGood b) _ e in
     let f = q .0 in
@@ -103,7 +103,7 @@ pub record Fair (p : Plan) : Type 0 where
   pub count : length (p .kinds) ≤ 1024
 
 pub image-reads : {p : Plan} {a : Image} → Fair p → LegalImage p a → readImage p (imageBytes p a) ≡ done a
-unfolding readImage imageBytes
+unfolding readImage elementsFrom imageBytes
 image-reads {p} {a} f h =
     let b : List ℕ = wordsBytes (p .kinds) (a .words) in
     let c : List ℕ = bytes 4 (a .position) ++ b in

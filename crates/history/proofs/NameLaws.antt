@@ -23,7 +23,7 @@ use Rattle.history.specs.declared.Answer.{Answer}
 use Rattle.history.specs.Verdict.{Verdict, refused, done, then, _unless_⨾_, Outcome, numbers, unnamed, told, settled}
 use Rattle.history.specs.Form.{isWhole, readForm}
 use Rattle.history.specs.Table.{Object, Plan, versionGood, catalogueGood, labelLimit, labelGood, repeats, ObjectEntry, objectAt, checkObject, readObjects, readTable, planOf, kindAt, sameCatalogue}
-use Rattle.history.specs.Image.{Image, imageVersionGood, element, _of_⨾_, widths, readWords, readImage}
+use Rattle.history.specs.Image.{Image, imageVersionGood, element, _of_⨾_, widths, readWords, elementsFrom, readImage}
 use Rattle.history.specs.declared.Change.{Change}
 use Rattle.history.specs.declared.Change.the-variants.{Keep as keep, Swap as swap}
 use Rattle.history.specs.Changes.{Changes, listVersion, Entry, entryAt, checkChange, checkEntry, readEntries, readList}
@@ -170,8 +170,8 @@ unfolding readImage
 image-named p b =
     named-then (readForm 7 imageVersionGood b) _ (form-named 7 imageVersionGood b) λ f e.
     named-test (sameCatalogue f p) _ _ refl λ t.
-    named-test (eqb (length (f .contents)) (4 + widths (p .kinds))) _ _ refl λ t.
-    named-then (readWords 0 (p .kinds) (drop 4 (f .contents))) _ (words-named (p .kinds) (λ code i bit. its-field) 0 (p .kinds) _ refl) λ ws e. accepts
+    named-test (eqb (length (f .contents)) (elementsFrom (f .version) + widths (p .kinds))) _ _ refl λ t.
+    named-then (readWords 0 (p .kinds) (drop (elementsFrom (f .version)) (f .contents))) _ (words-named (p .kinds) (λ code i bit. its-field) 0 (p .kinds) _ refl) λ ws e. accepts
 
 -- the two bytes of a number stand in a list
 pub record Stands (L : List ℕ) (i : ℕ) : Type 0 where
@@ -256,10 +256,10 @@ image-long p b {a} e =
     let q = used (readForm 7 imageVersionGood b) _ e in
     let f = q .0 in
     let q₁ = held (sameCatalogue f p) _ _ _ _ (q .2) in
-    let q₂ = held (eqb (length (f .contents)) (4 + widths (p .kinds))) _ _ _ _ (q₁ .1) in
-    let q₃ = used (readWords 0 (p .kinds) (drop 4 (f .contents))) _ (q₂ .1) in
+    let q₂ = held (eqb (length (f .contents)) (elementsFrom (f .version) + widths (p .kinds))) _ _ _ _ (q₁ .1) in
+    let q₃ = used (readWords 0 (p .kinds) (drop (elementsFrom (f .version)) (f .contents))) _ (q₂ .1) in
     let ws-is : a .words ≡ q₃ .0 = cc (q₃ .2) in
-    ap length ws-is ∙ words-long 0 (p .kinds) (drop 4 (f .contents)) (q₃ .1)
+    ap length ws-is ∙ words-long 0 (p .kinds) (drop (elementsFrom (f .version)) (f .contents)) (q₃ .1)
 
 -- .. and an accepted list something to say of each
 entries-long : (ks : List Kind) (m low : ℕ) (b : List ℕ) {cs : List Change} → low ≤ length ks → readEntries ks low m b ≡ done cs → low + length cs ≡ length ks

@@ -59,11 +59,15 @@ readWords i (k ∷ ks) b =
     then (readWords (suc i) ks (drop (widthOf k) b)) λ ws.
     done (number (take (widthOf k) b) ∷ ws)
 
+-- where the elements begin in the contents, by the version byte: after the position
+unfoldable pub elementsFrom : ℕ → ℕ
+elementsFrom version = 4
+
 -- 1, 2, 9, 8, then elements
 unfoldable pub readImage : Plan → List ℕ → Verdict Image
 readImage p b =
     then (readForm 7 imageVersionGood b) λ f.
     refusal 9 unless sameCatalogue f p ⨾
-    refusal 8 unless eqb (length (f .contents)) (4 + widths (p .kinds)) ⨾
-    then (readWords 0 (p .kinds) (drop 4 (f .contents))) λ ws.
+    refusal 8 unless eqb (length (f .contents)) (elementsFrom (f .version) + widths (p .kinds)) ⨾
+    then (readWords 0 (p .kinds) (drop (elementsFrom (f .version)) (f .contents))) λ ws.
     done (record { version = f .version; position = number (take 4 (f .contents)); words = ws })

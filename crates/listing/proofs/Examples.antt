@@ -11,7 +11,7 @@ use Rattle.elements.specs.Elements.{carried, kindOf, datRule, elementCheck}
 use Rattle.history.specs.Verdict.{refused, done}
 use Rattle.history.specs.Form.{isWhole, readForm}
 use Rattle.history.specs.Table.{versionGood, catalogueGood, labelLimit, labelGood, checkObject, readTable, planOf}
-use Rattle.history.specs.Image.{imageVersionGood, element, readImage}
+use Rattle.history.specs.Image.{imageVersionGood, element, elementsFrom, readImage}
 use Rattle.history.proofs.Examples.{T, A, T3, A3}
 use Rattle.text.specs.Decimal.{decimalIn, decimal}
 use Rattle.text.specs.Hex.{hexDigit}
@@ -41,7 +41,7 @@ pub listings : (listingOf (T ++ A) ≡ lines)
     × (listingCall (T ++ A) ≡ done lines)
     × (listingCall (T ++ set A 13 9) ≡ refused 10 1 3)
     × (listingCall (take 23 T) ≡ refused 1 65535 255)
-unfolding bytes table layouts carried kindOf datRule elementCheck isWhole readForm versionGood catalogueGood labelLimit labelGood checkObject readTable planOf imageVersionGood element readImage decimalIn decimal hexDigit readBoth readPanel firstLine objectLine refusedLine listingCall printed listingOf
+unfolding bytes table layouts carried kindOf datRule elementCheck isWhole readForm versionGood catalogueGood labelLimit labelGood checkObject readTable planOf imageVersionGood element elementsFrom readImage decimalIn decimal hexDigit readBoth readPanel firstLine objectLine refusedLine listingCall printed listingOf
 listings = (refl, refl, refl, refl, refl, refl)
 
 -- "refused 1 65535 255" and "refused 3 65535 255", each with its newline
@@ -56,5 +56,5 @@ pub short-listings : (listingOf (take 3 T) ≡ unnamed 0x31)
     × (listingOf T ≡ unnamed 0x31)
     × (listingOf (set T 6 1 ++ take 3 A) ≡ unnamed 0x33)
     × (listingOf (0 ∷ 0 ∷ 0 ∷ 5 ∷ 1 ∷ 1 ∷ 0 ∷ 0 ∷ 0 ∷ 0 ∷ 0 ∷ 0 ∷ 7 ∷ 1 ∷ 1 ∷ 0 ∷ 0 ∷ 0 ∷ 1 ∷ 0 ∷ []) ≡ 0x31 ∷ 0x2E ∷ 0x30 ∷ 0x20 ∷ 0x32 ∷ 0x35 ∷ 0x36 ∷ 0x20 ∷ 0x30 ∷ 0x0A ∷ [])
-unfolding bytes table layouts carried kindOf datRule elementCheck isWhole readForm versionGood catalogueGood labelLimit labelGood checkObject readTable planOf imageVersionGood element readImage decimalIn decimal hexDigit readBoth readPanel firstLine objectLine refusedLine listingCall printed listingOf
+unfolding bytes table layouts carried kindOf datRule elementCheck isWhole readForm versionGood catalogueGood labelLimit labelGood checkObject readTable planOf imageVersionGood element elementsFrom readImage decimalIn decimal hexDigit readBoth readPanel firstLine objectLine refusedLine listingCall printed listingOf
 short-listings = (refl, refl, refl, refl, refl)

@@ -1,6 +1,6 @@
 -- What an accepted table and image are read as, and where it stands in their bytes; and what a refusal of either tells.
 -- Assumes nothing.
-use Prim.Native.Nat.{ℕ, _+_, _-_, _≤_}
+use Prim.Native.Nat.{ℕ, _+_, _-_, _≤_, _<_}
 use native.Mathlib.Omega.{arith}
 use mathlib.Core.Path.{_≡_, refl, sym, ap, _∙_}
 use mathlib.Core.List.{List, _++_}
@@ -8,21 +8,23 @@ use lib.ListN.{length, take, drop, getD, length-map}
 use lib.Seq.{sets-eq}
 use mir.Syntax.{w8}
 use mir.Val.{Fits}
-use Rattle.octets.specs.Octets.{bytes, number}
-use Rattle.octets.proofs.NumberLaws.{read-bytes}
+use Rattle.octets.specs.Octets.{bytes}
 use Rattle.elements.specs.Elements.{kindOf}
 use Rattle.history.specs.declared.Answer.{Answer}
 use Rattle.history.specs.Verdict.{Verdict, refused, done, then, unnamed, told, settled, Leaves}
-use Rattle.history.specs.Form.{formBytes, readForm}
-use Rattle.history.specs.Table.{Object, Table, Plan, objectsBytes, tableBytes, versionGood, readTable, planOf}
-use Rattle.history.specs.Image.{Image, wordsBytes, imageBytes, imageVersionGood, readImage}
+use Rattle.history.specs.Form.{formBytes}
+use Rattle.history.specs.Table.{Object, Table, Plan, objectsBytes, tableBytes, readTable, planOf}
+use Rattle.history.specs.Image.{Image, wordsBytes, readImage}
 use Rattle.history.specs.Calls.{readPlan, imageCall}
 use Rattle.history.specs.Legal.{LegalTable, Every, admits}
 use Rattle.history.proofs.VerdictLaws.{used}
-use Rattle.history.proofs.FormLaws.{form-whole}
 use Rattle.history.proofs.TableLaws.{table-is, plan-fair}
 use Rattle.history.proofs.CodeLaws.{image-coded, zero-told}
 use Rattle.history.proofs.OutputLaws.{leaves-as, written-leaves}
+use Rattle.heads.specs.Heads.{objectsPlace, imageHead, positionIn, elementsIn}
+use Rattle.heads.proofs.Places.{objects-place}
+use Rattle.heads.proofs.Chains.{table-held, image-held}
+use Rattle.heads.proofs.Parts.{written-objects, position-in, elements-in}
 use Rattle.tables.specs.Outlines.{kindsOf, planAs, Outlined}
 use Rattle.tables.specs.declared.answers.Outline.{Outline}
 use Rattle.tables.proofs.AnswerLaws.{told-then}
@@ -60,16 +62,15 @@ table-told {b} o n a = table-refused o n (image-starts b a) ∙ both-told b a
 
 -- ---- an accepted table and image
 
--- their heads are whole, and the objects few
-pub nine : {b a ns : List ℕ} → Ready b a ns → 9 ≤ length b
-unfolding readPlan readTable
-nine {b} r = form-whole 5 versionGood b (used (readForm 5 versionGood b) _ (used (readTable b) _ (r .plan) .1) .1) .long
+-- the table's X and Y and the image's position are inside, and the objects are few
+pub version-inside : {b a ns : List ℕ} → Ready b a ns → 6 < length b
+unfolding readPlan
+version-inside {b} r = omega (arith, objects-place, table-held b (used (readTable b) _ (r .plan) .1))
 
-pub eleven : {b a ns : List ℕ} → Ready b a ns → 11 ≤ length a
-unfolding readImage
-eleven {a = a} {ns} r =
+pub position-inside : {b a ns : List ℕ} → Ready b a ns → imageHead a ≤ length a
+position-inside {a = a} {ns} r =
     let p = planAs (r .x) (r .y) ns in
-    form-whole 7 imageVersionGood a (used (readForm 7 imageVersionGood a) _ (zero-told (readImage p a) (image-coded p a) (r .image) .1) .1) .long
+    image-held p a (zero-told (readImage p a) (image-coded p a) (r .image) .1)
 
 pub few : {b a ns : List ℕ} → Ready b a ns → length ns ≤ 1024
 few {b} {ns = ns} r = omega (arith, plan-fair b (r .plan) .count, length-kinds ns)
@@ -84,12 +85,12 @@ pub record Read (b a ns : List ℕ) : Type 0 where
   pub count : length (table .objects) ≡ length ns
   pub x : getD b 5 0 ≡ table .x
   pub y : getD b 6 0 ≡ table .y
-  pub position : number (take 4 (drop 7 a)) ≡ image .position
-  pub entries : drop 9 b ≡ objectsBytes (table .objects)
-  pub elements : drop 11 a ≡ wordsBytes (kindsOf ns) (image .words)
+  pub position : positionIn a ≡ image .position
+  pub entries : drop objectsPlace b ≡ objectsBytes (table .objects)
+  pub elements : elementsIn a ≡ wordsBytes (kindsOf ns) (image .words)
   pub each : Every admits (kindsOf ns) (image .words)
 
--- the parts of a written form
+-- X and Y of a written table
 module _ (t : Table) where
   table-x : getD (tableBytes t) 5 0 ≡ t .x
   unfolding tableBytes formBytes bytes
@@ -98,19 +99,6 @@ module _ (t : Table) where
   table-y : getD (tableBytes t) 6 0 ≡ t .y
   unfolding tableBytes formBytes bytes
   table-y = refl
-
-  table-entries : drop 9 (tableBytes t) ≡ objectsBytes (t .objects)
-  unfolding tableBytes formBytes bytes
-  table-entries = refl
-
-module _ (p : Plan) (a : Image) where
-  image-contents : drop 7 (imageBytes p a) ≡ bytes 4 (a .position) ++ wordsBytes (p .kinds) (a .words)
-  unfolding imageBytes formBytes bytes
-  image-contents = refl
-
-  image-elements : drop 11 (imageBytes p a) ≡ wordsBytes (p .kinds) (a .words)
-  unfolding imageBytes formBytes bytes
-  image-elements = refl
 
 both-read : (b a : List ℕ) {t : Table} {p : Plan} {i : Image} → readTable b ≡ done t → planOf t ≡ p → readImage p a ≡ done i
     → readBoth b a ≡ done (record { table = t; image = i })
@@ -133,7 +121,6 @@ read-as {b} {a} {ns} r hb ha =
     let tab = table-is b (t .1) in
     let b-is = tab .same (λ i. hb i .fits) in
     let i = image-accepted (planAs (r .x) (r .y) ns) a ha (r .image) refl in
-    let a-is = i .same in
     let kinds : planOf (t .0) .kinds ≡ kindsOf ns = ap (λ (p : Plan). p .kinds) plan in
     record {
       table = t .0;
@@ -144,9 +131,9 @@ read-as {b} {a} {ns} r hb ha =
       count = plan-length (t .0) ∙ ap length kinds ∙ length-kinds ns;
       x = ap (λ (c : List ℕ). getD c 5 0) b-is ∙ table-x (t .0);
       y = ap (λ (c : List ℕ). getD c 6 0) b-is ∙ table-y (t .0);
-      position = ap (λ (c : List ℕ). number (take 4 (drop 7 c))) a-is ∙ ap (λ (c : List ℕ). number (take 4 c)) (image-contents _ (i .image)) ∙ read-bytes 4 (i .image .position) _ (i .legal .position);
-      entries = ap (drop 9) b-is ∙ table-entries (t .0);
-      elements = ap (drop 11) a-is ∙ image-elements _ (i .image);
+      position = position-in i;
+      entries = ap (drop objectsPlace) b-is ∙ written-objects (t .0);
+      elements = elements-in i;
       each = i .legal .words;
     }
 
@@ -169,7 +156,7 @@ module _ {b : List ℕ} {r : Outline} (o : Outlined b r) (z : r .answer .code �
 
 -- ---- its text
 
-text-in : {b a ns : List ℕ} (r : Read b a ns) → textOf (readBoth b a) ≡ done (firstLine (getD b 5 0) (getD b 6 0) (number (take 4 (drop 7 a))) (length ns) ++ linesIn (readBoth b a))
+text-in : {b a ns : List ℕ} (r : Read b a ns) → textOf (readBoth b a) ≡ done (firstLine (getD b 5 0) (getD b 6 0) (positionIn a) (length ns) ++ linesIn (readBoth b a))
 unfolding linesIn
 text-in {b} {a} {ns} r =
     ap textOf (r .reads)
@@ -184,7 +171,7 @@ wrote-leaves {text = text} {l} e w h q =
     leaves-as l (sym e) (written-leaves text l long h q here)
 
 -- the first line and those below it are all that is written
-module _ {b a ns : List ℕ} (ready : Ready b a ns) (hb : Held b) (ha : Held a) {position : ℕ} (e : position ≡ number (take 4 (drop 7 a))) {l m n : List ℕ} {p q : ℕ}
+module _ {b a ns : List ℕ} (ready : Ready b a ns) (hb : Held b) (ha : Held a) {position : ℕ} (e : position ≡ positionIn a) {l m n : List ℕ} {p q : ℕ}
     (w : Wrote l 0 (firstLine (getD b 5 0) (getD b 6 0) position (length ns)) m p) (v : Wrote m p (linesIn (readBoth b a)) n q) (h : 65536 ≤ length l)
     {r : Answer} (r-is : r ≡ unnamed 0 q) where
   lines-leave : Leaves (textOf (readBoth b a)) l r n

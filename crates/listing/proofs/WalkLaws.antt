@@ -15,6 +15,7 @@ use Rattle.kinds.specs.declared.Kind.{Kind}
 use Rattle.history.specs.Table.{Object, objectsBytes, kindAt}
 use Rattle.history.specs.Image.{wordsBytes}
 use Rattle.history.specs.Legal.{Every, and, admits}
+use Rattle.heads.specs.Heads.{objectsPlace, elementsIn}
 use Rattle.tables.specs.Outlines.{kindsOf}
 use Rattle.forms.proofs.KindLaws.{length-kinds, kinds-next, kinds-end}
 use Rattle.text.specs.Wrote.{Wrote}
@@ -22,9 +23,9 @@ use Rattle.text.proofs.Laws.{then}
 use Rattle.listing.specs.Listing.{readBoth, objectLine, linesOf}
 use Rattle.listing.specs.Walk.{lineSize, Ready, linesIn}
 use Rattle.listing.proofs.LineLaws.{object-length}
-use Rattle.listing.proofs.PanelLaws.{Held, few, eleven, Read, read-as}
+use Rattle.listing.proofs.PanelLaws.{Held, few, Read, read-as}
 
--- the objects left: their entries from one place on, their elements from another
+-- the objects left: their entries in the table from one place on, and in the image's elements theirs from another
 pub record Ahead (b a : List ℕ) (ks : List Kind) (os : List Object) (ws : List ℕ) (entry place : ℕ) : Type 0 where
   pub entries : drop entry b ≡ objectsBytes os
   pub elements : drop place a ≡ wordsBytes ks ws
@@ -84,7 +85,7 @@ unfolding linesIn
 lines-in r = ap linesIn (r .reads) ∙ ap (λ (ks : List Kind). linesOf 0 (r .table .objects) ks (r .image .words)) (r .kinds)
 
 -- the lines so far are written, and the objects from i on are ahead
-pub record Walked (b a ns out₀ : List ℕ) (at : ℕ) (out : List ℕ) (to entry place i : ℕ) : Type 0 where
+pub record Walked (b a ns elements out₀ : List ℕ) (at : ℕ) (out : List ℕ) (to entry place i : ℕ) : Type 0 where
   pub written : List ℕ
   pub objects : List Object
   pub words : List ℕ
@@ -94,10 +95,11 @@ pub record Walked (b a ns out₀ : List ℕ) (at : ℕ) (out : List ℕ) (to ent
   pub space : at + length (linesIn (readBoth b a)) ≤ length out₀
   pub so-far : Wrote out₀ at written out to
   pub whole : linesIn (readBoth b a) ≡ written ++ linesOf i objects (drop i (kindsOf ns)) words
-  pub ahead : Ahead b a (drop i (kindsOf ns)) objects words entry place
+  pub ahead : Ahead b elements (drop i (kindsOf ns)) objects words entry place
 
-pub begin : {b a ns : List ℕ} → Ready b a ns → Held b → Held a → (out : List ℕ) (at : ℕ) → at + length (linesIn (readBoth b a)) ≤ length out → Walked b a ns out at out at 9 11 0
-begin {b} {a} {ns} ready hb ha out at h =
+pub begin : {b a ns : List ℕ} → Ready b a ns → Held b → Held a → (elements : List ℕ) → elements ≡ elementsIn a → (entry : ℕ) → entry ≡ objectsPlace
+    → (out : List ℕ) (at : ℕ) → at + length (linesIn (readBoth b a)) ≤ length out → Walked b a ns elements out at out at entry 0 0
+begin {b} {a} {ns} ready hb ha elements e entry f out at h =
     let r = read-as ready hb ha in
     record {
       written = [];
@@ -109,10 +111,10 @@ begin {b} {a} {ns} ready hb ha out at h =
       space = h;
       so-far = record { next = omega arith; text = refl };
       whole = lines-in r;
-      ahead = record { entries = r .entries; elements = r .elements; each = r .each; count = r .count ∙ sym (length-kinds ns); inside = eleven ready };
+      ahead = record { entries = ap (λ (n : ℕ). drop n b) f ∙ r .entries; elements = e ∙ r .elements; each = r .each; count = r .count ∙ sym (length-kinds ns); inside = omega arith };
     }
 
-module _ {b a ns out₀ : List ℕ} {at : ℕ} {out : List ℕ} {to entry place i : ℕ} (l : Walked b a ns out₀ at out to entry place i) where
+module _ {b a ns elements out₀ : List ℕ} {at : ℕ} {out : List ℕ} {to entry place i : ℕ} (l : Walked b a ns elements out₀ at out to entry place i) where
   pub ended : length ns ≤ i → Wrote out₀ at (linesIn (readBoth b a)) out to
   ended h =
       let last : linesOf i (l .objects) (drop i (kindsOf ns)) (l .words) ≡ [] = ap (λ (ks : List Kind). linesOf i (l .objects) ks (l .words)) (kinds-end ns i h) ∙ lines-none i (l .objects) (l .words) in
@@ -135,8 +137,8 @@ module _ {b a ns out₀ : List ℕ} {at : ℕ} {out : List ℕ} {to entry place 
 
   module _ (h : i < length ns) where
     -- the next object
-    here : Next b a (kindAt (kindsOf ns) i) (drop (i + 1) (kindsOf ns)) i entry place (linesOf i (l .objects) (drop i (kindsOf ns)) (l .words))
-    here = next b a entry place i (kinds-next ns i h) (l .ahead)
+    here : Next b elements (kindAt (kindsOf ns) i) (drop (i + 1) (kindsOf ns)) i entry place (linesOf i (l .objects) (drop i (kindsOf ns)) (l .words))
+    here = next b elements entry place i (kinds-next ns i h) (l .ahead)
 
     -- over what the code has in hand: where the label ends
     pub label-inside : {end : ℕ} → end ≡ entry + 2 + getD b (entry + 1) 0 → end ≤ length b
@@ -147,7 +149,7 @@ module _ {b a ns out₀ : List ℕ} {at : ℕ} {out : List ℕ} {to entry place 
       width-is : w ≡ widthOf (kindAt (kindsOf ns) i)
       width-is = w-is ∙ ap widthOf kind-is
 
-      pub element-inside : place + w ≤ length a
+      pub element-inside : place + w ≤ length elements
       element-inside = omega (arith, here .element-inside, width-is)
 
       module _ {end : ℕ} (end-is : end ≡ entry + 2 + getD b (entry + 1) 0) where
@@ -155,7 +157,7 @@ module _ {b a ns out₀ : List ℕ} {at : ℕ} {out : List ℕ} {to entry place 
         label = take (end - (entry + 2)) (drop (entry + 2) b)
 
         abbrev element : List ℕ
-        element = take (place + w - place) (drop place a)
+        element = take (place + w - place) (drop place elements)
 
         abbrev later : List ℕ
         later = linesOf (i + 1) (here .objects) (drop (i + 1) (kindsOf ns)) (here .words)
@@ -164,7 +166,7 @@ module _ {b a ns out₀ : List ℕ} {at : ℕ} {out : List ℕ} {to entry place 
         lines-are =
             let size : end - (entry + 2) ≡ getD b (entry + 1) 0 = omega arith in
             let wide : place + w - place ≡ widthOf (kindAt (kindsOf ns) i) = omega (arith, width-is) in
-            l .whole ∙ ap (λ (r : List ℕ). l .written ++ r) (here .first ∙ (λ j. objectLine i (getD b entry 0) (take (sym size j) (drop (entry + 2) b)) (take (sym wide j) (drop place a)) ++ linesOf (sym (add-one i) j) (here .objects) (drop (i + 1) (kindsOf ns)) (here .words)))
+            l .whole ∙ ap (λ (r : List ℕ). l .written ++ r) (here .first ∙ (λ j. objectLine i (getD b entry 0) (take (sym size j) (drop (entry + 2) b)) (take (sym wide j) (drop place elements)) ++ linesOf (sym (add-one i) j) (here .objects) (drop (i + 1) (kindsOf ns)) (here .words)))
 
         pub has-room : to + lineSize i (getD b entry 0) label element ≤ length out
         has-room =
@@ -180,7 +182,7 @@ module _ {b a ns out₀ : List ℕ} {at : ℕ} {out : List ℕ} {to entry place 
             )
 
         pub goes-on : {out′ : List ℕ} {to′ : ℕ} → length out′ ≡ length out → Wrote out to (objectLine i (getD b entry 0) label element) out′ to′
-            → Walked b a ns out₀ at out′ to′ end (place + w) (i + 1)
+            → Walked b a ns elements out₀ at out′ to′ end (place + w) (i + 1)
         goes-on e v = record {
           written = l .written ++ objectLine i (getD b entry 0) label element;
           objects = here .objects;

@@ -3,6 +3,9 @@ use super::lines::put_first_line;
 use super::lines::put_object_line;
 use forms::check_image_under;
 use forms::kind_at;
+use heads::elements_of;
+use heads::objects_place;
+use heads::position_of;
 use history::Answer;
 use tables::outline;
 use tables::written;
@@ -41,7 +44,7 @@ fn put_accepted(table: &[u8], image: &[u8], kinds: &[u8], out: &mut [u8]) -> Ans
     requires { ⌜ 65536 ≤ length (now out) ⌝ }
     ensures { λ r. ⌜ Leaves (textOf (readBoth (now (table .entry)) (now (image .entry)))) (now (out .entry)) r (now (out .exit)) ⌝ }
 {
-    let position = octets::get_at(image, 7, 4);
+    let position = position_of(image);
     let count = kinds.len() as u32;
     let at = put_first_line(out, table[5], table[6], position, count);
     written(put_objects(table, image, kinds, out, at) as u32)
@@ -53,9 +56,10 @@ fn put_objects(table: &[u8], image: &[u8], kinds: &[u8], out: &mut [u8], at: usi
     requires { ⌜ at + length (linesIn (readBoth (now table) (now image))) ≤ length (now out) ⌝ }
     ensures { λ r. ⌜ Wrote (now (out .entry)) at (linesIn (readBoth (now (table .entry)) (now (image .entry)))) (now (out .exit)) r ⌝ }
 {
+    let elements = elements_of(image);
     let mut to = at;
-    let mut entry = 9;
-    let mut place = 11;
+    let mut entry = objects_place();
+    let mut place = 0;
     let mut i = 0;
     while i < kinds.len() {
         let label = entry + 2;
@@ -67,7 +71,7 @@ fn put_objects(table: &[u8], image: &[u8], kinds: &[u8], out: &mut [u8], at: usi
             i as u32,
             table[entry],
             &table[label..next],
-            &image[place..end],
+            &elements[place..end],
         );
         entry = next;
         place = end;

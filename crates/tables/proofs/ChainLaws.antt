@@ -15,7 +15,7 @@ use Rattle.history.specs.Table.{Object}
 use Rattle.history.proofs.TableLaws.{object-eq}
 use Rattle.tables.specs.Places.{placeOf, hashAt}
 use Rattle.tables.specs.Hashes.{hashOf}
-use Rattle.tables.proofs.PlaceLaws.{objectOf, place-nine, place-before}
+use Rattle.tables.proofs.PlaceLaws.{objectOf, place-behind, place-before}
 use Rattle.tables.proofs.LabelLaws.{hash-few}
 use Rattle.tables.proofs.RepeatLaws.{same}
 
@@ -86,7 +86,7 @@ module _ {b : List ℕ} {k : ℕ} {heads links starts : List ℕ} (c : Chained b
     pub start-low : (at : ℕ) → at ≡ placeOf b k → getD starts (j - 1) 0 + 2 ≤ at
     start-low at e =
         ⊎-elim
-        (λ z. let first : j - 1 ≡ 0 = omega arith in rw first (omega (arith, c .none (omega arith) .1, place-nine b k at e)))
+        (λ z. let first : j - 1 ≡ 0 = omega arith in rw first (omega (arith, c .none (omega arith) .1, place-behind b k at e)))
         (λ l. omega (arith, place-before b (j - 1) k (getD starts (j - 1) 0) at _ (omega arith) (c .start (j - 1) (omega arith)) e refl))
         (eq-zero-or-pos k)
 

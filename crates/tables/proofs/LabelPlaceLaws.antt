@@ -19,7 +19,9 @@ use Rattle.history.specs.Calls.{tableCall, Place, labelPlace, labelCall}
 use Rattle.history.proofs.LabelLaws.{LabelIs, label-is}
 use Rattle.history.proofs.TableLaws.{nobody}
 use Rattle.tables.specs.declared.place.LabelAt.{LabelAt}
-use Rattle.tables.specs.Places.{countIn, placeOf}
+use Rattle.heads.specs.Heads.{countIn, objectsPlace}
+use Rattle.heads.proofs.Places.{label-from}
+use Rattle.tables.specs.Places.{placeOf}
 use Rattle.tables.specs.LabelPlaces.{noLabel, labelTold, LabelFound}
 use Rattle.tables.proofs.AnswerLaws.{told-first}
 use Rattle.tables.proofs.EntryLaws.{GoodEntry}
@@ -53,9 +55,9 @@ bytes-snoc [] o = simp length-append (omega arith)
 bytes-snoc (p ∷ os) o = simp length-append (omega (arith, bytes-snoc os o))
 
 -- where an entry begins, in the written form
-place-is : (b : List ℕ) (i : ℕ) → ((k : ℕ) → k < i → GoodEntry b (placeOf b k)) → 9 + length (objectsBytes (objectsBelow b i)) ≡ placeOf b i
+place-is : (b : List ℕ) (i : ℕ) → ((k : ℕ) → k < i → GoodEntry b (placeOf b k)) → objectsPlace + length (objectsBytes (objectsBelow b i)) ≡ placeOf b i
 unfolding placeOf
-place-is b zero h = refl
+place-is b zero h = omega arith
 place-is b (suc i) h =
     let p : ℕ = placeOf b i in
     let g = h i (omega arith) in
@@ -70,10 +72,10 @@ label-place-is : (b : List ℕ) {t : Table} → Accepted b t → (i : ℕ) → i
 label-place-is b {t} a i h =
     let p : ℕ = placeOf b i in
     let front : take i (t .objects) ≡ objectsBelow b i = ap (take i) (a .objects) ∙ take-below b (countIn b) i (omega arith) in
-    let there : 9 + length (objectsBytes (objectsBelow b i)) ≡ p = place-is b i (λ k m. a .each k (omega arith)) in
-    let offset : 9 + (length (objectsBytes (take i (t .objects))) + 2) ≡ p + 2 = omega (arith, ap (λ (os : List Object). length (objectsBytes os)) front) in
+    let there : objectsPlace + length (objectsBytes (objectsBelow b i)) ≡ p = place-is b i (λ k m. a .each k (omega arith)) in
+    let offset : objectsPlace + (length (objectsBytes (take i (t .objects))) + 2) ≡ p + 2 = omega (arith, ap (λ (os : List Object). length (objectsBytes os)) front) in
     let size : length (object t i .label) ≡ getD b (p + 1) 0 = ap (λ (o : Object). length (o .label)) (object-is b a i h) ∙ part-length b (p + 2) (getD b (p + 1) 0) (omega (arith, a .each i h .all)) in
-    λ j. record { offset = offset j; size = size j }
+    label-from t i ∙ (λ j. record { offset = offset j; size = size j })
 
 -- ---- each answer
 

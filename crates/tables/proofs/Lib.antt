@@ -1,6 +1,4 @@
 pub mod AnswerLaws
-pub mod WholeLaws
-pub mod Forms
 pub mod RuleLaws
 pub mod LabelLaws
 pub mod EntryLaws

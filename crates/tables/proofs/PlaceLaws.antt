@@ -14,6 +14,7 @@ use borrow.Author.Tests.{le-leb, lt-leb, leb-true, leb-false, eq-eqb, ne-eqb, eq
 use Rattle.history.specs.Verdict.{Verdict, done, then, refusal, refusalAt, _unless_⨾_}
 use Rattle.elements.specs.Elements.{carried}
 use Rattle.history.specs.Table.{Object, ObjectEntry, objectAt, labelLimit, labelGood, sameObject, repeats, checkObject, readObjects}
+use Rattle.heads.proofs.Places.{objects-place}
 use Rattle.tables.specs.Places.{placeOf, checkObjectAt}
 use Rattle.tables.proofs.AnswerLaws.{then-same}
 use Rattle.tables.proofs.EntryLaws.{good-entry}
@@ -56,9 +57,9 @@ place-more b j (suc n) = rw add-suc (omega (arith, place-more b j n, place-suc b
 place-le : (b : List ℕ) (j k : ℕ) → j ≤ k → placeOf b j ≤ placeOf b k
 place-le b j k h = let e : j + (k - j) ≡ k = omega arith in rw e at (place-more b j (k - j))
 
-pub place-nine : (b : List ℕ) (k at : ℕ) → at ≡ placeOf b k → 9 ≤ at
+pub place-behind : (b : List ℕ) (k at : ℕ) → at ≡ placeOf b k → 2 ≤ at
 unfolding placeOf
-place-nine b k at e = omega (arith, place-le b 0 k (omega arith))
+place-behind b k at e = omega (arith, objects-place, place-le b 0 k (omega arith))
 
 -- the next place, by the entry's size as the code has it
 pub place-next : (b : List ℕ) (k at size : ℕ) → at ≡ placeOf b k → size ≡ 2 + getD b (at + 1) 0 → at + size ≡ placeOf b (k + 1)

@@ -17,7 +17,8 @@ use Rattle.history.specs.declared.Answer.{Answer}
 use Rattle.history.specs.Verdict.{Verdict, refused, done, told}
 use Rattle.history.specs.Table.{Object, Table, planOf}
 use Rattle.history.specs.Calls.{tableCall, readPlan}
-use Rattle.tables.specs.Places.{countIn}
+use Rattle.heads.specs.Heads.{countIn, objectsPlace}
+use Rattle.heads.proofs.Places.{objects-place}
 use Rattle.tables.specs.Outlines.{kindsOf, layoutsIn, outlineOf, Outlined}
 use Rattle.tables.proofs.PlaceLaws.{objectOf, objectsBelow, length-below}
 use Rattle.tables.proofs.TableLaws.{Accepted, accepted, table-of, Stands, stands-first, stands-next}
@@ -53,15 +54,15 @@ module _ (b : List ℕ) where
 
 -- what the loop keeps: the cursor's place, and the numbers so far
 pub record Filling (b : List ℕ) (count : ℕ) (kinds : List ℕ) (i at : ℕ) : Type 0 where
-  pub long : 9 ≤ length b
+  pub long : 5 < length b
   pub few : count ≤ 1024
   pub stands : Stands b count i at
   pub so-far : kinds ≡ filled 1024 (layoutsBelow b i)
 
-pub begin : (b : List ℕ) (count : ℕ) → told (tableCall b) .code ≡ 0 → count ≡ countIn b → Filling b count (replicate 1024 0) 0 9
-begin b count z e =
+pub begin : (b : List ℕ) (count at : ℕ) → told (tableCall b) .code ≡ 0 → count ≡ countIn b → at ≡ objectsPlace → Filling b count (replicate 1024 0) 0 at
+begin b count at z e e′ =
     let a = accepted b (table-of b z .1) in
-    record { long = a .long; few = omega (arith, a .few); stands = stands-first b count z (omega arith); so-far = refl }
+    record { long = omega (arith, objects-place, a .long); few = omega (arith, a .few); stands = stands-first b count at z (omega arith) e′; so-far = refl }
 
 pub turn : {b : List ℕ} {count : ℕ} {kinds : List ℕ} {i at : ℕ} → Filling b count kinds i at → i < count → (n : ℕ) → n ≡ layoutNo (kindOf (getD b 5 0) (getD b at 0))
     → (size : ℕ) → size ≡ 2 + getD b (at + 1) 0 → Filling b count (set kinds i n) (i + 1) (at + size)

@@ -9,26 +9,23 @@ use mathlib.Core.List.{List}
 use mathlib.Core.Logic.{⊎-elim}
 use lib.Dec.{eqb, leb}
 use lib.ListN.{length, getD}
-use lib.Seq.{drop-drop}
 use borrow.Author.Tests.{lt-leb, le-leb, leb-true}
 use Rattle.history.specs.declared.Answer.{Answer}
 use Rattle.history.specs.Verdict.{Verdict, done, then, refusal, _unless_⨾_, unnamed, told}
 use Rattle.history.specs.Form.{isWhole}
 use Rattle.history.specs.Table.{Object, Table, versionGood, catalogueGood, readTable}
 use Rattle.history.specs.Calls.{tableCall}
-use Rattle.history.proofs.FormLaws.{whole}
 use Rattle.history.proofs.VerdictLaws.{held, used}
-use Rattle.tables.specs.Places.{countIn, placeOf, checkObjectAt, entriesIn}
+use Rattle.heads.specs.Heads.{countIn, objectsPlace}
+use Rattle.heads.proofs.Forms.{table-inside}
+use Rattle.heads.proofs.Places.{objects-place}
+use Rattle.heads.proofs.Chains.{tableWith, table-chain}
+use Rattle.tables.specs.Places.{placeOf, checkObjectAt, objectsIn}
 use Rattle.history.proofs.CodeLaws.{table-call-coded, zero-told}
 use Rattle.tables.proofs.AnswerLaws.{told-then}
-use Rattle.tables.proofs.Forms.{form-then}
 use Rattle.tables.proofs.EntryLaws.{GoodEntry, good-entry}
 use Rattle.tables.proofs.PlaceLaws.{objectsBelow, repeatsBelow, entriesCheck, length-below, place-next}
 use Rattle.tables.proofs.TurnLaws.{entries-are}
-
--- a table of these bytes' head
-abbrev tableWith : List ℕ → List Object → Table
-tableWith b os = record { version = getD b 4 0; x = getD b 5 0; y = getD b 6 0; objects = os }
 
 module _ (b : List ℕ) where
   -- 1, 2, 3, 4, then the entries
@@ -38,12 +35,12 @@ module _ (b : List ℕ) where
       refusal 2 unless versionGood (getD b 4 0) ⨾
       refusal 3 unless catalogueGood (getD b 5 0) (getD b 6 0) ⨾
       refusal 4 unless leb (countIn b) 1024 ⨾
-      then (entriesIn b (countIn b)) λ os.
+      then (objectsIn b (countIn b)) λ os.
       done (tableWith b os)
 
   in-order : tableCall b ≡ inOrder
-  unfolding tableCall readTable entriesIn
-  in-order = form-then 5 versionGood b _ ∙ rw (drop-drop 2 7 b)
+  unfolding tableCall objectsIn
+  in-order = table-chain b
 
   -- ---- each answer from the tests that lead there
 
@@ -66,10 +63,10 @@ module _ (b : List ℕ) where
         unfolding told
         table-4 h = let l : leb (countIn b) 1024 ≡ false = lt-leb (countIn b) 1024 (omega arith) in rw (in-order, w, v, c, l)
 
-        pub table-rest : n ≤ 1024 → (a : Answer) → a ≡ told (entriesIn b n) → a ≡ told (tableCall b)
+        pub table-rest : n ≤ 1024 → (a : Answer) → a ≡ told (objectsIn b n) → a ≡ told (tableCall b)
         table-rest h a f =
             let l : leb (countIn b) 1024 ≡ true = le-leb (countIn b) 1024 (omega arith) in
-            f ∙ ap (λ (m : ℕ). told (entriesIn b m)) e ∙ sym (told-then (entriesIn b (countIn b)) (tableWith b)) ∙ rw (in-order, w, v, c, l)
+            f ∙ ap (λ (m : ℕ). told (objectsIn b m)) e ∙ sym (told-then (objectsIn b (countIn b)) (tableWith b)) ∙ rw (in-order, w, v, c, l)
 
 -- ---- an accepted table
 
@@ -98,7 +95,7 @@ good-run b (suc n) k h =
 
 -- what an accepted table tells
 pub record Accepted (b : List ℕ) (t : Table) : Type 0 where
-  pub long : 9 ≤ length b
+  pub long : objectsPlace ≤ length b
   pub version : t .version ≡ getD b 4 0
   pub x : t .x ≡ getD b 5 0
   pub y : t .y ≡ getD b 6 0
@@ -113,9 +110,9 @@ accepted b {t} e =
     let p₂ = held (versionGood (getD b 4 0)) _ _ _ _ (p₁ .1) in
     let p₃ = held (catalogueGood (getD b 5 0) (getD b 6 0)) _ _ _ _ (p₂ .1) in
     let p₄ = held (leb (countIn b) 1024) _ _ _ _ (p₃ .1) in
-    let p₅ = used (entriesIn b (countIn b)) _ (p₄ .1) in
+    let p₅ = used (objectsIn b (countIn b)) _ (p₄ .1) in
     let t-is : t ≡ tableWith b (p₅ .0) = cc (p₅ .2) in
-    let l : 9 ≤ length b = whole 5 b (p₁ .0) .long in
+    let l : objectsPlace ≤ length b = table-inside b (p₁ .0) in
     let r = good-run b (countIn b) 0 (sym (entries-are b (countIn b) l) ∙ p₅ .1) in
     let n : 0 + countIn b ≡ countIn b = omega arith in
     rw t-is (record {
@@ -146,9 +143,9 @@ pub record Stands (b : List ℕ) (n k at : ℕ) : Type 0 where
   pub place : at ≡ placeOf b k
   pub inside : at ≤ length b
 
-pub stands-first : (b : List ℕ) (n : ℕ) → told (tableCall b) .code ≡ 0 → n ≤ countIn b → Stands b n 0 9
+pub stands-first : (b : List ℕ) (n at : ℕ) → told (tableCall b) .code ≡ 0 → n ≤ countIn b → at ≡ objectsPlace → Stands b n 0 at
 unfolding placeOf
-stands-first b n z h = record { good = z; few = h; bound = omega arith; place = refl; inside = accepted b (table-of b z .1) .long }
+stands-first b n at z h e = record { good = z; few = h; bound = omega arith; place = e; inside = omega (arith, accepted b (table-of b z .1) .long) }
 
 module _ {b : List ℕ} {n k at : ℕ} (s : Stands b n k at) where
   pub stands-last : n ≤ k → at ≡ placeOf b n
@@ -172,8 +169,9 @@ module _ (a : Answer) (b : List ℕ) (e : a ≡ told (tableCall b)) (z : a .code
   pub code-given : told (tableCall b) .code ≡ 0
   code-given = ap (λ (x : Answer). x .code) (sym e) ∙ z
 
-  pub nine-given : 9 ≤ length b
-  nine-given = accepted b (table-of b code-given .1) .long
+  pub head-given : objectsPlace ≤ length b
+  head-given = accepted b (table-of b code-given .1) .long
 
-  pub inside-given : (i : ℕ) → i < 9 → i < length b
-  inside-given i h = omega (arith, nine-given)
+  -- version, X and Y
+  pub inside-given : (i : ℕ) → i ≤ 6 → i < length b
+  inside-given i h = omega (arith, objects-place, head-given)

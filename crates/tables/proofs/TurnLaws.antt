@@ -14,7 +14,9 @@ use borrow.Author.Tests.{eq-eqb, ne-eqb, leb-true, leb-false}
 use Rattle.history.specs.declared.Answer.{Answer}
 use Rattle.history.specs.Verdict.{Verdict, done, then, refusalAt, _unless_⨾_, numbers, unnamed, told}
 use Rattle.history.specs.Table.{Object}
-use Rattle.tables.specs.Places.{placeOf, checkObjectAt, hashAt, entriesIn}
+use Rattle.heads.specs.Heads.{objectsPlace}
+use Rattle.heads.proofs.Places.{objects-place}
+use Rattle.tables.specs.Places.{placeOf, checkObjectAt, hashAt, objectsIn}
 use Rattle.tables.specs.Hashes.{found}
 use Rattle.tables.specs.declared.table.Found.{Found}
 use Rattle.tables.proofs.AnswerLaws.{told-refused}
@@ -23,8 +25,8 @@ use Rattle.tables.proofs.PlaceLaws.{repeatsBelow, entriesCheck, entries
 use Rattle.tables.proofs.RepeatLaws.{same, repeats-none, repeats-yes, Agree, Both, Common, same-yes, same-no}
 use Rattle.tables.proofs.ChainLaws.{hash, other-hash, Last, Chained, link-low, start-low, chain-next}
 
-pub entries-are : (b : List ℕ) (count : ℕ) → 9 ≤ length b → entriesIn b count ≡ entriesCheck b count 0
-unfolding entriesIn placeOf
+pub entries-are : (b : List ℕ) (count : ℕ) → objectsPlace ≤ length b → objectsIn b count ≡ entriesCheck b count 0
+unfolding objectsIn placeOf
 entries-are b count h = entries-read b count 0 h
 
 -- k entries are passed, and the cursor stands behind them
@@ -32,12 +34,12 @@ pub record Walking (b : List ℕ) (count k at : ℕ) : Type 0 where
   pub bound : k ≤ count
   pub place : at ≡ placeOf b k
   pub inside : at ≤ length b
-  pub near : at ≤ 9 + 50 * k
-  pub left : entriesIn b count ≡ entriesCheck b (count - k) k
+  pub near : at ≤ 50 * (k + 1)
+  pub left : objectsIn b count ≡ entriesCheck b (count - k) k
 
-pub walk-begins : (b : List ℕ) (count : ℕ) → 9 ≤ length b → Walking b count 0 9
+pub walk-begins : (b : List ℕ) (count at : ℕ) → objectsPlace ≤ length b → at ≡ objectsPlace → Walking b count 0 at
 unfolding placeOf
-walk-begins b count h = record { bound = omega arith; place = refl; inside = h; near = omega arith; left = entries-are b count h ∙ ap (λ (n : ℕ). entriesCheck b n 0) (sym (sub-zero count)) }
+walk-begins b count at h e = record { bound = omega arith; place = e; inside = omega arith; near = omega (arith, objects-place); left = entries-are b count h ∙ ap (λ (n : ℕ). entriesCheck b n 0) (sym (sub-zero count)) }
 
 -- the entry at the cursor is good but for repeats; of those before it the j-th has its hash, and all from there on are unlike it
 pub record Searching (b : List ℕ) (count k at size own : ℕ) (heads links starts : List ℕ) (j : ℕ) : Type 0 where
@@ -62,7 +64,7 @@ after b count k = refusalAt 7 k unless not (repeatsBelow b k k) ⨾ entriesCheck
 
 module _ {b : List ℕ} {count k at : ℕ} (w : Walking b count k at) where
   module _ (more : k < count) where
-    turn : entriesIn b count ≡ then (checkObjectAt b at k) (λ next. after b count k)
+    turn : objectsIn b count ≡ then (checkObjectAt b at k) (λ next. after b count k)
     unfolding entriesCheck
     turn =
         let e : count - k ≡ suc (count - (k + 1)) = omega arith in
@@ -70,10 +72,10 @@ module _ {b : List ℕ} {count k at : ℕ} (w : Walking b count k at) where
         ∙ ap₂ (λ (p m : ℕ). then (checkObjectAt b p k) (λ next. refusalAt 7 k unless not (repeatsBelow b k k) ⨾ entriesCheck b (count - (k + 1)) m)) (sym (w .place)) (sym (add-one k))
 
     module _ {r : Found} (r-is : r ≡ found (hashAt b at) (checkObjectAt b at k)) where
-      pub walk-stops : {a : Answer} → r ≡ Found.Refused a → a ≡ told (entriesIn b count)
+      pub walk-stops : {a : Answer} → r ≡ Found.Refused a → a ≡ told (objectsIn b count)
       walk-stops {a} e =
           let q = was-refused b at k r-is e in
-          told-refused (entriesIn b count) (turn ∙ ap (λ (v : Verdict ℕ). then v (λ next. after b count k)) (q .3)) (q .4)
+          told-refused (objectsIn b count) (turn ∙ ap (λ (v : Verdict ℕ). then v (λ next. after b count k)) (q .3)) (q .4)
 
       module _ {own : ℕ} (e : r ≡ Found.Entry own) where
         entered : (next : ℕ) × (checkObjectAt b at k ≡ done next) × (own ≡ hashAt b at)
@@ -101,19 +103,19 @@ module _ {b : List ℕ} {count k at : ℕ} (w : Walking b count k at) where
             }
 
   module _ (le : count ≤ k) where
-    none : entriesIn b count ≡ entriesCheck b zero k
+    none : objectsIn b count ≡ entriesCheck b zero k
     none = let e : count - k ≡ zero = omega arith in w .left ∙ ap (λ (n : ℕ). entriesCheck b n k) e
 
-    pub end-over : (at ≡ length b → ⊥) → unnamed 8 0 ≡ told (entriesIn b count)
+    pub end-over : (at ≡ length b → ⊥) → unnamed 8 0 ≡ told (objectsIn b count)
     unfolding entriesCheck told
     end-over n = rw (none, ← w .place, ne-eqb _ _ n)
 
-    pub end-good : at ≡ length b → unnamed 0 0 ≡ told (entriesIn b count)
+    pub end-good : at ≡ length b → unnamed 0 0 ≡ told (objectsIn b count)
     unfolding entriesCheck told
     end-good e = rw (none, ← w .place, eq-eqb _ _ e)
 
 module _ {b : List ℕ} {count k at size own : ℕ} {heads links starts : List ℕ} {j : ℕ} (s : Searching b count k at size own heads links starts j) where
-  is-after : entriesIn b count ≡ after b count k
+  is-after : objectsIn b count ≡ after b count k
   is-after = turn (s .walking) (s .more) ∙ ap (λ (v : Verdict ℕ). then v (λ next. after b count k)) (s .good)
 
   -- no earlier entry is left
@@ -196,9 +198,9 @@ module _ {b : List ℕ} {count k at size own : ℕ} {heads links starts : List �
         pub was-fits : was + size ≤ length b
         was-fits = omega (arith, before, s .fits)
 
-        pub search-finds : getD b was 0 ≡ getD b at 0 → (i : ℕ) → i ≤ 1 → Agree b was at i size → numbers 7 k 255 0 ≡ told (entriesIn b count)
+        pub search-finds : getD b was 0 ≡ getD b at 0 → (i : ℕ) → i ≤ 1 → Agree b was at i size → numbers 7 k 255 0 ≡ told (objectsIn b count)
         unfolding told
         search-finds t i low a =
             let r = repeats-yes b k (j - 1) (omega (arith, s .passed)) (same-yes both (omega (arith, s .size-is)) t i low (rw (s .size-is) at a)) in
-            let v : entriesIn b count ≡ refusalAt 7 k = is-after ∙ rw r in
+            let v : objectsIn b count ≡ refusalAt 7 k = is-after ∙ rw r in
             sym (ap told v)

@@ -1,4 +1,3 @@
-pub mod Under
 pub mod Places
 pub mod Outlines
 pub mod LabelPlaces

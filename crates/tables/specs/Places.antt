@@ -4,19 +4,15 @@ use mathlib.Core.Bool.{_&&_}
 use mathlib.Core.List.{List, []}
 use lib.Dec.{leb}
 use lib.ListN.{length, getD, take, drop}
-use Rattle.octets.specs.Octets.{number}
 use Rattle.history.specs.Verdict.{Verdict, done, refusal, refusalAt, _unless_⨾_}
 use Rattle.elements.specs.Elements.{carried}
 use Rattle.history.specs.Table.{Object, labelLimit, labelGood, readObjects}
+use Rattle.heads.specs.Heads.{objectsPlace}
 use Rattle.tables.specs.Hashes.{hashOf}
-
--- the count in a table's bytes
-abbrev pub countIn : List ℕ → ℕ
-countIn b = number (take 2 (drop 7 b))
 
 -- where object k's entry begins
 unfoldable pub placeOf : List ℕ → ℕ → ℕ
-placeOf b zero = 9
+placeOf b zero = objectsPlace
 placeOf b (suc k) = placeOf b k + (2 + getD b (placeOf b k + 1) 0)
 
 -- an entry but for repeats, from its place: 8 (two bytes lacking), 5, 6 (length), 8 (label cut), 6 (bytes); where the next begins
@@ -33,6 +29,6 @@ checkObjectAt b at k =
 unfoldable pub hashAt : List ℕ → ℕ → ℕ
 hashAt b at = hashOf (getD b at 0) (take (getD b (at + 1) 0) (drop (at + 2) b))
 
--- the table's entries, read from byte 9 on
-unfoldable pub entriesIn : List ℕ → ℕ → Verdict (List Object)
-entriesIn b count = readObjects (getD b 4 0) (getD b 5 0) [] count (drop 9 b)
+-- the table's objects, so many as are counted
+unfoldable pub objectsIn : List ℕ → ℕ → Verdict (List Object)
+objectsIn b count = readObjects (getD b 4 0) (getD b 5 0) [] count (drop objectsPlace b)

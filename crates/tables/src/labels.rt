@@ -1,6 +1,6 @@
 // Labels: bytes 33 to 126; some byte is a colon, and the first colon has a byte before and after it. A good label gets the hash of its
 // entry's type and label in the same pass, by which repeats are looked for.
-use super::whole::byte_at;
+use heads::byte_at;
 ghost use mathlib.Core.Path.{_≡_};
 ghost use Prim.Native.Nat.{_+_, _≤_, _<_};
 ghost use lib.ListN.{length, getD, take, drop};

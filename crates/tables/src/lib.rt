@@ -1,11 +1,10 @@
 // The floor of tables: the check of a table against the meaning in `history`, what the other forms go by (X, Y and each object's
-// kind), a label's place, and what the three forms share. It uses octets and elements, writes no output and keeps nothing.
+// kind), a label's place, and the answers that all calls give. It uses heads and elements, writes no output and keeps nothing.
 mod answers;
 mod labels;
 mod place;
 mod plan;
 mod table;
-mod whole;
 
 pub use answers::Outline;
 pub use answers::accepted;
@@ -20,5 +19,3 @@ pub use plan::first_kinds;
 pub use plan::outline;
 pub use table::check_table;
 pub use table::is_catalogue;
-pub use whole::is_under;
-pub use whole::is_whole;

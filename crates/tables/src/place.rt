@@ -3,14 +3,16 @@ use super::answers::accepted;
 use super::answers::refused_at;
 use super::table::check_table;
 use super::table::entry_size;
-use super::table::object_count;
-use super::whole::byte_at;
+use heads::byte_at;
+use heads::object_count;
+use heads::objects_place;
 use history::Answer;
 ghost use mathlib.Core.Path.{_≡_};
 ghost use Prim.Native.Nat.{_≤_};
 ghost use Rattle.history.specs.Verdict.{told};
 ghost use Rattle.history.specs.Calls.{tableCall};
-ghost use Rattle.tables.specs.Places.{countIn, placeOf};
+ghost use Rattle.heads.specs.Heads.{countIn};
+ghost use Rattle.tables.specs.Places.{placeOf};
 ghost use Rattle.tables.specs.LabelPlaces.{LabelFound, noLabel};
 
 // A label request's answer; where it is accepted, the label's first byte and size; else zeros.
@@ -56,7 +58,7 @@ fn entry_place(table: &[u8], object: usize) -> usize
     requires { ⌜ (told (tableCall (now table)) .code ≡ 0) × (object ≤ countIn (now table)) ⌝ }
     ensures { λ r. ⌜ r ≡ placeOf (now (table .entry)) object ⌝ }
 {
-    let mut at = 9;
+    let mut at = objects_place();
     let mut j = 0;
     while j < object {
         at = at + entry_size(table, at);

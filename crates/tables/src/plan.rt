@@ -2,7 +2,8 @@
 use super::answers::Outline;
 use super::table::check_table;
 use super::table::entry_size;
-use super::table::object_count;
+use heads::object_count;
+use heads::objects_place;
 ghost use mathlib.Core.Path.{_≡_};
 ghost use Prim.Native.Nat.{_≤_};
 ghost use lib.ListN.{length, take};
@@ -10,8 +11,8 @@ ghost use Rattle.history.specs.Verdict.{told};
 ghost use Rattle.kinds.specs.Kinds.{layoutNo};
 ghost use Rattle.elements.specs.Elements.{kindOf};
 ghost use Rattle.history.specs.Calls.{tableCall};
+ghost use Rattle.heads.specs.Heads.{countIn};
 ghost use Rattle.tables.specs.Outlines.{Outlined, layoutsIn};
-ghost use Rattle.tables.specs.Places.{countIn};
 
 // The table's check, and what it tells of an accepted table.
 pub fn outline(table: &[u8]) -> Outline
@@ -46,7 +47,7 @@ fn kinds_of(table: &[u8], count: usize) -> [u8; 1024]
     ensures { λ r. ⌜ r ≡ layoutsIn (tableCall (now (table .entry))) ⌝ }
 {
     let mut kinds = [0u8; 1024];
-    let mut at = 9;
+    let mut at = objects_place();
     let mut i = 0;
     while i < count {
         kinds[i] = layout_of(table[5], table[at]);

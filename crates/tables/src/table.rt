@@ -4,8 +4,10 @@ use super::answers::refused;
 use super::answers::refused_at;
 use super::labels::Label;
 use super::labels::check_label_at;
-use super::whole::byte_at;
-use super::whole::is_whole;
+use heads::byte_at;
+use heads::is_whole;
+use heads::object_count;
+use heads::objects_place;
 use history::Answer;
 ghost use mathlib.Core.Path.{_≡_};
 ghost use mathlib.Core.Bool.{_&&_};
@@ -15,7 +17,8 @@ ghost use lib.ListN.{length, getD};
 ghost use Rattle.history.specs.Verdict.{told};
 ghost use Rattle.history.specs.Table.{versionGood, catalogueGood, labelLimit};
 ghost use Rattle.history.specs.Calls.{tableCall};
-ghost use Rattle.tables.specs.Places.{countIn, checkObjectAt, hashAt, entriesIn};
+ghost use Rattle.heads.specs.Heads.{objectsPlace};
+ghost use Rattle.tables.specs.Places.{checkObjectAt, hashAt, objectsIn};
 ghost use Rattle.tables.specs.Hashes.{found};
 
 const MOST_OBJECTS: usize = 1024;
@@ -42,28 +45,20 @@ pub fn check_table(table: &[u8]) -> Answer
     check_entries(table, count)
 }
 
-// The object count of a table that has one.
-pub fn object_count(table: &[u8]) -> usize
-    requires { ⌜ 9 ≤ length (now table) ⌝ }
-    ensures { λ r. ⌜ r ≡ countIn (now (table .entry)) ⌝ }
-{
-    octets::get_at(table, 7, 2) as usize
-}
-
 // Per entry its check, then 7; last 8. The search for an earlier object with the same type and label goes by the earlier entries of the
 // same hash, the last first, and is left at the first that repeats. Two entries are compared by their types, their lengths, and then their
 // labels from the last byte to the first: the labels of a station begin alike.
 // For each hash `heads` has the last entry of it, for each entry `links` has the one of its hash before it and `starts` its place. An
 // entry stands there by one more than its number; 0 is none.
 fn check_entries(table: &[u8], count: usize) -> Answer
-    requires { ⌜ (9 ≤ length (now table)) × (count ≤ 1024) ⌝ }
-    ensures { λ r. ⌜ r ≡ told (entriesIn (now (table .entry)) count) ⌝ }
+    requires { ⌜ (objectsPlace ≤ length (now table)) × (count ≤ 1024) ⌝ }
+    ensures { λ r. ⌜ r ≡ told (objectsIn (now (table .entry)) count) ⌝ }
 {
     let mut heads = [0u16; 1024];
     let mut links = [0u16; 1024];
     let mut starts = [0u16; 1024];
     let mut k = 0;
-    let mut at = 9;
+    let mut at = objects_place();
     'entries: while k < count {
         let mut hash = 0;
         match check_entry(table, at, k as u16) {
@@ -126,7 +121,7 @@ enum Found {
 
 // An entry but for repeats: 8 (two bytes lacking), 5, 6 (length), 8 (label cut), 6 (bytes).
 fn check_entry(table: &[u8], at: usize, object: u16) -> Found
-    requires { ⌜ (9 ≤ length (now table)) × (at ≤ length (now table)) ⌝ }
+    requires { ⌜ (objectsPlace ≤ length (now table)) × (at ≤ length (now table)) ⌝ }
     ensures { λ r. ⌜ r ≡ found (hashAt (now (table .entry)) at) (checkObjectAt (now (table .entry)) at object) ⌝ }
 {
     let left = table.len() - at;

@@ -3,7 +3,7 @@
 use mathlib.Core.Path.{_∙_}
 use borrow.Author.Needs.{needs}
 use Rattle.tables.proofs.AnswerLaws.{no, yes}
-use Rattle.tables.proofs.Forms.{long-enough}
+use Rattle.heads.proofs.Forms.{long-enough, list-room}
 use Rattle.forms.proofs.ListAnswers.{not-whole, other-version, not-under, by-entries}
 use Rattle.forms.proofs.list.check_list_under.Statement.{statement}
 use Rattle.forms.proofs.list.check_list_under.Tie as tie
@@ -33,10 +33,7 @@ check-list-under-spec =
     (λ c κs. search (long-enough, needs))
     (λ c κs. search needs)
     returns-3
-    (λ c κs. search (long-enough, needs))
-    (λ c. search needs)
-    (λ c. search (long-enough, needs))
-    (λ c. search (long-enough, needs))
-    (λ c. search needs)
+    (λ c κs. search (list-room, needs))
+    (λ c κs. search (list-room, needs))
     (λ c κs. search needs)
     returns-4)

@@ -3,7 +3,7 @@
 use native.Mathlib.Omega.{arith}
 use borrow.Author.Needs.{needs}
 use Rattle.listing.proofs.Fits.{lines-room, lines-cast}
-use Rattle.listing.proofs.PanelLaws.{nine, eleven, few, lines-answer, lines-output}
+use Rattle.listing.proofs.PanelLaws.{version-inside, position-inside, few, lines-answer, lines-output}
 use Rattle.listing.proofs.both.put_accepted.Statement.{statement}
 use Rattle.listing.proofs.both.put_accepted.Tie as tie
 
@@ -20,10 +20,10 @@ pub put-accepted-spec : {M : Type 1} → statement M
 put-accepted-spec =
     tie.close
     (tie.spec
-    (λ c κs. omega (arith, eleven))
+    (λ c κs. search position-inside)
     (λ c. omega (arith, few))
-    (λ c. omega (arith, nine))
-    (λ c. omega (arith, nine))
+    (λ c. omega (arith, version-inside))
+    (λ c. omega (arith, version-inside))
     (λ c κs. search needs)
     put-objects-requires
     cast-written

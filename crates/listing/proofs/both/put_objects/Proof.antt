@@ -4,15 +4,16 @@ use Prim.Native.Nat.{_-_}
 use native.Mathlib.Omega.{arith}
 use lib.ListN.{length}
 use borrow.Author.Needs.{needs}
+use Rattle.listing.proofs.PanelLaws.{position-inside}
 use Rattle.listing.proofs.WalkLaws.{Walked, begin, ended, entries-left, label-inside, element-inside, has-room, goes-on}
 use Rattle.listing.proofs.both.put_objects.Statement.{statement}
 use Rattle.listing.proofs.both.put_objects.Tie as tie
 
 abbrev Inv-loop : tie.InvT-loop
-Inv-loop table image kinds out₀ at to₀ entry₀ place₀ i₀ out to entry place i = Walked table image kinds out₀ at out to entry place i
+Inv-loop table image kinds out₀ at elements to₀ entry₀ place₀ i₀ out to entry place i = Walked table image kinds elements out₀ at out to entry place i
 
 abbrev μ-loop : tie.MeasureT-loop
-μ-loop table image kinds out₀ at to₀ entry₀ place₀ i₀ out to entry place i = length kinds - i
+μ-loop table image kinds out₀ at elements to₀ entry₀ place₀ i₀ out to entry place i = length kinds - i
 
 loop-holds : tie.Need-loop-holds Inv-loop μ-loop
 loop-holds c = search begin
@@ -32,6 +33,8 @@ put-objects-spec =
     (tie.spec
     Inv-loop
     μ-loop
+    (λ c κs. search position-inside)
+    (λ c κs. search needs)
     loop-holds
     (λ c. omega (arith, entries-left))
     (λ c κs. search label-inside)

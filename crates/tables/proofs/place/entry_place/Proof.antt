@@ -2,6 +2,7 @@
 -- Assumes nothing.
 use Prim.Native.Nat.{_-_}
 use native.Mathlib.Omega.{arith}
+use borrow.Author.Needs.{needs}
 use Rattle.tables.proofs.TableLaws.{Stands, stands-first, stands-last, two-there, stands-next}
 use Rattle.tables.proofs.place.entry_place.Statement.{statement}
 use Rattle.tables.proofs.place.entry_place.Tie as tie
@@ -18,6 +19,7 @@ entry-place-spec =
     (tie.spec
     Inv-loop
     μ-loop
+    (λ c κs. search needs)
     (λ c. search stands-first)
     (λ c κs. search two-there)
     (λ c. omega arith)

@@ -1,7 +1,7 @@
 -- `tables::place::label_place` meets its contract: the table's answer, then 13, then the label's place.
 -- Assumes nothing.
 use native.Mathlib.Omega.{arith}
-use Rattle.tables.proofs.TableLaws.{code-given, nine-given, entry-at}
+use Rattle.tables.proofs.TableLaws.{code-given, head-given, entry-at}
 use Rattle.tables.proofs.LabelPlaceLaws.{label-table, label-none, label-found}
 use borrow.Author.Needs.{needs}
 use Rattle.tables.proofs.place.label_place.Statement.{statement}
@@ -32,7 +32,7 @@ label-place-spec =
     (λ c κs. search needs)
     (λ c κs. search needs)
     returns
-    (λ c κs. search (needs, nine-given))
+    (λ c κs. search (needs, head-given))
     (λ c κs. search needs)
     (λ c κs. search needs)
     returns-2

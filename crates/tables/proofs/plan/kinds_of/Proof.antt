@@ -20,6 +20,7 @@ kinds-of-spec =
     (tie.spec
     Inv-loop
     μ-loop
+    (λ c κs. search needs)
     (λ c. search begin)
     (λ c. omega arith)
     (λ c. search type-there)

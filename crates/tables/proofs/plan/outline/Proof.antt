@@ -1,6 +1,6 @@
 -- `tables::plan::outline` meets its contract: the table's answer, then what its bytes give.
 -- Assumes nothing.
-use Rattle.tables.proofs.TableLaws.{code-given, nine-given, inside-given}
+use Rattle.tables.proofs.TableLaws.{code-given, head-given, inside-given}
 use Rattle.tables.proofs.PlanLaws.{outline-refused, outline-good}
 use borrow.Author.Needs.{needs}
 use Rattle.tables.proofs.plan.outline.Statement.{statement}
@@ -19,7 +19,7 @@ shared-slice-read-y : tie.Need-shared-slice-read-y
 shared-slice-read-y c = search (needs, inside-given)
 
 object-count-requires : tie.Need-object-count-requires
-object-count-requires c κs = search (needs, nine-given)
+object-count-requires c κs = search (needs, head-given)
 
 kinds-of-requires : tie.Need-kinds-of-requires
 kinds-of-requires c κs = search (needs, code-given)

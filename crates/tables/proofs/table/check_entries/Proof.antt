@@ -67,6 +67,7 @@ check-entries-spec =
     μ-earlier
     Inv-entries
     μ-entries
+    (λ c κs. search needs)
     (λ c. (search walk-begins, search chain-begins))
     (λ c. omega arith)
     (λ c κs. omega arith)

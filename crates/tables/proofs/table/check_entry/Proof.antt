@@ -1,6 +1,7 @@
 -- `tables::table::check_entry` meets its contract: each answer from the tests that lead there.
 -- Assumes nothing.
 use native.Mathlib.Omega.{arith}
+use Rattle.heads.proofs.Places.{objects-place}
 use Rattle.tables.proofs.AnswerLaws.{no, yes}
 use Rattle.tables.proofs.EntryLaws.{refuses, entry-cut, entry-type, entry-size, label-cut, label-bad, entry-good}
 use borrow.Author.Needs.{needs}
@@ -32,14 +33,14 @@ check-entry-spec =
     (λ c. search needs)
     (λ c κs. search needs)
     returns
-    (λ c. search needs)
+    (λ c. omega (arith, objects-place))
     (λ c. search needs)
     (λ c κs. search needs)
     (λ c κs. search needs)
     returns-2
     (λ c. search needs)
     (λ c κs. search needs)
-    (λ c. search needs)
+    (λ c. omega (arith, objects-place))
     (λ c κs. search needs)
     (λ c κs. search needs)
     returns-3

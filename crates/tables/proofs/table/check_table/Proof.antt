@@ -3,7 +3,7 @@
 use native.Mathlib.Omega.{arith}
 use mathlib.Core.Path.{_∙_}
 use Rattle.tables.proofs.AnswerLaws.{no, yes}
-use Rattle.tables.proofs.Forms.{long-enough}
+use Rattle.heads.proofs.Forms.{long-enough, table-room}
 use Rattle.tables.proofs.TableLaws.{table-1, table-2, table-3, table-4, table-rest}
 use borrow.Author.Needs.{needs}
 use Rattle.tables.proofs.table.check_table.Statement.{statement}
@@ -46,7 +46,7 @@ returns-3 : tie.Need-returns-3
 returns-3 c = c .refused3 .ensures ∙ table-3 _ (search (needs, yes)) (search (needs, yes)) (search (needs, no))
 
 object-count-requires : tie.Need-object-count-requires
-object-count-requires c κs = search (long-enough, needs)
+object-count-requires c κs = search (table-room, needs)
 
 refused-requires-4 : tie.Need-refused-requires-4
 refused-requires-4 c κs = search needs
@@ -55,7 +55,7 @@ returns-4 : tie.Need-returns-4
 returns-4 c = c .refused4 .ensures ∙ table-4 _ (search (needs, yes)) (search (needs, yes)) (search (needs, yes)) _ (c .before .before .object-count .ensures) (omega arith)
 
 check-entries-requires : tie.Need-check-entries-requires
-check-entries-requires c κs = search (long-enough, needs)
+check-entries-requires c κs = search (table-room, needs)
 
 returns-5 : tie.Need-returns-5
 returns-5 c = table-rest _ (search (needs, yes)) (search (needs, yes)) (search (needs, yes)) _ (c .before .before .object-count .ensures) (omega arith) _ (c .check-entries .ensures)

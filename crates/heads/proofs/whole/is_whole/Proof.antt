@@ -1,10 +1,10 @@
--- `tables::whole::is_whole` meets its contract: each answer from the tests that lead there.
+-- `heads::whole::is_whole` meets its contract: each answer from the tests that lead there.
 -- Assumes nothing.
 use native.Mathlib.Omega.{arith}
-use Rattle.tables.proofs.WholeLaws.{short, other, fills}
+use Rattle.heads.proofs.WholeLaws.{short, other, fills}
 use borrow.Author.Needs.{needs}
-use Rattle.tables.proofs.whole.is_whole.Statement.{statement}
-use Rattle.tables.proofs.whole.is_whole.Tie as tie
+use Rattle.heads.proofs.whole.is_whole.Statement.{statement}
+use Rattle.heads.proofs.whole.is_whole.Tie as tie
 
 returns : tie.Need-returns
 returns c = short _ _ (omega arith)

@@ -2,22 +2,34 @@
 -- Assumes nothing.
 use Prim.Native.Nat.{ℕ, _+_, _-_, _≤_}
 use native.Mathlib.Omega.{arith}
-use mathlib.Core.Path.{_≡_, refl}
+use mathlib.Core.Path.{_≡_, refl, sym, _∙_}
 use mathlib.Core.Bool.{Bool, true, false, not}
 use mathlib.Core.List.{List}
 use lib.Dec.{eqb}
 use lib.ListN.{length, take, drop, getD, length-drop}
 use lib.Seq.{take-all}
-use borrow.Author.Tests.{eq-eqb, ne-eqb}
+use borrow.Author.Tests.{eq-eqb, ne-eqb, not-false}
 use Rattle.history.specs.Verdict.{Verdict, done, then, refusal, _unless_⨾_}
 use Rattle.history.specs.Form.{Form, isWhole, readForm}
 use Rattle.history.proofs.FormLaws.{whole}
-use Rattle.tables.specs.Under.{isUnder}
-use Rattle.tables.proofs.AnswerLaws.{yes}
+use Rattle.heads.specs.Heads.{isUnder, objectsPlace, entriesPlace}
+
+pub table-inside : (b : List ℕ) → isWhole 5 b ≡ true → objectsPlace ≤ length b
+unfolding objectsPlace
+table-inside b h = whole 5 b h .long
 
 -- how long a form is that passed the first test
-pub long-enough : {t : Bool} (least : ℕ) (b : List ℕ) → t ≡ isWhole least b → not t ≡ false → (n : ℕ) → n ≤ 4 + least → n ≤ length b
-long-enough least b e h n l = omega (arith, whole least b (yes e h) .long)
+module _ {t : Bool} where
+  pub long-enough : (least : ℕ) (b : List ℕ) → t ≡ isWhole least b → not t ≡ false → (n : ℕ) → n ≤ 4 + least → n ≤ length b
+  long-enough least b e h n l = omega (arith, whole least b (sym e ∙ not-false t h) .long)
+
+  -- the count of a whole table is inside, and so are the positions and the count of a whole list
+  pub table-room : (b : List ℕ) → t ≡ isWhole 5 b → not t ≡ false → objectsPlace ≤ length b
+  table-room b e h = table-inside b (sym e ∙ not-false t h)
+
+  pub list-room : (b : List ℕ) → t ≡ isWhole 13 b → not t ≡ false → entriesPlace ≤ length b
+  unfolding entriesPlace
+  list-room b e h = long-enough 13 b e h 17 (omega arith)
 
 module _ (x y : ℕ) (b : List ℕ) where
   pub other-x : (getD b 5 0 ≡ x → ⊥) → isUnder x y b ≡ false

@@ -3,7 +3,7 @@ ghost use mathlib.Core.Path.{_≡_};
 ghost use Prim.Native.Nat.{_≤_, _<_};
 ghost use lib.ListN.{length, getD};
 ghost use Rattle.history.specs.Form.{isWhole};
-ghost use Rattle.tables.specs.Under.{isUnder};
+ghost use Rattle.heads.specs.Heads.{isUnder, frontForm};
 
 // The byte at a place, as a number to count by.
 pub fn byte_at(s: &[u8], at: usize) -> usize
@@ -36,4 +36,18 @@ pub fn is_under(form: &[u8], x: u8, y: u8) -> bool
         return false;
     }
     form[6] == y
+}
+
+// The first of several forms that stand end to end. Bytes that hold none in full are given back, and are refused as no whole form.
+pub fn front_form(forms: &[u8]) -> &[u8]
+    ensures { λ r. ⌜ now r ≡ frontForm (now (forms .entry)) ⌝ }
+{
+    if forms.len() < 4 {
+        return forms;
+    }
+    let size = 4 + octets::get_at(forms, 0, 4) as usize;
+    if forms.len() < size {
+        return forms;
+    }
+    &forms[..size]
 }

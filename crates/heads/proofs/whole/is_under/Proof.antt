@@ -1,10 +1,10 @@
--- `tables::whole::is_under` meets its contract: X decides, then Y.
+-- `heads::whole::is_under` meets its contract: X decides, then Y.
 -- Assumes nothing.
 use borrow.Author.Needs.{needs}
 use mathlib.Core.Path.{sym}
-use Rattle.tables.proofs.Forms.{other-x, own-x}
-use Rattle.tables.proofs.whole.is_under.Statement.{statement}
-use Rattle.tables.proofs.whole.is_under.Tie as tie
+use Rattle.heads.proofs.Forms.{other-x, own-x}
+use Rattle.heads.proofs.whole.is_under.Statement.{statement}
+use Rattle.heads.proofs.whole.is_under.Tie as tie
 
 shared-slice-read-if1 : tie.Need-shared-slice-read-if1
 shared-slice-read-if1 c = search needs

@@ -1,10 +1,10 @@
--- `tables::whole::byte_at` meets its contract: a byte is below 256, so it fits.
+-- `heads::whole::byte_at` meets its contract: a byte is below 256, so it fits.
 -- Assumes nothing.
 use native.Mathlib.Omega.{arith}
 use mathlib.Core.Path.{refl}
 use borrow.Author.Needs.{needs}
-use Rattle.tables.proofs.whole.byte_at.Statement.{statement}
-use Rattle.tables.proofs.whole.byte_at.Tie as tie
+use Rattle.heads.proofs.whole.byte_at.Statement.{statement}
+use Rattle.heads.proofs.whole.byte_at.Tie as tie
 
 shared-slice-read-result : tie.Need-shared-slice-read-result
 shared-slice-read-result c = search needs

@@ -1,0 +1,57 @@
+-- How the places lie: what is read of a head stands before them.
+-- Assumes nothing.
+use Prim.Native.Nat.{ℕ, _+_, _-_, _≤_}
+use native.Mathlib.Omega.{arith}
+use mathlib.Core.Path.{_≡_, refl, sym, ap, _∙_}
+use mathlib.Core.List.{List}
+use lib.ListN.{length, getD, take, drop, length-drop}
+use Rattle.history.specs.Table.{object, Table, objectsBytes}
+use Rattle.history.specs.Image.{elementsFrom}
+use Rattle.history.specs.Calls.{labelPlace}
+use Rattle.heads.specs.Heads.{objectsPlace, elementsPlace, imageHead, elementsIn, entriesPlace}
+use Rattle.heads.proofs.Forms.{to-end}
+
+-- version, X, Y and the count stand before a table's objects
+pub objects-place : objectsPlace ≡ 9
+unfolding objectsPlace
+objects-place = refl
+
+-- a label stands after the earlier entries, and its own type and length
+pub label-from : (t : Table) (i : ℕ) → labelPlace t i ≡ record { offset = objectsPlace + (length (objectsBytes (take i (t .objects))) + 2); size = length (object t i .label) }
+unfolding objectsPlace
+label-from t i = refl
+
+-- .. and the position before an image's elements
+pub elements-place : (version : ℕ) → elementsPlace version ≡ 11
+unfolding elementsPlace elementsFrom
+elements-place version = refl
+
+pub head-place : (b : List ℕ) → 11 ≤ imageHead b
+unfolding imageHead
+head-place b = omega (arith, elements-place (getD b 4 0))
+
+-- an image's own place, as the code has it
+module _ (b : List ℕ) (place : ℕ) (e : place ≡ elementsPlace (getD b 4 0)) where
+  pub head-is : imageHead b ≡ place
+  unfolding imageHead
+  head-is = sym e
+
+  pub place-inside : imageHead b ≤ length b → place ≤ length b
+  place-inside h = omega (arith, head-is)
+
+  pub head-inside : place ≤ length b → imageHead b ≤ length b
+  head-inside h = omega (arith, head-is)
+
+  -- elements that fill the image
+  pub elements-fill : {w : ℕ} → length b ≡ place + w → {s : List ℕ} → s ≡ elementsIn b → length s ≡ w
+  unfolding elementsIn
+  elements-fill h f = ap length f ∙ length-drop (imageHead b) b ∙ omega (arith, head-is)
+
+  pub elements-from : take (length b - place) (drop place b) ≡ elementsIn b
+  unfolding elementsIn imageHead
+  elements-from = to-end place b ∙ ap (λ (n : ℕ). drop n b) e
+
+-- .. and the positions and the count before a list's entries
+pub entries-place : entriesPlace ≡ 17
+unfolding entriesPlace
+entries-place = refl

@@ -1,0 +1,20 @@
+// What stands where in the bytes of a form: every place that a form's layout sets is read here, and nowhere above. It checks no contents,
+// writes no output and keeps nothing.
+mod image;
+mod list;
+mod table;
+mod whole;
+
+pub use image::elements_of;
+pub use image::elements_place;
+pub use image::position_of;
+pub use list::entries_of;
+pub use list::entry_count;
+pub use list::from_of;
+pub use list::to_of;
+pub use table::object_count;
+pub use table::objects_place;
+pub use whole::byte_at;
+pub use whole::front_form;
+pub use whole::is_under;
+pub use whole::is_whole;
