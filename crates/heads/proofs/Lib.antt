@@ -4,3 +4,4 @@ pub mod Places
 pub mod Chains
 pub mod Parts
 pub mod Fronts
+pub mod WrittenLaws

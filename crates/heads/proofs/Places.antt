@@ -30,6 +30,10 @@ pub head-place : (b : List ℕ) → 11 ≤ imageHead b
 unfolding imageHead
 head-place b = omega (arith, elements-place (getD b 4 0))
 
+-- the position is inside where they begin inside
+pub position-inside : (b : List ℕ) → imageHead b ≤ length b → 11 ≤ length b
+position-inside b h = omega (arith, head-place b)
+
 -- an image's own place, as the code has it
 module _ (b : List ℕ) (place : ℕ) (e : place ≡ elementsPlace (getD b 4 0)) where
   pub head-is : imageHead b ≡ place

@@ -1,9 +1,10 @@
-// What stands where in the bytes of a form: every place that a form's layout sets is read here, and nowhere above. It checks no contents,
-// writes no output and keeps nothing.
+// What stands where in the bytes of a form: every place that a form's layout sets is read and written here, and nowhere above. It checks
+// no contents and keeps nothing.
 mod image;
 mod list;
 mod table;
 mod whole;
+mod written;
 
 pub use image::elements_of;
 pub use image::elements_place;
@@ -18,3 +19,6 @@ pub use whole::byte_at;
 pub use whole::front_form;
 pub use whole::is_under;
 pub use whole::is_whole;
+pub use written::entries_place;
+pub use written::put_list_head;
+pub use written::put_position;
