@@ -8,7 +8,7 @@ use tables::accepted;
 use tables::first_kinds;
 use tables::outline;
 use tables::refused_at;
-use tables::refused_bit;
+use tables::refused_by;
 ghost use mathlib.Core.Path.{_≡_};
 ghost use Prim.Native.Nat.{_≤_};
 ghost use lib.ListN.{length};
@@ -65,6 +65,6 @@ fn read_under(x: u8, y: u8, kinds: &[u8], image: &[u8], object: u16) -> Reading
     let state = elements::read_state(word, kind);
     match state {
         elements::State::Read(element) => Reading::State(element),
-        elements::State::Refused(r) => Reading::Refused(refused_bit(r.code, object, r.bit)),
+        elements::State::Refused(r) => Reading::Refused(refused_by(r, object)),
     }
 }
