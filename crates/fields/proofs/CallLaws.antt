@@ -9,6 +9,7 @@ use lib.Dec.{eqb, ltb, eqb→eq, ltb→lt}
 use lib.ListN.{length, getD}
 use borrow.Author.Tests.{eq-eqb, ne-eqb, eqb-true, ltb-true}
 use Rattle.rows.specs.Table.{layouts}
+use Rattle.rows.specs.Fields.{codeAt}
 use Rattle.rows.specs.declared.Finding.{Finding}
 use Rattle.rows.specs.declared.Refusal.{Refusal}
 use Rattle.kinds.specs.Kinds.{layoutNo, rowsOf, kindIn, numbered, sortNumbered, elementOf}
@@ -19,9 +20,9 @@ use Rattle.kinds.proofs.Lookup.{every-line}
 use Rattle.kinds.proofs.KindLaws.{every-kind, kind-found, element-kind}
 use Rattle.elements.specs.Elements.{sameKind, wordOf}
 use Rattle.history.specs.declared.Answer.{Answer}
-use Rattle.history.specs.Verdict.{Verdict, refused, done, then, refusalAt, _unless_⨾_, numbers, told, Leaves}
+use Rattle.history.specs.Verdict.{Refused, naming, Verdict, refused, done, then, refusalAt, _unless_⨾_, numbers, told, Leaves}
 use Rattle.history.specs.Table.{Plan, kindAt}
-use Rattle.history.specs.Image.{Image, element, _of_⨾_, imageBytes, readImage}
+use Rattle.history.specs.Image.{Image, element, foundIn, _of_⨾_, imageBytes, readImage}
 use Rattle.history.specs.Calls.{readPlan, placed, stateAt, readStateUnder, readStateCall, checkState, writeStateUnder, writeStateCall}
 use Rattle.elements.proofs.Laws.{state-kind}
 use Rattle.history.proofs.OutputLaws.{leaves-as, refused-leaves}
@@ -35,12 +36,12 @@ use Rattle.fields.specs.Calls.{writeFieldsCall, stateRefused}
 abbrev pub Refuses : Verdict (List ℕ) → Type 0
 Refuses v = (out : List ℕ) → Leaves v out (told v) out
 
-refuses : (code object bit : ℕ) → Refuses (refused code object bit)
+refuses : (r : Refused) → Refuses (refused r)
 unfolding told
-refuses code object bit out = refused-leaves (refused code object bit) out refl refl
+refuses r out = refused-leaves (refused r) out refl refl
 
 all-refuse : (f : Element → Verdict (List ℕ)) (v : Verdict Element) → ((s : Element) → Refuses (f s)) → Refuses (then v f)
-all-refuse f (refused code object bit) h = refuses code object bit
+all-refuse f (refused r) h = refuses r
 all-refuse f (done s) h = h s
 
 -- ---- numbers of kinds
@@ -77,43 +78,43 @@ no-sort n h = at (sortNumbered n) refl
 
 -- ---- a state of which something is refused
 
-module _ (i number code bit : ℕ) where
+module _ (i number : ℕ) (f : Refusal) where
   refused-by : Verdict Element → Verdict (List ℕ)
-  refused-by v = then v λ was. refusalAt 22 i unless eqb number (layoutNo (kindIn was)) ⨾ refused code i bit
+  refused-by v = then v λ was. refusalAt 22 i unless eqb number (layoutNo (kindIn was)) ⨾ refused (foundIn f i)
 
   -- a reading with no kind's number is refused, and its answer is told
   told-before : (v : Verdict Element) {x : Plain} → x ≡ plainOf (readingOf v) → x .kind ≡ 0 → x .answer ≡ told (refused-by v)
   unfolding told readingOf plainOf shownOf refused-by
-  told-before (refused c o b) e z = ap (λ (x : Plain). x .answer) e
+  told-before (refused r) e z = ap (λ (x : Plain). x .answer) e
   told-before (done s) e z = absurd (let q = number-some (kindIn s) in let w = ap (λ (x : Plain). x .kind) e in omega arith)
 
   told-after : (v : Verdict Element) {x : Plain} {r : Answer} → x ≡ plainOf (readingOf v) → (x .kind ≡ 0 → ⊥) → (b : Bool) → eqb number (x .kind) ≡ b
-      → r ≡ told {A = List ℕ} (refusalAt 22 i unless b ⨾ refused code i bit) → r ≡ told (refused-by v)
+      → r ≡ told {A = List ℕ} (refusalAt 22 i unless b ⨾ refused (foundIn f i)) → r ≡ told (refused-by v)
   unfolding told readingOf plainOf shownOf refused-by
-  told-after (refused c o b) e n d q w = absurd (n (ap (λ (x : Plain). x .kind) e))
+  told-after (refused y) e n d q w = absurd (n (ap (λ (x : Plain). x .kind) e))
   told-after (done s) e n d q w =
-      w ∙ ap (λ (b : Bool). told {A = List ℕ} (refusalAt 22 i unless b ⨾ refused code i bit)) (sym q ∙ ap (λ (y : Plain). eqb number (y .kind)) e)
+      w ∙ ap (λ (b : Bool). told {A = List ℕ} (refusalAt 22 i unless b ⨾ refused (foundIn f i))) (sym q ∙ ap (λ (y : Plain). eqb number (y .kind)) e)
 
-module _ (t a : List ℕ) (i : ℕ) {x : Plain} (is : x ≡ plainOf (readingOf (readStateCall t a i))) (number code bit : ℕ) where
-  pub refuses-first : x .kind ≡ 0 → x .answer ≡ told (stateRefused t a i number code bit)
+module _ (t a : List ℕ) (i : ℕ) {x : Plain} (is : x ≡ plainOf (readingOf (readStateCall t a i))) (number : ℕ) (f : Refusal) where
+  pub refuses-first : x .kind ≡ 0 → x .answer ≡ told (stateRefused t a i number f)
   unfolding stateRefused refused-by
-  refuses-first z = told-before i number code bit (readStateCall t a i) is z
+  refuses-first z = told-before i number f (readStateCall t a i) is z
 
-  pub refuses-22 : {r : Answer} → (x .kind ≡ 0 → ⊥) → (x .kind ≡ number → ⊥) → r ≡ numbers 22 i 255 0 → r ≡ told (stateRefused t a i number code bit)
+  pub refuses-22 : {r : Answer} → (x .kind ≡ 0 → ⊥) → (x .kind ≡ number → ⊥) → r ≡ numbers (naming 22 i 255) 0 → r ≡ told (stateRefused t a i number f)
   unfolding stateRefused refused-by told
-  refuses-22 n d w = told-after i number code bit (readStateCall t a i) is n false (ne-eqb number (x .kind) (λ q. d (sym q))) w
+  refuses-22 n d w = told-after i number f (readStateCall t a i) is n false (ne-eqb number (x .kind) (λ q. d (sym q))) w
 
-  pub refuses-it : {r : Answer} → (x .kind ≡ 0 → ⊥) → x .kind ≡ number → r ≡ numbers code i bit 0 → r ≡ told (stateRefused t a i number code bit)
+  pub refuses-it : {r : Answer} → (x .kind ≡ 0 → ⊥) → x .kind ≡ number → r ≡ numbers (foundIn f i) 0 → r ≡ told (stateRefused t a i number f)
   unfolding stateRefused refused-by told
-  refuses-it n d w = told-after i number code bit (readStateCall t a i) is n true (eq-eqb number (x .kind) (sym d)) w
+  refuses-it n d w = told-after i number f (readStateCall t a i) is n true (eq-eqb number (x .kind) (sym d)) w
 
-pub state-refuses : (t a : List ℕ) (i number code bit : ℕ) → Refuses (stateRefused t a i number code bit)
+pub state-refuses : (t a : List ℕ) (i number : ℕ) (f : Refusal) → Refuses (stateRefused t a i number f)
 unfolding stateRefused
-state-refuses t a i number code bit = all-refuse _ (readStateCall t a i) (λ s. either (eqb number (layoutNo (kindIn s))))
+state-refuses t a i number f = all-refuse _ (readStateCall t a i) (λ s. either (eqb number (layoutNo (kindIn s))))
   where
-    either : (b : Bool) → Refuses (refusalAt 22 i unless b ⨾ refused code i bit)
-    either true = refuses code i bit
-    either false = refuses 22 i 255
+    either : (b : Bool) → Refuses (refusalAt 22 i unless b ⨾ refused (foundIn f i))
+    either true = refuses (foundIn f i)
+    either false = refuses (naming 22 i 255)
 
 -- ---- a state handed in as numbers, by its kind and by what is found of its values
 
@@ -122,7 +123,7 @@ module _ (t a : List ℕ) (i number : ℕ) (fields : List ℕ) (position : ℕ) 
   pub of-kinds : (f g : Kind → Verdict (List ℕ)) (v : Verdict Element)
       → ((j : Kind) → (refusalAt 22 i unless eqb number (layoutNo j) ⨾ f j) ≡ (refusalAt 22 i unless eqb number (layoutNo j) ⨾ g j))
       → then v (λ was. refusalAt 22 i unless eqb number (layoutNo (kindIn was)) ⨾ f (kindIn was)) ≡ then v (λ was. refusalAt 22 i unless eqb number (layoutNo (kindIn was)) ⨾ g (kindIn was))
-  of-kinds f g (refused code object bit) h = refl
+  of-kinds f g (refused r) h = refl
   of-kinds f g (done s) h = h (kindIn s)
 
   -- only the kind with the number counts
@@ -164,13 +165,13 @@ module _ (t a : List ℕ) (i number : ℕ) (fields : List ℕ) (position : ℕ) 
           → then (then v λ m. refusalAt 13 i unless ltb i (length (p .kinds)) ⨾ done (stateAt p m i))
           (λ was. refusalAt 22 i unless sameKind (kindIn e) (kindIn was) ⨾ then v λ m. then (checkState (p .kinds) i e) λ w. done (imageBytes p (placed m i w position)))
           ≡ (then v λ m. then (checkState (p .kinds) i e) λ w. done (imageBytes p (placed m i w position)))
-      imaged p (refused code object bit) = refl
+      imaged p (refused r) = refl
       imaged p (done m) = numbered (stateAt p m i) (kindAt (p .kinds) i) _ (ltb i (length (p .kinds))) (state-kind (kindAt (p .kinds) i) (getD (m .words) i 0))
 
       planned : (v : Verdict Plan)
           → then (then v λ p. readStateUnder p a i) (λ was. refusalAt 22 i unless sameKind (kindIn e) (kindIn was) ⨾ then v λ p. writeStateUnder p a i e position)
           ≡ (then v λ p. writeStateUnder p a i e position)
-      planned (refused code object bit) = refl
+      planned (refused r) = refl
       planned (done p) = imaged p (readImage p a)
 
   pub writes : {k : Kind} → sortNumbered number ≡ Sort.Carried k → named (rowsOf k) (valuesIn k fields) ≡ Finding.Accepted
@@ -186,22 +187,22 @@ module _ (t a : List ℕ) (i number : ℕ) (fields : List ℕ) (position : ℕ) 
 
   -- over what the code has in hand: the number's sort, the values, what is found of them, the state
   module _ {s : Sort} (s-is : s ≡ sortNumbered number) where
-    pub no-kind : s ≡ Sort.Other → writeFieldsCall t a i number fields position ≡ stateRefused t a i number 22 255
+    pub no-kind : s ≡ Sort.Other → writeFieldsCall t a i number fields position ≡ stateRefused t a i number (codeAt 22 255)
     unfolding writeFieldsCall stateRefused
     no-kind e =
         let not-it : (j : Kind) → eqb number (layoutNo j) ≡ false = λ j. not-its number j (sym s-is ∙ e) in
-        of-kinds valued (λ k. refused 22 i 255) (readStateCall t a i)
-        (λ j. ap (λ (b : Bool). refusalAt 22 i unless b ⨾ valued j) (not-it j) ∙ sym (ap (λ (b : Bool). refusalAt 22 i unless b ⨾ refused 22 i 255) (not-it j)))
+        of-kinds valued (λ k. refusalAt 22 i) (readStateCall t a i)
+        (λ j. ap (λ (b : Bool). refusalAt 22 i unless b ⨾ valued j) (not-it j) ∙ sym (ap (λ (b : Bool). refusalAt 22 i unless b ⨾ refusalAt 22 i) (not-it j)))
 
     module _ {k : Kind} (k-is : s ≡ Sort.Carried k) {vs : List ℕ} (vs-is : vs ≡ valuesIn k fields) {f : Finding} (f-is : f ≡ named (rowsOf k) vs) where
       found : {g : Finding} → f ≡ g → named (rowsOf k) (valuesIn k fields) ≡ g
       found e = sym (f-is ∙ ap (named (rowsOf k)) vs-is) ∙ e
 
-      pub no-value : {r : Refusal} → f ≡ Finding.Refused r → writeFieldsCall t a i number fields position ≡ stateRefused t a i number (r .code) (r .bit)
+      pub no-value : {r : Refusal} → f ≡ Finding.Refused r → writeFieldsCall t a i number fields position ≡ stateRefused t a i number r
       unfolding writeFieldsCall stateRefused
       no-value {r} e =
-          of-kinds valued (λ k. refused (r .code) i (r .bit)) (readStateCall t a i)
-          (only valued (λ k. refused (r .code) i (r .bit)) (sym s-is ∙ k-is) (ap (λ (v : Finding). v of i ⨾ writeStateCall t a i (elementOf k (valuesIn k fields)) position) (found e)))
+          of-kinds valued (λ k. refused (foundIn r i)) (readStateCall t a i)
+          (only valued (λ k. refused (foundIn r i)) (sym s-is ∙ k-is) (ap (λ (v : Finding). v of i ⨾ writeStateCall t a i (elementOf k (valuesIn k fields)) position) (found e)))
 
       pub state-writes : f ≡ Finding.Accepted → {e : Element} → e ≡ elementOf k vs → writeStateCall t a i e position ≡ writeFieldsCall t a i number fields position
       state-writes g e-is =

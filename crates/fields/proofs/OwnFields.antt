@@ -130,7 +130,7 @@ unfolding writeFieldsCall readingOf plainOf
 made-read T A i number F position ha long small e =
     let was = used (readStateCall T A i) _ e in
     let k : Kind = kindIn (was .0) in
-    let q = held (eqb number (layoutNo k)) _ _ _ _ (was .2) in
+    let q = held (eqb number (layoutNo k)) _ _ (was .2) in
     let v = was-accepted (named (rowsOf k) (valuesIn k F)) i (writeStateCall T A i (elementOf k (valuesIn k F)) position) (q .1) in
     let is : number ≡ layoutNo k = eqb-true number (layoutNo k) (q .0) in
     let read = write-then-read T A i (elementOf k (valuesIn k F)) position ha small (v .1) in

@@ -2,10 +2,11 @@
 use Prim.Native.Nat.{ℕ}
 use mathlib.Core.List.{List}
 use lib.Dec.{eqb}
+use Rattle.rows.specs.declared.Refusal.{Refusal}
 use Rattle.kinds.specs.Kinds.{layoutNo, rowsOf, kindIn, elementOf}
 use Rattle.kinds.specs.declared.Kind.{Kind}
 use Rattle.history.specs.Verdict.{Verdict, refused, then, refusalAt, _unless_⨾_}
-use Rattle.history.specs.Image.{_of_⨾_}
+use Rattle.history.specs.Image.{foundIn, _of_⨾_}
 use Rattle.history.specs.Calls.{readStateCall, writeStateCall}
 use Rattle.fields.specs.Fields.{valuesIn, named}
 
@@ -23,6 +24,6 @@ writeFieldsCall T A i number fields position =
     named (rowsOf k) (valuesIn k fields) of i ⨾
     writeStateCall T A i (elementOf k (valuesIn k fields)) position
 
--- a state handed in that is refused with a code and a bit, once table, image, 13 and 22 are passed
-unfoldable pub stateRefused : List ℕ → List ℕ → ℕ → ℕ → ℕ → ℕ → Verdict (List ℕ)
-stateRefused T A i number code bit = ofKind T A i number λ k. refused code i bit
+-- a state handed in of which this is refused, once table, image, 13 and 22 are passed
+unfoldable pub stateRefused : List ℕ → List ℕ → ℕ → ℕ → Refusal → Verdict (List ℕ)
+stateRefused T A i number found = ofKind T A i number λ k. refused (foundIn found i)

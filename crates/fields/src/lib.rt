@@ -10,9 +10,10 @@ use panel::Reading;
 use panel::read_state;
 use panel::write_state;
 use rows::Finding;
+use rows::Refusal;
 use tables::accepted;
 use tables::refused_at;
-use tables::refused_bit;
+use tables::refused_by;
 use walk::check_rows;
 use walk::show_rows;
 use walk::take_rows;
@@ -53,12 +54,12 @@ pub fn write_fields(
 {
     let sort = sort_of(number);
     let Sort::Carried(kind) = sort else {
-        return refuse_state(table, image, object, number, 22, 255);
+        return refuse_state(table, image, object, number, Refusal { code: 22, bit: 255 });
     };
     let values = values_in(fields, kind);
     let finding = check_values(values, kind);
     if let Finding::Refused(r) = finding {
-        return refuse_state(table, image, object, number, r.code, r.bit);
+        return refuse_state(table, image, object, number, r);
     }
     write_state(
         table,
@@ -131,8 +132,8 @@ fn sort_of(number: u32) -> Sort
 }
 
 // A state of which something is refused: what comes before its values comes first.
-fn refuse_state(table: &[u8], image: &[u8], object: u16, number: u32, code: u8, bit: u8) -> Answer
-    ensures { λ r. ⌜ r ≡ told (stateRefused (now (table .entry)) (now (image .entry)) object number code bit) ⌝ }
+fn refuse_state(table: &[u8], image: &[u8], object: u16, number: u32, found: Refusal) -> Answer
+    ensures { λ r. ⌜ r ≡ told (stateRefused (now (table .entry)) (now (image .entry)) object number found) ⌝ }
 {
     let was = read_fields(table, image, object);
     let known = was.kind;
@@ -142,5 +143,5 @@ fn refuse_state(table: &[u8], image: &[u8], object: u16, number: u32, code: u8, 
     if known != number {
         return refused_at(22, object);
     }
-    refused_bit(code, object, bit)
+    refused_by(found, object)
 }

@@ -17,9 +17,9 @@ use Rattle.elements.specs.Elements.{elementCheck}
 use Rattle.kinds.specs.declared.Kind.{Kind}
 use Rattle.octets.specs.Octets.{number}
 use Rattle.history.specs.declared.Answer.{Answer}
-use Rattle.history.specs.Verdict.{Verdict, refused, done, then, refusal, refusalAt, _unless_⨾_, told, numbers, unnamed}
+use Rattle.history.specs.Verdict.{Refused, naming, Verdict, refused, done, then, refusal, refusalAt, _unless_⨾_, told, numbers, unnamed}
 use Rattle.history.specs.Table.{kindAt}
-use Rattle.history.specs.Image.{element, _of_⨾_}
+use Rattle.history.specs.Image.{element, foundIn, _of_⨾_}
 use Rattle.history.specs.declared.Change.{Change}
 use Rattle.history.specs.declared.Change.the-variants.{Keep as keep, Swap as swap}
 use Rattle.history.specs.Changes.{Entry, entryOf, entryAt, checkChange, checkEntry, readEntries}
@@ -32,7 +32,7 @@ use Rattle.tables.proofs.AnswerLaws.{told-refused, told-done, told-then}
 use Rattle.forms.proofs.KindLaws.{length-kinds}
 
 -- what checking an entry hands on
-pub refuses : (at : ℕ) {v : Verdict Entry} {code object bit : ℕ} {a : Answer} → a ≡ numbers code object bit 0 → v ≡ refused code object bit → Passed.Refused a ≡ passed at v
+pub refuses : (at : ℕ) {v : Verdict Entry} {x : Refused} {a : Answer} → a ≡ numbers x 0 → v ≡ refused x → Passed.Refused a ≡ passed at v
 unfolding passed
 refuses at e f = ap Passed.Refused e ∙ sym (ap (passed at) f)
 
@@ -49,11 +49,11 @@ module _ (k : Kind) (i : ℕ) (s : List ℕ) (at : ℕ) {w old new : ℕ} (w-is 
       ap₂ (λ (o n : ℕ). elementCheck k o of i ⨾ elementCheck k n of i ⨾ refusalAt 15 i unless not (eqb o n) ⨾ done (entryOf i k (drop at s))) o n
 
   module _ {f : Finding} (f-is : f ≡ elementCheck k old) where
-    pub old-bad : {r : Refusal} → f ≡ Finding.Refused r → checkChange (entryOf i k (drop at s)) ≡ refused (r .code) i (r .bit)
+    pub old-bad : {r : Refusal} → f ≡ Finding.Refused r → checkChange (entryOf i k (drop at s)) ≡ refused (foundIn r i)
     old-bad {r} e = elements ∙ is-bad (elementCheck k old) i _ r (sym f-is ∙ e)
 
     module _ (old-good : f ≡ Finding.Accepted) {g : Finding} (g-is : g ≡ elementCheck k new) where
-      pub new-bad : {r : Refusal} → g ≡ Finding.Refused r → checkChange (entryOf i k (drop at s)) ≡ refused (r .code) i (r .bit)
+      pub new-bad : {r : Refusal} → g ≡ Finding.Refused r → checkChange (entryOf i k (drop at s)) ≡ refused (foundIn r i)
       new-bad {r} e = elements ∙ is-good (elementCheck k old) i _ (sym f-is ∙ old-good) ∙ is-bad (elementCheck k new) i _ r (sym g-is ∙ e)
 
       module _ (new-good : g ≡ Finding.Accepted) where
@@ -132,13 +132,12 @@ begin ns count b = record { inside = omega arith; same = refl }
 was-passed : (at : ℕ) (v : Verdict Entry) (object next : ℕ) → Passed.Entry object next ≡ passed at v
     → (e : Entry) × (v ≡ done e) × (object ≡ e .object) × (next ≡ at + widthOf (e .kind) + widthOf (e .kind))
 unfolding passed
-was-passed at (refused code o bit) object next e = absurd (let z : _≡_ {A = ℕ} 0 1 = cc in omega arith)
+was-passed at (refused r) object next e = absurd (let z : _≡_ {A = ℕ} 0 1 = cc in omega arith)
 was-passed at (done e) object next p = (e, refl, (cc), (cc))
 
-was-refused : (at : ℕ) (v : Verdict Entry) (a : Answer) → Passed.Refused a ≡ passed at v
-    → (code : ℕ) × (object : ℕ) × (bit : ℕ) × (v ≡ refused code object bit) × (a ≡ numbers code object bit 0)
+was-refused : (at : ℕ) (v : Verdict Entry) (a : Answer) → Passed.Refused a ≡ passed at v → (x : Refused) × (v ≡ refused x) × (a ≡ numbers x 0)
 unfolding passed
-was-refused at (refused code object bit) a e = (code, object, bit, refl, (cc))
+was-refused at (refused r) a e = (r, refl, (cc))
 was-refused at (done e) a p = absurd (let z : _≡_ {A = ℕ} 0 1 = cc in omega arith)
 
 -- what the other entries make of an entry: nothing that an answer tells
@@ -169,7 +168,7 @@ module _ {ns : List ℕ} {count : ℕ} {b : List ℕ} {n low at : ℕ} (l : Left
     pub stops : {a : Answer} → r ≡ Passed.Refused a → a ≡ told (readEntries (kindsOf ns) 0 count b)
     stops {a} p =
         let q = was-refused (at + 2) (entryVerdict ns low (drop at b)) a (sym p ∙ r-is) in
-        q .4 ∙ told-refused (readEntries (kindsOf ns) low n (drop at b)) (one-entry (kindsOf ns) low n (drop at b) more ∙ ap (λ (v : Verdict Entry). then v (after (kindsOf ns) low (n - 1))) (q .3)) refl ∙ sym (l .same)
+        q .2 ∙ told-refused (readEntries (kindsOf ns) low n (drop at b)) (one-entry (kindsOf ns) low n (drop at b) more ∙ ap (λ (v : Verdict Entry). then v (after (kindsOf ns) low (n - 1))) (q .1)) refl ∙ sym (l .same)
 
     pub goes-on : {object next : ℕ} → r ≡ Passed.Entry object next → Left ns count b (n - 1) (object + 1) next
     unfolding after
@@ -198,7 +197,7 @@ module _ {ns : List ℕ} {count : ℕ} {b : List ℕ} {n low at : ℕ} (l : Left
     pub bytes-over : (at ≡ length b → ⊥) → unnamed 8 0 ≡ told (readEntries (kindsOf ns) 0 count b)
     unfolding over
     bytes-over h =
-        told-refused (over (kindsOf ns) low (length b - at)) {code = 8} {object = 65535} {bit = 255} (rw (ne-eqb (length b - at) 0 (λ e. h (omega (arith, l .inside))))) refl
+        told-refused (over (kindsOf ns) low (length b - at)) {x = naming 8 65535 255} (rw (ne-eqb (length b - at) 0 (λ e. h (omega (arith, l .inside))))) refl
         ∙ sym (last none)
 
     pub ended : at ≡ length b → unnamed 0 0 ≡ told (readEntries (kindsOf ns) 0 count b)

@@ -14,7 +14,7 @@ use Rattle.kinds.specs.declared.Kind.{Kind}
 use Rattle.octets.specs.Octets.{number}
 use Rattle.history.specs.Verdict.{Verdict, done, then, told, numbers, unnamed}
 use Rattle.history.specs.Table.{kindAt}
-use Rattle.history.specs.Image.{element, _of_⨾_, widths, readWords}
+use Rattle.history.specs.Image.{element, foundIn, _of_⨾_, widths, readWords}
 use Rattle.tables.specs.Outlines.{kindsOf}
 use Rattle.forms.proofs.Found.{is-bad, is-good}
 use Rattle.tables.proofs.AnswerLaws.{told-refused, told-done, told-then}
@@ -52,7 +52,7 @@ module _ {ns b : List ℕ} {i at : ℕ} (l : Left ns b i at) (h : i < length ns)
         l .same ∙ ap (λ (ks : List Kind). told (readWords i ks (drop at b))) (kinds-next ns i h ∙ ap (λ (k : Kind). k ∷ drop (i + 1) (kindsOf ns)) (sym kind-is))
         ∙ rw (← found-is)
 
-    pub stops : {r : Refusal} → found ≡ Finding.Refused r → numbers (r .code) i (r .bit) 0 ≡ told (readWords 0 (kindsOf ns) b)
+    pub stops : {r : Refusal} → found ≡ Finding.Refused r → numbers (foundIn r i) 0 ≡ told (readWords 0 (kindsOf ns) b)
     stops {r} e = told-refused (found of i ⨾ next) (is-bad found i next r e) refl ∙ sym here
 
     pub goes-on : found ≡ Finding.Accepted → {w : ℕ} → w ≡ widthOf kind → Left ns b (i + 1) (at + w)

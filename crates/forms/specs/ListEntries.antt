@@ -7,5 +7,5 @@ use Rattle.forms.specs.declared.list.Passed.{Passed}
 
 -- the answer, or the object and the place after the entry, whose elements stand from a place on
 unfoldable pub passed : ℕ → Verdict Entry → Passed
-passed at (refused code object bit) = Passed.Refused (numbers code object bit 0)
+passed at (refused r) = Passed.Refused (numbers r 0)
 passed at (done e) = Passed.Entry (e .object) (at + widthOf (e .kind) + widthOf (e .kind))

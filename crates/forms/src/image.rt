@@ -11,7 +11,7 @@ use tables::accepted;
 use tables::first_kinds;
 use tables::outline;
 use tables::refused;
-use tables::refused_bit;
+use tables::refused_by;
 ghost use mathlib.Core.Path.{_≡_};
 ghost use Prim.Native.Nat.{_≤_};
 ghost use lib.ListN.{length};
@@ -74,7 +74,7 @@ fn check_words(kinds: &[u8], words: &[u8]) -> Answer
         let width = elements::width(kind);
         let finding = elements::check_at(words, at, kind);
         if let Finding::Refused(r) = finding {
-            return refused_bit(r.code, i as u16, r.bit);
+            return refused_by(r, i as u16);
         }
         at += width;
         i += 1;

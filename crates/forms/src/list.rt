@@ -12,7 +12,7 @@ use tables::first_kinds;
 use tables::outline;
 use tables::refused;
 use tables::refused_at;
-use tables::refused_bit;
+use tables::refused_by;
 ghost use mathlib.Core.Path.{_≡_};
 ghost use Prim.Native.Nat.{_+_, _≤_, _<_};
 ghost use lib.ListN.{length, drop};
@@ -124,11 +124,11 @@ fn check_change(kind: Kind, object: u16, entries: &[u8], at: usize) -> Passed
     let new = octets::get_at(entries, middle, width);
     let before = elements::check_element(old, kind);
     if let Finding::Refused(r) = before {
-        return Passed::Refused(refused_bit(r.code, object, r.bit));
+        return Passed::Refused(refused_by(r, object));
     }
     let after = elements::check_element(new, kind);
     if let Finding::Refused(r) = after {
-        return Passed::Refused(refused_bit(r.code, object, r.bit));
+        return Passed::Refused(refused_by(r, object));
     }
     if old == new {
         return Passed::Refused(refused_at(15, object));

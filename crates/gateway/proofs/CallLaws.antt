@@ -20,7 +20,7 @@ use Rattle.history.specs.declared.Answer.{Answer}
 use Rattle.history.specs.declared.Standing.{Standing}
 use Rattle.history.specs.Verdict.{Verdict, refused, done, numbers, unnamed, told, settled, Leaves}
 use Rattle.history.specs.Table.{catalogueGood, Object, Table, objectBytes, objectsBytes, labelLimit, readTable}
-use Rattle.history.specs.Image.{element, _of_⨾_}
+use Rattle.history.specs.Image.{element, foundIn, _of_⨾_}
 use Rattle.history.specs.Calls.{readStateCall, Place, labelPlace, labelCall}
 use Rattle.history.specs.Legal.{LegalTable}
 use Rattle.history.proofs.CodeLaws.{Coded, not-zero, read-call-coded}
@@ -57,10 +57,10 @@ unfolding labelTold labelCall
 label-few b i = go (labelCall b i) refl
   where
     go : (v : Verdict Place) → labelCall b i ≡ v → (labelTold v .offset < 65536) × (labelTold v .size < 65536)
-    go (refused code object bit) e = (omega arith, omega arith)
+    go (refused r) e = (omega arith, omega arith)
     go (done p) e =
         let u = used (readTable b) _ e in
-        let v = held (ltb i (length (u .0 .objects))) _ _ _ _ (u .2) in
+        let v = held (ltb i (length (u .0 .objects))) _ _ (u .2) in
         let few = place-few (table-is b (u .1) .legal) i (ltb-true _ _ (v .0)) in
         let p-is : labelPlace (u .0) i ≡ p = cc (v .1) in
         rw (← p-is) few
@@ -100,7 +100,7 @@ module _ (x y ty : ℕ) (b : List ℕ) {s : Bool} (s-is : s ≡ catalogueGood x 
             let g : elementCheck (kindOf x ty) (number b) ≡ v = ap₂ elementCheck (sym is) (sym number-is) ∙ sym found-is ∙ q in
             sym (rw (yes s-is good, yes t-is h, f, g))
 
-        pub element-refused : {r : Refusal} → found ≡ Finding.Refused r → {a : Answer} → a ≡ numbers (r .code) 65535 (r .bit) 0 → a ≡ told (elementCall x y ty b)
+        pub element-refused : {r : Refusal} → found ≡ Finding.Refused r → {a : Answer} → a ≡ numbers (foundIn r 65535) 0 → a ≡ told (elementCall x y ty b)
         unfolding told
         element-refused {r} q e = e ∙ by-finding (Finding.Refused r) q
 
@@ -113,12 +113,12 @@ module _ (x y ty : ℕ) (b : List ℕ) {s : Bool} (s-is : s ≡ catalogueGood x 
 module _ (fields : List ℕ) {p : Plain} where
   stay : (v : Verdict Element) → p ≡ plainOf (readingOf v) → (p .answer .code ≡ 0 → ⊥) → fields ≡ fieldsAfter v fields
   unfolding plainOf shownOf readingOf fieldsAfter
-  stay (refused code object bit) e n = refl
+  stay (refused r) e n = refl
   stay (done state) e n = absurd (n (ap (λ (p : Plain). p .answer .code) e))
 
   show : (v : Verdict Element) → Coded v → p ≡ plainOf (readingOf v) → p .answer .code ≡ 0 → p .fields ≡ fieldsAfter v fields
   unfolding plainOf shownOf readingOf fieldsAfter
-  show (refused code object bit) c e z = not-zero c (sym (ap (λ (p : Plain). p .answer .code) e) ∙ z)
+  show (refused r) c e z = not-zero c (sym (ap (λ (p : Plain). p .answer .code) e) ∙ z)
   show (done state) c e z = ap (λ (p : Plain). p .fields) e
 
 module _ (T A : List ℕ) (i : ℕ) (fields : List ℕ) {p : Plain} (is : p ≡ plainOf (readingOf (readStateCall T A i))) where

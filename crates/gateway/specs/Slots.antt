@@ -28,7 +28,7 @@ readSlots r = slots (r .answer) (r .kind) 0
 
 -- the fields at the end: those of the state that was read, or as they were
 unfoldable pub fieldsAfter : Verdict Element → List ℕ → List ℕ
-fieldsAfter (refused code object bit) fields = fields
+fieldsAfter (refused r) fields = fields
 fieldsAfter (done state) fields = fieldsOf state .fields
 
 -- the sixth and the seventh are the label's first byte in the table and its size

@@ -4,7 +4,7 @@ use rows::Finding;
 use tables::accepted;
 use tables::is_catalogue;
 use tables::refused;
-use tables::refused_bit;
+use tables::refused_by;
 ghost use mathlib.Core.Path.{_≡_};
 ghost use Rattle.history.specs.Verdict.{told};
 ghost use Rattle.gateway.specs.Calls.{elementCall};
@@ -25,7 +25,7 @@ pub fn check_element(x: u8, y: u8, ty: u8, element: &[u8]) -> Answer
     }
     let finding = elements::check_element(octets::get(element), kind);
     if let Finding::Refused(r) = finding {
-        return refused_bit(r.code, 65535, r.bit);
+        return refused_by(r, 65535);
     }
     accepted()
 }

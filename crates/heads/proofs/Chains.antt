@@ -45,7 +45,7 @@ unfolding readTable countIn objectsPlace
 table-chain b = form-then 5 versionGood b _ ∙ rw (drop-drop 2 7 b)
 
 pub table-held : (b : List ℕ) {t : Table} → readTable b ≡ done t → objectsPlace ≤ length b
-table-held b e = table-inside b (held (isWhole 5 b) _ _ _ _ (sym (table-chain b) ∙ e) .0)
+table-held b e = table-inside b (held (isWhole 5 b) _ _ (sym (table-chain b) ∙ e) .0)
 
 -- 1, 2, 9, 8, then the elements
 abbrev pub imageWith : List ℕ → List ℕ → Image
@@ -67,10 +67,10 @@ image-chain p b =
 
 pub image-held : (p : Plan) (b : List ℕ) {a : Image} → readImage p b ≡ done a → imageHead b ≤ length b
 image-held p b e =
-    let p₁ = held (isWhole 7 b) _ _ _ _ (sym (image-chain p b) ∙ e) in
-    let p₂ = held (imageVersionGood (getD b 4 0)) _ _ _ _ (p₁ .1) in
-    let p₃ = held (isUnder (p .x) (p .y) b) _ _ _ _ (p₂ .1) in
-    let p₄ = held (eqb (length b) (imageHead b + widths (p .kinds))) _ _ _ _ (p₃ .1) in
+    let p₁ = held (isWhole 7 b) _ _ (sym (image-chain p b) ∙ e) in
+    let p₂ = held (imageVersionGood (getD b 4 0)) _ _ (p₁ .1) in
+    let p₃ = held (isUnder (p .x) (p .y) b) _ _ (p₂ .1) in
+    let p₄ = held (eqb (length b) (imageHead b + widths (p .kinds))) _ _ (p₃ .1) in
     omega (arith, eqb-true (length b) (imageHead b + widths (p .kinds)) (p₄ .0))
 
 -- 1, 2, 9, then the entries

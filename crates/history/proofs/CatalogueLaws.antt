@@ -13,15 +13,16 @@ use lib.Dec.{eqb, leb, ltb}
 use borrow.Author.Tests.{lt-ltb, eqb-true, eq-eqb, ne-eqb}
 use Rattle.octets.specs.Octets.{number}
 use Rattle.kinds.specs.Kinds.{kindIn}
+use Rattle.rows.specs.declared.Refusal.{Refusal}
 use Rattle.kinds.specs.declared.Kind.{Kind}
 use Rattle.kinds.specs.declared.Element.{Element}
 use Rattle.elements.specs.Elements.{carried, kindOf, sameKind, wordOf}
 use Rattle.elements.proofs.Findings.{Refuses, reserved, unlisted, silent}
 use Rattle.elements.proofs.Annex.{one-kind}
-use Rattle.history.specs.Verdict.{refused, done, then, refusal, _unless_⨾_}
+use Rattle.history.specs.Verdict.{Refused, done, then, refusal, refusalAt, _unless_⨾_}
 use Rattle.history.specs.Form.{Form, readForm}
 use Rattle.history.specs.Table.{Object, Table, object, versionGood, catalogueGood, readObjects, readTable, Plan, planOf, kindAt, sameCatalogue}
-use Rattle.history.specs.Image.{Image, imageVersionGood, element, _of_⨾_, widths, readWords, elementsFrom, readImage}
+use Rattle.history.specs.Image.{Image, imageVersionGood, element, foundIn, _of_⨾_, widths, readWords, elementsFrom, readImage}
 use Rattle.history.specs.Changes.{Changes, readEntries, listVersion, readList}
 use Rattle.history.specs.Calls.{readPlan, tableCall, imageCall, listCall, readStateCall, checkState, writeStateUnder, writeStateCall}
 use Rattle.history.proofs.VerdictLaws.{left, right, either, refuted, past, stopped, passed-up}
@@ -48,7 +49,7 @@ catalogue-is x y e = (
 )
 
 -- what follows the catalogue is not refused with 3
-not-three : (f : Form) (g : List Object → Table) → Named (λ code object bit. code ≡ 3 → ⊥)
+not-three : (f : Form) (g : List Object → Table) → Named (λ r. r .code ≡ 3 → ⊥)
     (refusal 4 unless leb (number (take 2 (f .contents))) 1024 ⨾ then (readObjects (f .version) (f .x) [] (number (take 2 (f .contents))) (drop 2 (f .contents))) λ os. done (g os))
 not-three f g =
     named-unless (leb (number (take 2 (f .contents))) 1024) _ _ (λ q. refuses (λ c. omega arith)) λ q.
@@ -59,7 +60,7 @@ not-three f g =
 pub catalogue-exactly : (T : List ℕ) {f : Form} → readForm 5 versionGood T ≡ done f → (tableCall T ≡ refusal 3) ↔ (CarriedCatalogue (f .x) (f .y) → ⊥)
 unfolding tableCall readTable
 catalogue-exactly T {f} e = (
-  (λ r c. false≢true (sym (stopped (catalogueGood (f .x) (f .y)) 3 65535 255 _ (λ q. not-three f _ .names q refl) (rw e at r)) ∙ catalogue-carried (f .x) (f .y) c)),
+  (λ r c. false≢true (sym (stopped (catalogueGood (f .x) (f .y)) _ _ (λ q. not-three f _ .names q refl) (rw e at r)) ∙ catalogue-carried (f .x) (f .y) c)),
   (λ n. rw (e, refuted (catalogueGood (f .x) (f .y)) (λ q. n (catalogue-is (f .x) (f .y) q)))),
 )
 
@@ -99,11 +100,11 @@ element-codes (reserved r h) = omega arith
 element-codes (unlisted r h) = omega arith
 element-codes (silent h) = omega arith
 
-abbrev Not9 : ℕ → ℕ → ℕ → Type 0
-Not9 code object bit = code ≡ 9 → ⊥
+abbrev Not9 : Refused → Type 0
+Not9 r = r .code ≡ 9 → ⊥
 
-field-not-9 : (ks : List Kind) (code i bit : ℕ) → i < length ks → Refuses (kindAt ks i) code bit → Not9 code i bit
-field-not-9 ks code i bit l r c = omega (arith, element-codes r)
+field-not-9 : (ks : List Kind) (f : Refusal) (i : ℕ) → i < length ks → Refuses (kindAt ks i) (f .code) (f .bit) → Not9 (foundIn f i)
+field-not-9 ks f i l r c = omega (arith, element-codes r)
 
 -- the catalogue is the table's
 abbrev pub OfTable : Form → Table → Type 0
@@ -119,7 +120,7 @@ module _ (T : List ℕ) {t : Table} (rt : tableCall T ≡ done t) where
   pub other-image : (A : List ℕ) {f : Form} → readForm 7 imageVersionGood A ≡ done f → (imageCall T A ≡ refusal 9) ↔ (OfTable f t → ⊥)
   unfolding imageCall readImage
   other-image A {f} e = (
-    (λ r c. false≢true (sym (stopped (sameCatalogue f p) 9 65535 255 _ (λ q. rest .names q refl) (rw (planned T rt .reads, e) at r)) ∙ same-form f c)),
+    (λ r c. false≢true (sym (stopped (sameCatalogue f p) _ _ (λ q. rest .names q refl) (rw (planned T rt .reads, e) at r)) ∙ same-form f c)),
     (λ n. rw (planned T rt .reads, e, other-form f n)),
   )
     where
@@ -134,7 +135,7 @@ module _ (T : List ℕ) {t : Table} (rt : tableCall T ≡ done t) where
   pub other-list : (L : List ℕ) {f : Form} → readForm 13 (eqb listVersion) L ≡ done f → (listCall T L ≡ refusal 9) ↔ (OfTable f t → ⊥)
   unfolding listCall readList
   other-list L {f} e = (
-    (λ r c. false≢true (sym (stopped (sameCatalogue f p) 9 65535 255 _ (λ q. rest .names q refl) (rw (planned T rt .reads, e) at r)) ∙ same-form f c)),
+    (λ r c. false≢true (sym (stopped (sameCatalogue f p) _ _ (λ q. rest .names q refl) (rw (planned T rt .reads, e) at r)) ∙ same-form f c)),
     (λ n. rw (planned T rt .reads, e, other-form f n)),
   )
     where
@@ -153,15 +154,15 @@ module _ (T : List ℕ) {t : Table} (rt : tableCall T ≡ done t) where
 -- ---- 22
 
 module _ (T A : List ℕ) {p : Plan} {a : Image} (t : readPlan T ≡ done p) (ea : imageCall T A ≡ done a) (i : ℕ) (e : Element) (position : ℕ) where
-  not-22 : Named (λ code object bit. code ≡ 22 → ⊥) (element (kindAt (p .kinds) i) (wordOf e) of i ⨾ done (wordOf e))
+  not-22 : Named (λ r. r .code ≡ 22 → ⊥) (element (kindAt (p .kinds) i) (wordOf e) of i ⨾ done (wordOf e))
   not-22 = named-of (element (kindAt (p .kinds) i) (wordOf e)) i _ (λ x q c. omega (arith, element-codes (refuses-as (kindAt (p .kinds) i) (wordOf e) q))) accepts
 
-  pub kind-exactly : i < length (p .kinds) → (writeStateCall T A i e position ≡ refused 22 i 255) ↔ (kindIn e ≡ kindAt (p .kinds) i → ⊥)
+  pub kind-exactly : i < length (p .kinds) → (writeStateCall T A i e position ≡ refusalAt 22 i) ↔ (kindIn e ≡ kindAt (p .kinds) i → ⊥)
   unfolding imageCall writeStateCall writeStateUnder checkState
   kind-exactly l = (
     (λ r s.
-        let q = past (ltb i (length (p .kinds))) 13 i 255 _ (λ z. omega arith) (passed-up (checkState (p .kinds) i e) _ (rw (t, rw t at ea) at r)) in
-        false≢true (sym (stopped (sameKind (kindIn e) (kindAt (p .kinds) i)) 22 i 255 _ (λ q. not-22 .names q refl) (q .1)) ∙ is-same-kind (kindIn e) (kindAt (p .kinds) i) s)),
+        let q = past (ltb i (length (p .kinds))) _ _ (λ z. omega arith) (passed-up (checkState (p .kinds) i e) _ (rw (t, rw t at ea) at r)) in
+        false≢true (sym (stopped (sameKind (kindIn e) (kindAt (p .kinds) i)) _ _ (λ q. not-22 .names q refl) (q .1)) ∙ is-same-kind (kindIn e) (kindAt (p .kinds) i) s)),
     (λ n. rw (t, rw t at ea, lt-ltb i (length (p .kinds)) l, refuted (sameKind (kindIn e) (kindAt (p .kinds) i)) (λ q. n (same-kind (kindIn e) (kindAt (p .kinds) i) q)))),
   )
 
@@ -192,7 +193,7 @@ read-by-type T A i {t} rt re =
 -- a state of the object's type under any X, handed in: 22 exactly where the type is 1 and the X is not the table's; with data or without
 pub handed-across : (U B : List ℕ) (x j : ℕ) (e : Element) (position : ℕ) {u : Table} {b : Image} → tableCall U ≡ done u → imageCall U B ≡ done b → j < length (u .objects)
     → carried x (object u j .type) ≡ true → kindIn e ≡ kindOf x (object u j .type)
-    → (writeStateCall U B j e position ≡ refused 22 j 255) ↔ ((object u j .type ≡ 1) × (x ≡ u .x → ⊥))
+    → (writeStateCall U B j e position ≡ refusalAt 22 j) ↔ ((object u j .type ≡ 1) × (x ≡ u .x → ⊥))
 handed-across U B x j e position {u} ru rb l held mine =
     let w = planned U ru in
     let exactly = kind-exactly U B (w .reads) rb j e position (omega (arith, w .count)) in
@@ -201,7 +202,7 @@ handed-across U B x j e position {u} ru rb l held mine =
 -- .. so of a state that is read from an object of the same type under any table
 pub across-catalogues : (T A U B : List ℕ) (i j position : ℕ) {t u : Table} {b : Image} {e : Element}
     → tableCall T ≡ done t → readStateCall T A i ≡ done e → tableCall U ≡ done u → imageCall U B ≡ done b → j < length (u .objects) → object t i .type ≡ object u j .type
-    → (writeStateCall U B j e position ≡ refused 22 j 255) ↔ ((object u j .type ≡ 1) × (t .x ≡ u .x → ⊥))
+    → (writeStateCall U B j e position ≡ refusalAt 22 j) ↔ ((object u j .type ≡ 1) × (t .x ≡ u .x → ⊥))
 across-catalogues T A U B i j position {t} {u} {e = e} rt re ru rb l same =
     let r = read-by-type T A i rt re in
     handed-across U B (t .x) j e position ru rb l (sym (ap (carried (t .x)) same) ∙ planned T rt .type i (r .0)) (r .1 ∙ ap (kindOf (t .x)) same)

@@ -12,7 +12,7 @@ use Rattle.kinds.specs.declared.Kind.{Kind}
 use Rattle.kinds.specs.declared.Element.{Element}
 use Rattle.elements.proofs.Findings.{Refuses, reserved, unlisted, silent}
 use Rattle.history.specs.declared.Answer.{Answer}
-use Rattle.history.specs.Verdict.{Verdict, refused, done, told, settled}
+use Rattle.history.specs.Verdict.{Refused, Verdict, refused, done, told, settled}
 use Rattle.history.specs.Table.{Plan}
 use Rattle.history.specs.Image.{Image, readImage}
 use Rattle.history.specs.Changes.{Changes, readList}
@@ -30,7 +30,7 @@ abbrev pub IsCode : ℕ → Type 0
 IsCode code = oneOf codes code ≡ true
 
 abbrev pub Coded : {A : Type 0} → Verdict A → Type 0
-Coded (refused code object bit) = IsCode code
+Coded (refused r) = IsCode (r .code)
 Coded (done a) = Unit {0}
 
 -- ---- what names as the paper says has one of its codes
@@ -52,12 +52,12 @@ field-code (reserved r e) = refl
 field-code (unlisted r e) = refl
 field-code (silent e) = refl
 
-pub coded-by : {P : ℕ → ℕ → ℕ → Type 0} {A : Type 0} {v : Verdict A} → ((code object bit : ℕ) → P code object bit → IsCode code) → Named P v → Coded v
-coded-by {v = refused code object bit} f h = f code object bit (h .names refl)
+pub coded-by : {P : Refused → Type 0} {A : Type 0} {v : Verdict A} → ((r : Refused) → P r → IsCode (r .code)) → Named P v → Coded v
+coded-by {v = refused r} f h = f r (h .names refl)
 coded-by {v = done a} f h = tt
 
 module _ {n : ℕ} {ks : List Kind} {given : ℕ → Type 0} where
-  code-of : {code object bit : ℕ} → Names n ks given code object bit → IsCode code
+  code-of : {r : Refused} → Names n ks given r → IsCode (r .code)
   code-of (nothing {code} h) = one-of nothings code refl h
   code-of (an-object {code} h l) = one-of objects code refl h
   code-of (its-number {code} h g l) = one-of itsNumbers code refl h
@@ -65,7 +65,7 @@ module _ {n : ℕ} {ks : List Kind} {given : ℕ → Type 0} where
   code-of (its-field l r) = field-code r
 
   pub coded : {A : Type 0} {v : Verdict A} → Named (Names n ks given) v → Coded v
-  coded h = coded-by (λ code object bit. code-of) h
+  coded h = coded-by (λ r. code-of) h
 
 -- ---- forms and operations under any plan
 
@@ -122,7 +122,7 @@ not-zero h e = absurd (false≢true (sym (ap (oneOf codes) e) ∙ h))
 -- of a call that writes: there was room for what it found
 pub zero-succeeds : (v : Verdict (List ℕ)) (out : List ℕ) → Coded v → settled v out .answer .code ≡ 0 → (b : List ℕ) × (v ≡ done b) × (length b ≤ length out)
 unfolding settled
-zero-succeeds (refused code object bit) out h e = not-zero h e
+zero-succeeds (refused r) out h e = not-zero h e
 zero-succeeds (done b) out h e = (b, refl, go (leb (length b) (length out)) refl)
   where
     go : (u : Bool) → leb (length b) (length out) ≡ u → length b ≤ length out
@@ -147,5 +147,5 @@ delivered {v} {out} {r} {m} c o z =
 -- of any other
 pub zero-told : {A : Type 0} (v : Verdict A) → Coded v → told v .code ≡ 0 → (a : A) × (v ≡ done a)
 unfolding told
-zero-told (refused code object bit) h e = not-zero h e
+zero-told (refused r) h e = not-zero h e
 zero-told (done a) h e = (a, refl)

@@ -11,7 +11,7 @@ use Rattle.elements.specs.Elements.{stateOf, wordOf}
 use Rattle.elements.proofs.DatLaws.{Stale}
 use Rattle.kinds.specs.declared.Element.{Element}
 use Rattle.octets.specs.Octets.{Bytes}
-use Rattle.history.specs.Verdict.{refused, done, refusal}
+use Rattle.history.specs.Verdict.{Refused, naming, refused, done, refusal}
 use Rattle.history.specs.Table.{Table, tableBytes, Plan, kindAt}
 use Rattle.history.specs.Image.{Image, imageBytes}
 use Rattle.history.specs.declared.Change.the-variants.{Keep as keep}
@@ -37,12 +37,12 @@ unfolding tableCall
 table-exactly T h t = table-form T h t
 
 -- 5 exactly where the objects before are those of a legal table and the next is of a type that its catalogue doesn't carry; the next is named
-pub type-exactly : (T : List ℕ) → Bytes T → (k bit : ℕ) → (tableCall T ≡ refused 5 k bit) ↔ (FirstNotCarried T k × (bit ≡ 255))
+pub type-exactly : (T : List ℕ) → Bytes T → (k bit : ℕ) → (tableCall T ≡ refused (naming 5 k bit)) ↔ (FirstNotCarried T k × (bit ≡ 255))
 unfolding tableCall
 type-exactly T h k bit = table-others T h k bit
 
 -- 7 exactly where the objects before are those of a legal table and the next is as one of them; the next is named
-pub repeat-exactly : (T : List ℕ) → Bytes T → (k bit : ℕ) → (tableCall T ≡ refused 7 k bit) ↔ (FirstRepeat T k × (bit ≡ 255))
+pub repeat-exactly : (T : List ℕ) → Bytes T → (k bit : ℕ) → (tableCall T ≡ refused (naming 7 k bit)) ↔ (FirstRepeat T k × (bit ≡ 255))
 unfolding tableCall
 repeat-exactly T h k bit = table-repeats T h k bit
 
@@ -164,15 +164,15 @@ difference-not-longer T A B ha hb e =
 -- ---- what is refused, and what a refusal names
 
 -- of accepted forms, what the operation refuses
-apply-refused : (T A L : List ℕ) {a : Image} {l : Changes} {code object bit : ℕ} → imageCall T A ≡ done a → listCall T L ≡ done l
-    → (applyCall T A L ≡ refused code object bit) ↔ (applied l a ≡ refused code object bit)
+apply-refused : (T A L : List ℕ) {a : Image} {l : Changes} {r : Refused} → imageCall T A ≡ done a → listCall T L ≡ done l
+    → (applyCall T A L ≡ refused r) ↔ (applied l a ≡ refused r)
 unfolding imageCall listCall applyCall applyUnder
 apply-refused T A L {a} {l} ea el =
     let t = image-under T A ea .reads in
     ((λ e. passed-up (applied l a) _ (rw (t, rw t at ea, rw t at el) at e)), (λ e. rw (t, rw t at ea, rw t at el, e)))
 
-join-refused : (T L M : List ℕ) {l m : Changes} {code object bit : ℕ} → listCall T L ≡ done l → listCall T M ≡ done m
-    → (joinCall T L M ≡ refused code object bit) ↔ (join l m ≡ refused code object bit)
+join-refused : (T L M : List ℕ) {l m : Changes} {r : Refused} → listCall T L ≡ done l → listCall T M ≡ done m
+    → (joinCall T L M ≡ refused r) ↔ (join l m ≡ refused r)
 unfolding listCall joinCall joinUnder
 join-refused T L M {l} {m} el em =
     let t = list-under T L el .reads in
@@ -191,12 +191,12 @@ apart-exactly T L M {l} {m} el em = Iff·trans (join-refused T L M el em) (apart
 
 -- 18: the lowest object whose old element is not the image's
 pub names-lowest-old : (T A L : List ℕ) {a : Image} {l : Changes} {j bit : ℕ} → imageCall T A ≡ done a → listCall T L ≡ done l
-    → applyCall T A L ≡ refused 18 j bit → Lowest fits keep 0 (l .each) (a .words) j × (bit ≡ 255)
+    → applyCall T A L ≡ refused (naming 18 j bit) → Lowest fits keep 0 (l .each) (a .words) j × (bit ≡ 255)
 names-lowest-old T A L {a} {l} ea el e = names-old l a (apply-refused T A L ea el .0 e)
 
 -- 20: the lowest object whose new element in the first is not its old one in the second
 pub names-lowest-meeting : (T L M : List ℕ) {l m : Changes} {j bit : ℕ} → listCall T L ≡ done l → listCall T M ≡ done m
-    → joinCall T L M ≡ refused 20 j bit → Lowest meets keep keep (l .each) (m .each) j × (bit ≡ 255)
+    → joinCall T L M ≡ refused (naming 20 j bit) → Lowest meets keep keep (l .each) (m .each) j × (bit ≡ 255)
 names-lowest-meeting T L M {l} {m} el em e = names-meeting l m (join-refused T L M el em .0 e)
 
 -- ---- demand 2, on images
@@ -213,7 +213,7 @@ current-written T A i e position {p} {a} ha t ea l s n =
 -- .. and then refused with 12
 pub stale-refused : (T A : List ℕ) (i : ℕ) (e : Element) (position : ℕ) {p : Plan} {a : Image} → Bytes A → readPlan T ≡ done p → imageCall T A ≡ done a
     → i < length (p .kinds) → kindIn e ≡ kindAt (p .kinds) i → Stale (kindIn e) (wordOf e)
-    → writeStateCall T A i e position ≡ refused 12 i 0
+    → writeStateCall T A i e position ≡ refused (naming 12 i 0)
 stale-refused T A i e position ha t ea l s h = write-stale T t (accepted-image T t A ha ea) i e position l s h
 
 -- a state written is read

@@ -13,29 +13,29 @@ use borrow.Author.Tests.{le-leb, leb-true, not-false}
 use Rattle.elements.specs.Elements.{carried}
 use Rattle.octets.specs.Octets.{bytes, number, Bytes}
 use Rattle.octets.proofs.NumberLaws.{length-bytes, read-bytes, drop-bytes, below, cut}
-use Rattle.history.specs.Verdict.{refused, done, refusalAt}
+use Rattle.history.specs.Verdict.{Refused, naming, refused, done, refusalAt}
 use Rattle.history.specs.Form.{Form, formBytes, readForm}
 use Rattle.history.specs.Table.{Object, Table, object, versionGood, catalogueGood, objectBytes, objectsBytes, repeats, ObjectEntry, objectAt, checkObject, readObjects, readTable}
 use Rattle.history.specs.Legal.{LegalTable}
-use Rattle.history.proofs.VerdictLaws.{either-refused, passed-up, past, stopped}
+use Rattle.history.proofs.VerdictLaws.{one-refusal, either-refused, passed-up, past, stopped}
 use Rattle.history.proofs.FormLaws.{form-whole, form-version, form-other, form-is, form-length, form-reads}
 use Rattle.history.proofs.TableLaws.{repeats-one, repeats-each, LegalFrom, legal-each, legal-distinct, legal-from, tested, object-is, object-checked, object-other, objects-pass}
 
 module _ (version x : ℕ) where
   -- the first entry that is refused: those before it are legal
-  record Stops (earlier : List Object) (n : ℕ) (b : List ℕ) (code k bit : ℕ) : Type 0 where
+  record Stops (earlier : List Object) (n : ℕ) (b : List ℕ) (r : Refused) : Type 0 where
     more : List Object
     legal : LegalFrom version x earlier more
     count : length more < n
     rest : List ℕ
     same : b ≡ objectsBytes more ++ rest
-    here : checkObject version x (earlier ++ more) rest (objectAt rest) ≡ refused code k bit
+    here : checkObject version x (earlier ++ more) rest (objectAt rest) ≡ refused r
 
-  stops-here : (earlier : List Object) (n : ℕ) (b : List ℕ) {code k bit : ℕ} → checkObject version x earlier b (objectAt b) ≡ refused code k bit → Stops earlier (suc n) b code k bit
+  stops-here : (earlier : List Object) (n : ℕ) (b : List ℕ) {r : Refused} → checkObject version x earlier b (objectAt b) ≡ refused r → Stops earlier (suc n) b r
   stops-here earlier n b q = record { more = []; legal = tt; count = omega arith; rest = b; same = refl; here = rw (append-nil earlier) q }
 
-  stops-later : (earlier : List Object) (n : ℕ) (b : List ℕ) {f : ObjectEntry} {code k bit : ℕ} → checkObject version x earlier b (objectAt b) ≡ done f
-      → Stops (earlier ++ (f .object ∷ [])) n (f .rest) code k bit → Stops earlier (suc n) b code k bit
+  stops-later : (earlier : List Object) (n : ℕ) (b : List ℕ) {f : ObjectEntry} {r : Refused} → checkObject version x earlier b (objectAt b) ≡ done f
+      → Stops (earlier ++ (f .object ∷ [])) n (f .rest) r → Stops earlier (suc n) b r
   stops-later earlier n b {f} q r =
       let i = object-is version x earlier b q in
       let o : Object = f .object in
@@ -49,8 +49,8 @@ module _ (version x : ℕ) where
       }
 
   -- (8 is given too where bytes are left over)
-  stops : (earlier : List Object) (n : ℕ) (b : List ℕ) {code k bit : ℕ} → code < 8 → readObjects version x earlier n b ≡ refused code k bit → Stops earlier n b code k bit
-  stops earlier zero b l e = absurd (let p = past (eqb (length b) 0) 8 65535 255 _ (λ z. omega arith) e in let z : _≡_ {A = ℕ} 0 1 = cc (p .1) in omega arith)
+  stops : (earlier : List Object) (n : ℕ) (b : List ℕ) {r : Refused} → r .code < 8 → readObjects version x earlier n b ≡ refused r → Stops earlier n b r
+  stops earlier zero b l e = absurd (let p = past (eqb (length b) 0) _ _ (λ z. omega arith) e in let z : _≡_ {A = ℕ} 0 1 = cc (p .1) in omega arith)
   stops earlier (suc n) b l e =
       ⊎-elim (stops-here earlier n b) (λ p. stops-later earlier n b (p .1) (stops (earlier ++ (p .0 .object ∷ [])) n (p .0 .rest) l (p .2)))
       (either-refused (checkObject version x earlier b (objectAt b)) _ e)
@@ -76,12 +76,12 @@ pub record FirstAt (GoesOn : Table → List ℕ → Type 0) (b : List ℕ) (k : 
 -- the entry behind a legal table's objects is refused with the code exactly where the bytes go on so; it is named, and no bit
 abbrev RefusedWith : ℕ → (Table → List ℕ → Type 0) → Type 0
 RefusedWith code GoesOn = (t : Table) → LegalTable t → (rest : List ℕ) (k bit : ℕ)
-    → (checkObject (t .version) (t .x) (t .objects) rest (objectAt rest) ≡ refused code k bit) ↔ (GoesOn t rest × (length (t .objects) ≡ k) × (bit ≡ 255))
+    → (checkObject (t .version) (t .x) (t .objects) rest (objectAt rest) ≡ refused (naming code k bit)) ↔ (GoesOn t rest × (length (t .objects) ≡ k) × (bit ≡ 255))
 
 -- so is the table, if the code is one of entries alone: 5, 6, 7
 module _ (code : ℕ) (GoesOn : Table → List ℕ → Type 0) (late : 4 < code) (early : code < 8) (exactly : RefusedWith code GoesOn) where
   first-contents : (b : List ℕ) (f : Form) {k bit : ℕ} → Bytes b → readForm 5 versionGood b ≡ done f → catalogueGood (f .x) (f .y) ≡ true → number (take 2 (f .contents)) ≤ 1024
-      → Stops (f .version) (f .x) [] (number (take 2 (f .contents))) (drop 2 (f .contents)) code k bit → FirstAt GoesOn b k × (bit ≡ 255)
+      → Stops (f .version) (f .x) [] (number (take 2 (f .contents))) (drop 2 (f .contents)) (naming code k bit) → FirstAt GoesOn b k × (bit ≡ 255)
   first-contents b f {k} {bit} h e c few r =
       let n : ℕ = number (take 2 (f .contents)) in
       let o = form-is 5 versionGood b (omega arith) h e in
@@ -111,15 +111,15 @@ module _ (code : ℕ) (GoesOn : Table → List ℕ → Type 0) (late : 4 < code)
         x .2,
       )
 
-  first-found : (b : List ℕ) → Bytes b → {k bit : ℕ} → readTable b ≡ refused code k bit → FirstAt GoesOn b k × (bit ≡ 255)
+  first-found : (b : List ℕ) → Bytes b → {k bit : ℕ} → readTable b ≡ refused (naming code k bit) → FirstAt GoesOn b k × (bit ≡ 255)
   unfolding readTable
   first-found b h e =
       ⊎-elim (λ r. absurd (form-other 5 versionGood b (omega arith) r))
       (λ p.
       let f = p .0 in
       let n : ℕ = number (take 2 (f .contents)) in
-      let p₁ = past (catalogueGood (f .x) (f .y)) 3 65535 255 _ (λ z. omega arith) (p .2) in
-      let p₂ = past (leb n 1024) 4 65535 255 _ (λ z. omega arith) (p₁ .1) in
+      let p₁ = past (catalogueGood (f .x) (f .y)) _ _ (λ z. omega arith) (p .2) in
+      let p₂ = past (leb n 1024) _ _ (λ z. omega arith) (p₁ .1) in
       let p₃ = passed-up (readObjects (f .version) (f .x) [] n (drop 2 (f .contents))) _ (p₂ .1) in
       first-contents b f h (p .1) (p₁ .0) (leb-true _ _ (p₂ .0)) (stops (f .version) (f .x) [] n (drop 2 (f .contents)) early p₃))
       (either-refused (readForm 5 versionGood b) _ e)
@@ -148,8 +148,8 @@ module _ (code : ℕ) (GoesOn : Table → List ℕ → Type 0) (late : 4 < code)
         read,
       )
 
-  first-exactly : (b : List ℕ) → Bytes b → (k bit : ℕ) → (readTable b ≡ refused code k bit) ↔ (FirstAt GoesOn b k × (bit ≡ 255))
-  first-exactly b h k bit = (first-found b h, (λ w. first-reads b k (w .0) ∙ ap (refused code k) (sym (w .1))))
+  first-exactly : (b : List ℕ) → Bytes b → (k bit : ℕ) → (readTable b ≡ refused (naming code k bit)) ↔ (FirstAt GoesOn b k × (bit ≡ 255))
+  first-exactly b h k bit = (first-found b h, (λ w. first-reads b k (w .0) ∙ ap (λ (bit : ℕ). refused (naming code k bit)) (sym (w .1))))
 
 -- ---- 5
 
@@ -168,7 +168,7 @@ abbrev pub FirstNotCarried : List ℕ → ℕ → Type 0
 FirstNotCarried = FirstAt NotCarried
 
 -- 5 exactly where a table begins in this way
-pub table-others : (b : List ℕ) → Bytes b → (k bit : ℕ) → (readTable b ≡ refused 5 k bit) ↔ (FirstNotCarried b k × (bit ≡ 255))
+pub table-others : (b : List ℕ) → Bytes b → (k bit : ℕ) → (readTable b ≡ refused (naming 5 k bit)) ↔ (FirstNotCarried b k × (bit ≡ 255))
 table-others = first-exactly 5 NotCarried (omega arith) (omega arith) other-exactly
 
 -- ---- 7
@@ -184,11 +184,11 @@ again-exactly : RefusedWith 7 Again
 again-exactly t legal rest k bit = (
   (λ q.
       let o : Object = objectAt rest .object in
-      let i = tested (t .version) (t .x) (t .objects) rest (λ code object bit m z. m cc) q in
-      let old = stopped (not (repeats o (t .objects))) _ _ _ _ (λ z. let y : _≡_ {A = ℕ} 0 1 = cc in omega arith) (i .last) in
+      let i = tested (t .version) (t .x) (t .objects) rest (λ r m z. m cc) q in
+      let old = stopped (not (repeats o (t .objects))) _ _ (λ z. let y : _≡_ {A = ℕ} 0 1 = cc in omega arith) (i .last) in
       let r = repeats-one o (t .objects) (not-false (repeats o (t .objects)) old) in
-      let is = rw old at (i .last) in
-      (record { again = r .0; earlier = r .1; after = objectAt rest .rest; same = rw (r .2) (i .whole) }, cc, cc)),
+      let is = one-refusal (rw old at (i .last)) in
+      (record { again = r .0; earlier = r .1; after = objectAt rest .rest; same = rw (r .2) (i .whole) }, ap (λ (r : Refused). r .object) is, sym (ap (λ (r : Refused). r .bit) is))),
   (λ w.
       let a = w .0 in
       let legal-again = legal .each (a .again) (a .earlier) in
@@ -200,5 +200,5 @@ abbrev pub FirstRepeat : List ℕ → ℕ → Type 0
 FirstRepeat = FirstAt Again
 
 -- 7 exactly where a table begins in this way
-pub table-repeats : (b : List ℕ) → Bytes b → (k bit : ℕ) → (readTable b ≡ refused 7 k bit) ↔ (FirstRepeat b k × (bit ≡ 255))
+pub table-repeats : (b : List ℕ) → Bytes b → (k bit : ℕ) → (readTable b ≡ refused (naming 7 k bit)) ↔ (FirstRepeat b k × (bit ≡ 255))
 table-repeats = first-exactly 7 Again (omega arith) (omega arith) again-exactly

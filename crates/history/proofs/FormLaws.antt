@@ -10,7 +10,7 @@ use lib.ListN.{length, take, drop, getD, length-append, length-drop}
 use lib.Seq.{drop-cons}
 use borrow.Author.Tests.{eq-eqb, le-leb, leb-true, eqb-true}
 use Rattle.octets.specs.Octets.{bytes, number, Bytes}
-use Rattle.history.specs.Verdict.{refused, done}
+use Rattle.history.specs.Verdict.{Refused, refused, done}
 use Rattle.history.specs.Form.{Form, formBytes, isWhole, readForm}
 use Rattle.octets.proofs.NumberLaws.{length-bytes, read-bytes, drop-is, cut}
 use Rattle.history.proofs.VerdictLaws.{left, right, held, past}
@@ -38,7 +38,7 @@ whole least b h =
 
 pub form-whole : (least : ℕ) (good : ℕ → Bool) (b : List ℕ) {f : Form} → readForm least good b ≡ done f → Whole least b
 unfolding readForm
-form-whole least good b e = whole least b (held (isWhole least b) _ _ _ _ e .0)
+form-whole least good b e = whole least b (held (isWhole least b) _ _ e .0)
 
 three : (b : List ℕ) → 7 ≤ length b → drop 4 b ≡ getD b 4 0 ∷ getD b 5 0 ∷ getD b 6 0 ∷ drop 7 b
 three b h = drop-cons b 4 0 (omega arith) ∙ rw (drop-cons b 5 0 (omega arith), drop-cons b 6 0 (omega arith))
@@ -46,8 +46,8 @@ three b h = drop-cons b 4 0 (omega arith) ∙ rw (drop-cons b 5 0 (omega arith),
 pub form-is : (least : ℕ) (good : ℕ → Bool) (b : List ℕ) {f : Form} → 3 ≤ least → Bytes b → readForm least good b ≡ done f → Formed least good b f
 unfolding readForm formBytes
 form-is least good b {f} l h e =
-    let p₁ = held (isWhole least b) _ _ _ _ e in
-    let p₂ = held (good (getD b 4 0)) _ _ _ _ (p₁ .1) in
+    let p₁ = held (isWhole least b) _ _ e in
+    let p₂ = held (good (getD b 4 0)) _ _ (p₁ .1) in
     let f-is : f ≡ record { version = getD b 4 0; x = getD b 5 0; y = getD b 6 0; contents = drop 7 b } = cc (p₂ .1) in
     let w = whole least b (p₁ .0) in
     let long : length b ≡ 4 + number (take 4 b) = w .length-is in
@@ -64,21 +64,21 @@ form-is least good b {f} l h e =
 pub form-version : (least : ℕ) (good : ℕ → Bool) (b : List ℕ) {f : Form} → readForm least good b ≡ done f → good (f .version) ≡ true
 unfolding readForm
 form-version least good b {f} e =
-    let p₁ = held (isWhole least b) _ _ _ _ e in
-    let p₂ = held (good (getD b 4 0)) _ _ _ _ (p₁ .1) in
+    let p₁ = held (isWhole least b) _ _ e in
+    let p₂ = held (good (getD b 4 0)) _ _ (p₁ .1) in
     let v : f .version ≡ getD b 4 0 = cc (p₂ .1) in
     rw v (p₂ .0)
 
 pub form-contents : (least : ℕ) (good : ℕ → Bool) (b : List ℕ) {f : Form} → readForm least good b ≡ done f → f .contents ≡ drop 7 b
 unfolding readForm
-form-contents least good b e = cc (held (good (getD b 4 0)) _ _ _ _ (held (isWhole least b) _ _ _ _ e .1) .1)
+form-contents least good b e = cc (held (good (getD b 4 0)) _ _ (held (isWhole least b) _ _ e .1) .1)
 
 -- no form is refused with a code above 2
-pub form-other : (least : ℕ) (good : ℕ → Bool) (b : List ℕ) {code object bit : ℕ} → 2 < code → readForm least good b ≡ refused code object bit → ⊥
+pub form-other : (least : ℕ) (good : ℕ → Bool) (b : List ℕ) {r : Refused} → 2 < r .code → readForm least good b ≡ refused r → ⊥
 unfolding readForm
 form-other least good b l e =
-    let p₁ = past (isWhole least b) 1 65535 255 _ (λ z. omega arith) e in
-    let p₂ = past (good (getD b 4 0)) 2 65535 255 _ (λ z. omega arith) (p₁ .1) in
+    let p₁ = past (isWhole least b) _ _ (λ z. omega arith) e in
+    let p₂ = past (good (getD b 4 0)) _ _ (λ z. omega arith) (p₁ .1) in
     let z : _≡_ {A = ℕ} 0 1 = cc (p₂ .1) in
     omega arith
 

@@ -9,7 +9,7 @@ use mathlib.Core.Logic.{_↔_}
 use lib.Dec.{eqb}
 use borrow.Author.Tests.{eq-eqb, ne-eqb, eqb-true, eqb-false}
 use Rattle.kinds.specs.declared.Kind.{Kind}
-use Rattle.history.specs.Verdict.{Verdict, refused, done, then, _unless_⨾_}
+use Rattle.history.specs.Verdict.{Refused, Verdict, refused, done, then, refusal, _unless_⨾_}
 use Rattle.history.specs.Table.{Plan}
 use Rattle.history.specs.Image.{Image, imageVersionGood}
 use Rattle.history.specs.declared.Change.{Change}
@@ -115,7 +115,7 @@ module _ {p : Plan} where
   )
 
   -- where they are refused, none does
-  pub no-history : {l m : Changes} {code i bit : ℕ} → LegalList p l → LegalList p m → join l m ≡ refused code i bit
+  pub no-history : {l m : Changes} {r : Refused} → LegalList p l → LegalList p m → join l m ≡ refused r
       → {a b c : Image} → LegalImage p a → applied l a ≡ done b → applied m b ≡ done c → ⊥
   no-history hl hm e ha f g = let z : _≡_ {A = ℕ} 0 1 = cc (join-taken hl hm ha f g) in omega arith
 
@@ -147,10 +147,10 @@ joined-back-all [] (d ∷ ds) = refl
 joined-back-all (c ∷ cs) [] = refl
 joined-back-all (c ∷ cs) (d ∷ ds) = ap₂ _∷_ (joined-back c d) (joined-back-all cs ds)
 
-then-unless : {A B : Type 0} (u : Bool) (x : Verdict A) (code i bit : ℕ) (f : A → Verdict B)
-    → then (refused code i bit unless u ⨾ x) f ≡ (refused code i bit unless u ⨾ then x f)
-then-unless true x code i bit f = refl
-then-unless false x code i bit f = refl
+then-unless : {A B : Type 0} (u : Bool) (x : Verdict A) (r : Refused) (f : A → Verdict B)
+    → then (refused r unless u ⨾ x) f ≡ (refused r unless u ⨾ then x f)
+then-unless true x r f = refl
+then-unless false x r f = refl
 
 lowest-back : (i : ℕ) (cs ds : List Change) (k : Changes)
     → lowest 20 meets i (map back ds) (map back cs) (turned k) ≡ then (lowest 20 meets i cs ds k) (λ k. done (turned k))
@@ -164,4 +164,4 @@ pub join-turned : (l m : Changes) → join (turned m) (turned l) ≡ then (join 
 unfolding join turned
 join-turned l m =
     rw (then-unless (eqb (l .to) (m .from)), eqb-sym (m .from) (l .to), joined-back-all (l .each) (m .each))
-    (ap (λ (r : Verdict Changes). refused 19 65535 255 unless eqb (l .to) (m .from) ⨾ r) (lowest-back 0 (l .each) (m .each) _))
+    (ap (λ (r : Verdict Changes). refusal 19 unless eqb (l .to) (m .from) ⨾ r) (lowest-back 0 (l .each) (m .each) _))

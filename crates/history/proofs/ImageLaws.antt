@@ -92,8 +92,8 @@ unfolding readImage elementsFrom
 image-is p b {a} h e =
     let q = used (readForm 7 imageVersionGood b) _ e in
     let f = q .0 in
-    let q₁ = held (sameCatalogue f p) _ _ _ _ (q .2) in
-    let q₂ = held (eqb (length (f .contents)) (4 + widths (p .kinds))) _ _ _ _ (q₁ .1) in
+    let q₁ = held (sameCatalogue f p) _ _ (q .2) in
+    let q₂ = held (eqb (length (f .contents)) (4 + widths (p .kinds))) _ _ (q₁ .1) in
     let q₃ = used (readWords 0 (p .kinds) (drop 4 (f .contents))) _ (q₂ .1) in
     let x = same-catalogue f p (q₁ .0) in
     contents-are p f b (form-is 7 imageVersionGood b (omega arith) h (q .1)) (x .0) (x .1) (eqb-true _ _ (q₂ .0)) (q₃ .0) (q₃ .1) a (cc (q₃ .2))

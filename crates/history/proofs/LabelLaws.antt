@@ -75,7 +75,7 @@ unfolding labelCall
 label-is T h i {q} e =
     let u = used (readTable T) _ e in
     let t = u .0 in
-    let v = held (ltb i (length (t .objects))) _ _ _ _ (u .2) in
+    let v = held (ltb i (length (t .objects))) _ _ (u .2) in
     let l = ltb-true i (length (t .objects)) (v .0) in
     let q-is : q ≡ labelPlace t i = cc (v .1) in
     let r = table-is T (u .1) in

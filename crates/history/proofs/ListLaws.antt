@@ -77,13 +77,13 @@ pub record Checked (ks : List Kind) (low : ℕ) (b : List ℕ) (e : Entry) : Typ
 pub was-checked : (ks : List Kind) (low : ℕ) (b : List ℕ) (e : Entry) {e′ : Entry} → checkEntry ks low b e ≡ done e′ → (e ≡ e′) × Checked ks low b e
 unfolding checkEntry checkChange
 was-checked ks low b e {e′} q =
-    let q₁ = held (leb 2 (length b)) _ _ _ _ q in
-    let q₂ = held (ltb (e .object) (length ks)) _ _ _ _ (q₁ .1) in
-    let q₃ = held (leb low (e .object)) _ _ _ _ (q₂ .1) in
-    let q₄ = held (leb (2 + (widthOf (e .kind) + widthOf (e .kind))) (length b)) _ _ _ _ (q₃ .1) in
+    let q₁ = held (leb 2 (length b)) _ _ q in
+    let q₂ = held (ltb (e .object) (length ks)) _ _ (q₁ .1) in
+    let q₃ = held (leb low (e .object)) _ _ (q₂ .1) in
+    let q₄ = held (leb (2 + (widthOf (e .kind) + widthOf (e .kind))) (length b)) _ _ (q₃ .1) in
     let q₅ = was-accepted (element (e .kind) (e .old)) _ _ (q₄ .1) in
     let q₆ = was-accepted (element (e .kind) (e .new)) _ _ (q₅ .1) in
-    let q₇ = held (not (eqb (e .old) (e .new))) _ _ _ _ (q₆ .1) in (
+    let q₇ = held (not (eqb (e .old) (e .new))) _ _ (q₆ .1) in (
       cc (q₇ .1),
       record {
         two = leb-true _ _ (q₁ .0);
@@ -189,7 +189,7 @@ listed-swap ks i n x y rest cs h l r = record {
 
 entries-are : (ks : List Kind) (n low : ℕ) (b : List ℕ) {cs : List Change} → Bytes b → low ≤ length ks → readEntries ks low n b ≡ done cs → Listed ks low n b cs
 entries-are ks zero low b {cs} h s q =
-    let p = held (eqb (length b) 0) _ _ _ _ q in
+    let p = held (eqb (length b) 0) _ _ q in
     let cs-is : cs ≡ replicate (length ks - low) keep = cc (p .1) in
     rw cs-is (listed-end ks low b s (eqb-true _ _ (p .0)))
 entries-are ks (suc n) low b {cs} h s q =
@@ -248,7 +248,7 @@ entries-step ks n low b e cs p q = rw (p, q)
 -- from one object lower on, one more is kept
 entries-lower : (ks : List Kind) (n low : ℕ) (b : List ℕ) (cs : List Change) → low < length ks → readEntries ks (suc low) n b ≡ done cs → readEntries ks low n b ≡ done (keep ∷ cs)
 entries-lower ks zero low b cs h q =
-    let p = held (eqb (length b) 0) _ _ _ _ q in
+    let p = held (eqb (length b) 0) _ _ q in
     let cs-is : cs ≡ replicate (length ks - suc low) keep = cc (p .1) in
     let g : length ks - low ≡ suc (length ks - suc low) = omega arith in
     rw (p .0, g, cs-is)
@@ -331,7 +331,7 @@ unfolding readList
 list-is p b {l} h e =
     let q = used (readForm 13 (eqb listVersion) b) _ e in
     let f = q .0 in
-    let q₁ = held (sameCatalogue f p) _ _ _ _ (q .2) in
+    let q₁ = held (sameCatalogue f p) _ _ (q .2) in
     let q₂ = used (readEntries (p .kinds) 0 (number (take 2 (drop 8 (f .contents)))) (drop 10 (f .contents))) _ (q₁ .1) in
     let o = form-is 13 (eqb listVersion) b (omega arith) h (q .1) in
     let x = same-catalogue f p (q₁ .0) in

@@ -2,7 +2,7 @@
 -- Assumes nothing.
 use Prim.Native.Nat.{ℕ, zero, suc, _+_, _-_, _≤_, _<_}
 use native.Mathlib.Omega.{arith}
-use mathlib.Core.Path.{_≡_, refl, sym, ap, _∙_}
+use mathlib.Core.Path.{_≡_, refl, sym, ap, subst, _∙_}
 use mathlib.Core.Bool.{Bool, true, false, cond, not, _&&_, _||_}
 use mathlib.Core.List.{List, [], _∷_, _++_}
 use mathlib.Core.Logic.{_⊎_, inl, inr}
@@ -20,10 +20,10 @@ use Rattle.elements.proofs.Findings.{Refuses}
 use Rattle.elements.proofs.Laws.{state-kind}
 use Rattle.octets.specs.Octets.{number}
 use Rattle.history.specs.declared.Answer.{Answer}
-use Rattle.history.specs.Verdict.{Verdict, refused, done, then, _unless_⨾_, Outcome, numbers, unnamed, told, settled}
+use Rattle.history.specs.Verdict.{Refused, naming, Verdict, refused, done, then, _unless_⨾_, Outcome, numbers, unnamed, told, settled}
 use Rattle.history.specs.Form.{isWhole, readForm}
 use Rattle.history.specs.Table.{Object, Plan, versionGood, catalogueGood, labelLimit, labelGood, repeats, ObjectEntry, objectAt, checkObject, readObjects, readTable, planOf, kindAt, sameCatalogue}
-use Rattle.history.specs.Image.{Image, imageVersionGood, element, _of_⨾_, widths, readWords, elementsFrom, readImage}
+use Rattle.history.specs.Image.{Image, imageVersionGood, element, foundIn, _of_⨾_, widths, readWords, elementsFrom, readImage}
 use Rattle.history.specs.declared.Change.{Change}
 use Rattle.history.specs.declared.Change.the-variants.{Keep as keep, Swap as swap}
 use Rattle.history.specs.Changes.{Changes, listVersion, Entry, entryAt, checkChange, checkEntry, readEntries, readList}
@@ -52,12 +52,12 @@ oneOf [] code = false
 oneOf (c ∷ cs) code = eqb code c || oneOf cs code
 
 -- what a refusal names, under a table of n objects, of these kinds if it is accepted; `given` are the numbers that were handed in
-pub data Names (n : ℕ) (ks : List Kind) (given : ℕ → Type 0) : (code object bit : ℕ) → Type 0 where
-  nothing : {code : ℕ} → oneOf nothings code ≡ true → Names n ks given code 65535 255
-  an-object : {code i : ℕ} → oneOf objects code ≡ true → i < n → Names n ks given code i 255
-  its-number : {code i : ℕ} → oneOf itsNumbers code ≡ true → given i → i < n → Names n ks given code i 255
-  no-object : {i : ℕ} → given i → n ≤ i → Names n ks given 13 i 255
-  its-field : {code i bit : ℕ} → i < length ks → Refuses (kindAt ks i) code bit → Names n ks given code i bit
+pub data Names (n : ℕ) (ks : List Kind) (given : ℕ → Type 0) : Refused → Type 0 where
+  nothing : {code : ℕ} → oneOf nothings code ≡ true → Names n ks given (naming code 65535 255)
+  an-object : {code i : ℕ} → oneOf objects code ≡ true → i < n → Names n ks given (naming code i 255)
+  its-number : {code i : ℕ} → oneOf itsNumbers code ≡ true → given i → i < n → Names n ks given (naming code i 255)
+  no-object : {i : ℕ} → given i → n ≤ i → Names n ks given (naming 13 i 255)
+  its-field : {f : Refusal} {i : ℕ} → i < length ks → Refuses (kindAt ks i) (f .code) (f .bit) → Names n ks given (foundIn f i)
 
 -- no number is handed in; this one; below, those whose bytes stand in a list
 abbrev pub NoNumber : ℕ → Type 0
@@ -67,46 +67,44 @@ abbrev pub TheNumber : ℕ → ℕ → Type 0
 TheNumber i j = j ≡ i
 
 -- a verdict that is a refusal names what it may
-pub record Named (P : ℕ → ℕ → ℕ → Type 0) {A : Type 0} (v : Verdict A) : Type 0 where
-  pub names : {code object bit : ℕ} → v ≡ refused code object bit → P code object bit
+pub record Named (P : Refused → Type 0) {A : Type 0} (v : Verdict A) : Type 0 where
+  pub names : {r : Refused} → v ≡ refused r → P r
 
 -- ---- the ways to refuse
 
-module _ {P : ℕ → ℕ → ℕ → Type 0} {A : Type 0} where
+module _ {P : Refused → Type 0} {A : Type 0} where
   pub accepts : {a : A} → Named P (done a)
   accepts = record { names = λ e. absurd (let z : _≡_ {A = ℕ} 0 1 = cc in omega arith) }
 
-  pub refuses : {code object bit : ℕ} → P code object bit → Named P {A = A} (refused code object bit)
-  refuses {code} {object} {bit} h = record { names = go }
+  pub refuses : {r : Refused} → P r → Named P {A = A} (refused r)
+  refuses {r} h = record { names = go }
     where
-      go : {code′ object′ bit′ : ℕ} → _≡_ {A = Verdict A} (refused code object bit) (refused code′ object′ bit′) → P code′ object′ bit′
-      go {code′} {object′} {bit′} e =
-          let c : code ≡ code′ = cc in
-          let o : object ≡ object′ = cc in
-          let b : bit ≡ bit′ = cc in
-          rw (← c, ← o, ← b) h
+      go : {x : Refused} → _≡_ {A = Verdict A} (refused r) (refused x) → P x
+      go {x} e =
+          let same : r ≡ x = cc in
+          subst P same h
 
   pub named-unless : (t : Bool) (x r : Verdict A) → (t ≡ false → Named P x) → (t ≡ true → Named P r) → Named P (x unless t ⨾ r)
   named-unless true x r h k = k refl
   named-unless false x r h k = h refl
 
-  pub named-of : (v : Finding) (i : ℕ) (r : Verdict A) → ((x : Refusal) → v ≡ Finding.Refused x → P (x .code) i (x .bit)) → Named P r → Named P (v of i ⨾ r)
+  pub named-of : (v : Finding) (i : ℕ) (r : Verdict A) → ((x : Refusal) → v ≡ Finding.Refused x → P (foundIn x i)) → Named P r → Named P (v of i ⨾ r)
   named-of Finding.Accepted i r h k = k
   named-of (Finding.Refused x) i r h k = refuses (h x refl)
 
   pub named-then : {B : Type 0} (x : Verdict B) (f : B → Verdict A) → Named P x → ((b : B) → x ≡ done b → Named P (f b)) → Named P (then x f)
-  named-then (refused code object bit) f h k = refuses (h .names refl)
+  named-then (refused r) f h k = refuses (h .names refl)
   named-then (done b) f h k = k b refl
 
 module _ {n : ℕ} {ks : List Kind} {given : ℕ → Type 0} where
   -- a test whose refusal names nothing
   named-test : {A : Type 0} (t : Bool) (code : ℕ) (r : Verdict A) → oneOf nothings code ≡ true → (t ≡ true → Named (Names n ks given) r)
-      → Named (Names n ks given) (refused code 65535 255 unless t ⨾ r)
+      → Named (Names n ks given) (refused (naming code 65535 255) unless t ⨾ r)
   named-test t code r h k = named-unless t _ r (λ e. refuses (nothing h)) k
 
   -- .. or an object
   named-at : {A : Type 0} (t : Bool) (code i : ℕ) (r : Verdict A) → oneOf objects code ≡ true → i < n → (t ≡ true → Named (Names n ks given) r)
-      → Named (Names n ks given) (refused code i 255 unless t ⨾ r)
+      → Named (Names n ks given) (refused (naming code i 255) unless t ⨾ r)
   named-at t code i r h l k = named-unless t _ r (λ e. refuses (an-object h l)) k
 
   -- ---- forms
@@ -116,7 +114,7 @@ module _ {n : ℕ} {ks : List Kind} {given : ℕ → Type 0} where
   form-named least good b = named-test (isWhole least b) _ _ refl λ t. named-test (good (getD b 4 0)) _ _ refl λ t. accepts
 
 -- the entries of a table of n objects refuse with a code that names an object, or with 8
-module _ {P : ℕ → ℕ → ℕ → Type 0} (n : ℕ) (at : (code i : ℕ) → oneOf objects code ≡ true → i < n → P code i 255) (eight : P 8 65535 255) where
+module _ {P : Refused → Type 0} (n : ℕ) (at : (code i : ℕ) → oneOf objects code ≡ true → i < n → P (naming code i 255)) (eight : P (naming 8 65535 255)) where
   object-named : (version x : ℕ) (earlier : List Object) (b : List ℕ) (e : ObjectEntry) → length earlier < n → Named P (checkObject version x earlier b e)
   unfolding checkObject
   object-named version x earlier b e l =
@@ -150,13 +148,13 @@ table-named b =
 
 -- ---- under a plan
 
-abbrev pub NamesUnder : List Kind → (ℕ → Type 0) → ℕ → ℕ → ℕ → Type 0
+abbrev pub NamesUnder : List Kind → (ℕ → Type 0) → Refused → Type 0
 NamesUnder ks given = Names (length ks) ks given
 
 -- elements refuse with a code of their own
-module _ {P : ℕ → ℕ → ℕ → Type 0} (all : List Kind) (field : (code i bit : ℕ) → i < length all → Refuses (kindAt all i) code bit → P code i bit) where
+module _ {P : Refused → Type 0} (all : List Kind) (field : (f : Refusal) (i : ℕ) → i < length all → Refuses (kindAt all i) (f .code) (f .bit) → P (foundIn f i)) where
   named-element : {A : Type 0} (k : Kind) (w i : ℕ) (r : Verdict A) → i < length all → kindAt all i ≡ k → Named P r → Named P (element k w of i ⨾ r)
-  named-element k w i r l e h = named-of (element k w) i r (λ x q. field _ _ _ l (rw e (refuses-as k w q))) h
+  named-element k w i r l e h = named-of (element k w) i r (λ x q. field x i l (rw e (refuses-as k w q))) h
 
   pub words-named : (i : ℕ) (ks : List Kind) (b : List ℕ) → drop i all ≡ ks → Named P (readWords i ks b)
   words-named i [] b e = accepts
@@ -171,7 +169,7 @@ image-named p b =
     named-then (readForm 7 imageVersionGood b) _ (form-named 7 imageVersionGood b) λ f e.
     named-test (sameCatalogue f p) _ _ refl λ t.
     named-test (eqb (length (f .contents)) (elementsFrom (f .version) + widths (p .kinds))) _ _ refl λ t.
-    named-then (readWords 0 (p .kinds) (drop (elementsFrom (f .version)) (f .contents))) _ (words-named (p .kinds) (λ code i bit. its-field) 0 (p .kinds) _ refl) λ ws e. accepts
+    named-then (readWords 0 (p .kinds) (drop (elementsFrom (f .version)) (f .contents))) _ (words-named (p .kinds) (λ f i. its-field) 0 (p .kinds) _ refl) λ ws e. accepts
 
 -- the two bytes of a number stand in a list
 pub record Stands (L : List ℕ) (i : ℕ) : Type 0 where
@@ -187,8 +185,9 @@ stands-behind k b s = record {
 }
 
 -- entries refuse with 8, 13, 14, 15 or an element's code
-module _ {P : ℕ → ℕ → ℕ → Type 0} (ks : List Kind) (given : ℕ → Type 0) (eight : P 8 65535 255) (beyond : (i : ℕ) → given i → length ks ≤ i → P 13 i 255)
-    (its : (code i : ℕ) → oneOf itsNumbers code ≡ true → given i → i < length ks → P code i 255) (field : (code i bit : ℕ) → i < length ks → Refuses (kindAt ks i) code bit → P code i bit) where
+module _ {P : Refused → Type 0} (ks : List Kind) (given : ℕ → Type 0) (eight : P (naming 8 65535 255)) (beyond : (i : ℕ) → given i → length ks ≤ i → P (naming 13 i 255))
+    (its : (code i : ℕ) → oneOf itsNumbers code ≡ true → given i → i < length ks → P (naming code i 255))
+    (field : (f : Refusal) (i : ℕ) → i < length ks → Refuses (kindAt ks i) (f .code) (f .bit) → P (foundIn f i)) where
   entry-named : (low : ℕ) (b : List ℕ) → ((i : ℕ) → Stands b i → given i) → Named P (checkEntry ks low b (entryAt ks b))
   unfolding checkEntry checkChange
   entry-named low b g =
@@ -219,7 +218,7 @@ list-named p b {given} g =
     named-test (sameCatalogue f p) _ _ refl λ t.
     let c = form-contents 13 (eqb listVersion) b e in
     let behind : (i : ℕ) → Stands (drop 10 (f .contents)) i → given i = λ i s. g i (stands-behind 7 b (stands-behind 10 (drop 7 b) (rw c at s))) in
-    named-then (readEntries (p .kinds) 0 (number (take 2 (drop 8 (f .contents)))) (drop 10 (f .contents))) _ (entries-named (p .kinds) given (nothing refl) (λ i. no-object) (λ code i. its-number) (λ code i bit. its-field) 0 (number (take 2 (drop 8 (f .contents)))) (drop 10 (f .contents)) behind) λ cs q. accepts
+    named-then (readEntries (p .kinds) 0 (number (take 2 (drop 8 (f .contents)))) (drop 10 (f .contents))) _ (entries-named (p .kinds) given (nothing refl) (λ i. no-object) (λ code i. its-number) (λ f i. its-field) 0 (number (take 2 (drop 8 (f .contents)))) (drop 10 (f .contents)) behind) λ cs q. accepts
 
 -- ---- operations
 
@@ -255,8 +254,8 @@ unfolding readImage
 image-long p b {a} e =
     let q = used (readForm 7 imageVersionGood b) _ e in
     let f = q .0 in
-    let q₁ = held (sameCatalogue f p) _ _ _ _ (q .2) in
-    let q₂ = held (eqb (length (f .contents)) (elementsFrom (f .version) + widths (p .kinds))) _ _ _ _ (q₁ .1) in
+    let q₁ = held (sameCatalogue f p) _ _ (q .2) in
+    let q₂ = held (eqb (length (f .contents)) (elementsFrom (f .version) + widths (p .kinds))) _ _ (q₁ .1) in
     let q₃ = used (readWords 0 (p .kinds) (drop (elementsFrom (f .version)) (f .contents))) _ (q₂ .1) in
     let ws-is : a .words ≡ q₃ .0 = cc (q₃ .2) in
     ap length ws-is ∙ words-long 0 (p .kinds) (drop (elementsFrom (f .version)) (f .contents)) (q₃ .1)
@@ -264,7 +263,7 @@ image-long p b {a} e =
 -- .. and an accepted list something to say of each
 entries-long : (ks : List Kind) (m low : ℕ) (b : List ℕ) {cs : List Change} → low ≤ length ks → readEntries ks low m b ≡ done cs → low + length cs ≡ length ks
 entries-long ks zero low b {cs} l q =
-    let cs-is : cs ≡ replicate (length ks - low) keep = cc (held (eqb (length b) 0) _ _ _ _ q .1) in
+    let cs-is : cs ≡ replicate (length ks - low) keep = cc (held (eqb (length b) 0) _ _ q .1) in
     omega (arith, ap length cs-is, length-replicate (length ks - low) keep)
 entries-long ks (suc m) low b {cs} l q =
     let p = used (checkEntry ks low b (entryAt ks b)) _ q in
@@ -282,7 +281,7 @@ list-long p b {l} e =
     let q = used (readForm 13 (eqb listVersion) b) _ e in
     let f = q .0 in
     let m : ℕ = number (take 2 (drop 8 (f .contents))) in
-    let r = used (readEntries (p .kinds) 0 m (drop 10 (f .contents))) _ (held (sameCatalogue f p) _ _ _ _ (q .2) .1) in
+    let r = used (readEntries (p .kinds) 0 m (drop 10 (f .contents))) _ (held (sameCatalogue f p) _ _ (q .2) .1) in
     let each-is : l .each ≡ r .0 = cc (r .2) in
     omega (arith, ap length each-is, entries-long (p .kinds) m 0 (drop 10 (f .contents)) (omega arith) (r .1))
 
@@ -294,18 +293,18 @@ state-named ks i state =
     named-unless (ltb i (length ks)) _ _ (λ f. refuses (no-object refl (ltb-false _ _ f))) λ t.
     let l : i < length ks = ltb-true _ _ t in
     named-unless (sameKind (kindIn state) (kindAt ks i)) _ _ (λ f. refuses (its-number refl refl l)) λ t.
-    named-element ks (λ code i bit. its-field) (kindAt ks i) (wordOf state) i _ l refl accepts
+    named-element ks (λ f i. its-field) (kindAt ks i) (wordOf state) i _ l refl accepts
 
 -- ---- the calls, by the table's bytes: the count is what they say, the kinds are those of an accepted table's objects
 
 abbrev kindsOf : Verdict Plan → List Kind
-kindsOf (refused code object bit) = []
+kindsOf (refused r) = []
 kindsOf (done p) = p .kinds
 
 abbrev pub kindsIn : List ℕ → List Kind
 kindsIn T = kindsOf (readPlan T)
 
-abbrev pub NamesIn : List ℕ → (ℕ → Type 0) → ℕ → ℕ → ℕ → Type 0
+abbrev pub NamesIn : List ℕ → (ℕ → Type 0) → Refused → Type 0
 NamesIn T given = Names (countIn T) (kindsIn T) given
 
 plan-count : (T : List ℕ) {p : Plan} → readPlan T ≡ done p → length (p .kinds) ≡ countIn T
@@ -395,28 +394,28 @@ module _ (T : List ℕ) where
       let q = used (readPlan T) _ e in
       let p = q .0 in
       let q₁ = used (readImage p A) _ (q .2) in
-      let q₂ = held (ltb i (length (p .kinds))) _ _ _ _ (q₁ .2) in
+      let q₂ = held (ltb i (length (p .kinds))) _ _ (q₁ .2) in
       let l : i < length (p .kinds) = ltb-true _ _ (q₂ .0) in
       let s-is : s ≡ stateAt p (q₁ .0) i = cc (q₂ .1) in
       rw (q .1, ← plan-count T (q .1)) (l, l, ap kindIn s-is ∙ state-kind (kindAt (p .kinds) i) _)
 
 -- ---- the numbers given back: success and 21 name nothing
 
-pub data Tells (P : ℕ → ℕ → ℕ → Type 0) : Answer → Type 0 where
+pub data Tells (P : Refused → Type 0) : Answer → Type 0 where
   success : {n : ℕ} → Tells P (unnamed 0 n)
   short : {n : ℕ} → Tells P (unnamed 21 n)
-  refusal : {code object bit : ℕ} → P code object bit → Tells P (numbers code object bit 0)
+  refusal : {r : Refused} → P r → Tells P (numbers r 0)
 
-module _ {P : ℕ → ℕ → ℕ → Type 0} where
+module _ {P : Refused → Type 0} where
   -- of a call that writes nothing, with length 0
   pub told-names : {A : Type 0} (v : Verdict A) → Named P v → Tells P (told v) × (told v .length ≡ 0)
   unfolding told
-  told-names (refused code object bit) h = (refusal (h .names refl), refl)
+  told-names (refused r) h = (refusal (h .names refl), refl)
   told-names (done a) h = (success, refl)
 
   pub settled-names : (v : Verdict (List ℕ)) (out : List ℕ) → Named P v → Tells P (settled v out .answer)
   unfolding settled
-  settled-names (refused code object bit) out h = refusal (h .names refl)
+  settled-names (refused r) out h = refusal (h .names refl)
   settled-names (done b) out h = go (leb (length b) (length out))
     where
       go : (u : Bool) → Tells P (cond {A = Outcome} u (record { answer = unnamed 0 (length b); output = b ++ drop (length b) out }) (record { answer = unnamed 21 (length b); output = out }) .answer)

@@ -9,7 +9,7 @@ use lib.Dec.{eqb, leb}
 use borrow.Author.Tests.{eq-eqb, ne-eqb, eqb-true, eqb-false, le-leb, lt-leb, leb-true, leb-false}
 use native.Mathlib.Nat.{le-antisymm, zero-add}
 use Rattle.kinds.specs.declared.Kind.{Kind}
-use Rattle.history.specs.Verdict.{refused, done, refusal, refusalAt}
+use Rattle.history.specs.Verdict.{Refused, naming, refused, done, refusal, refusalAt}
 use Rattle.history.specs.Table.{Plan}
 use Rattle.history.specs.Image.{Image, imageVersionGood}
 use Rattle.history.specs.declared.Change.{Change}
@@ -91,8 +91,8 @@ module _ {p : Plan} where
   pub takes : {l : Changes} {a b : Image} → LegalList p l → LegalImage p a → applied l a ≡ done b → Takes l a b
   unfolding applied
   takes {l} {a} {b} hl ha e =
-      let late = held (leb (a .position) (l .from)) _ _ _ _ e in
-      let gap = held (leb (l .from) (a .position)) _ _ _ _ (late .1) in
+      let late = held (leb (a .position) (l .from)) _ _ e in
+      let gap = held (leb (l .from) (a .position)) _ _ (late .1) in
       record {
         place = le-antisymm (leb-true _ _ (gap .0)) (leb-true _ _ (late .0));
         olds = passed 18 fits _ (paired (hl .each) (ha .words)) 0 (gap .1);
@@ -102,7 +102,7 @@ module _ {p : Plan} where
   pub joins : {l m k : Changes} → LegalList p l → LegalList p m → join l m ≡ done k → Joins l m k
   unfolding join
   joins {l} {m} {k} hl hm e =
-      let meet = held (eqb (l .to) (m .from)) _ _ _ _ e in
+      let meet = held (eqb (l .to) (m .from)) _ _ e in
       record {
         place = eqb-true _ _ (meet .0);
         olds = passed 20 meets _ (paired (hl .each) (hm .each)) 0 (meet .1);
@@ -180,14 +180,14 @@ module _ {p : Plan} where
 pub late-exactly : (l : Changes) (a : Image) → (applied l a ≡ refusal 16) ↔ (l .from < a .position)
 unfolding applied
 late-exactly l a = (
-  (λ e. leb-false _ _ (stopped (leb (a .position) (l .from)) _ _ _ _ (λ r. other-code fits keep 0 18 (resultOf l a) 0 (l .each) (a .words) (λ n. omega arith) (past (leb (l .from) (a .position)) 17 65535 255 _ (omega arith) r .1)) e)),
+  (λ e. leb-false _ _ (stopped (leb (a .position) (l .from)) _ _ (λ r. other-code fits keep 0 18 (resultOf l a) 0 (l .each) (a .words) (λ n. omega arith) (past (leb (l .from) (a .position)) _ _ (omega arith) r .1)) e)),
   (λ h. rw (lt-leb (a .position) (l .from) h)),
 )
 
 pub gap-exactly : (l : Changes) (a : Image) → (applied l a ≡ refusal 17) ↔ (a .position < l .from)
 unfolding applied
 gap-exactly l a = (
-  (λ e. leb-false _ _ (stopped (leb (l .from) (a .position)) _ _ _ _ (other-code fits keep 0 18 (resultOf l a) 0 (l .each) (a .words) (λ n. omega arith)) (past (leb (a .position) (l .from)) 16 65535 255 _ (omega arith) e .1))),
+  (λ e. leb-false _ _ (stopped (leb (l .from) (a .position)) _ _ (other-code fits keep 0 18 (resultOf l a) 0 (l .each) (a .words) (λ n. omega arith)) (past (leb (a .position) (l .from)) _ _ (omega arith) e .1))),
   (λ h. rw (le-leb (a .position) (l .from) (omega (arith, h)), lt-leb (l .from) (a .position) h)),
 )
 
@@ -195,18 +195,18 @@ gap-exactly l a = (
 pub apart-exactly : (l m : Changes) → (join l m ≡ refusal 19) ↔ (l .to ≡ m .from → ⊥)
 unfolding join
 apart-exactly l m = (
-  (λ e. eqb-false _ _ (stopped (eqb (l .to) (m .from)) _ _ _ _ (other-code meets keep keep 20 (jointOf l m) 0 (l .each) (m .each) (λ n. omega arith)) e)),
+  (λ e. eqb-false _ _ (stopped (eqb (l .to) (m .from)) _ _ (other-code meets keep keep 20 (jointOf l m) 0 (l .each) (m .each) (λ n. omega arith)) e)),
   (λ h. rw (ne-eqb (l .to) (m .from) h)),
 )
 
 -- 18: the lowest object whose old element is not the image's
-pub names-old : (l : Changes) (a : Image) {j bit : ℕ} → applied l a ≡ refused 18 j bit → Lowest fits keep 0 (l .each) (a .words) j × (bit ≡ 255)
+pub names-old : (l : Changes) (a : Image) {j bit : ℕ} → applied l a ≡ refused (naming 18 j bit) → Lowest fits keep 0 (l .each) (a .words) j × (bit ≡ 255)
 unfolding applied
 names-old l a {j} {bit} e =
-    let late = past (leb (a .position) (l .from)) 16 65535 255 _ (omega arith) e .1 in
-    let gap = past (leb (l .from) (a .position)) 17 65535 255 _ (omega arith) late .1 in
+    let late = past (leb (a .position) (l .from)) _ _ (omega arith) e .1 in
+    let gap = past (leb (l .from) (a .position)) _ _ (omega arith) late .1 in
     let n = names-lowest fits keep 0 18 (resultOf l a) 0 (l .each) (a .words) gap in
-    (rw (n .object, zero-add (n .place)) (n .lowest), n .no-bit)
+    (rw (ap (λ (r : Refused). r .object) (n .named), zero-add (n .place)) (n .lowest), ap (λ (r : Refused). r .bit) (n .named))
 
 pub refuses-old : (l : Changes) (a : Image) (j : ℕ) → l .from ≡ a .position → Lowest fits keep 0 (l .each) (a .words) j → applied l a ≡ refusalAt 18 j
 unfolding applied
@@ -215,12 +215,12 @@ refuses-old l a j e h =
     (refuses-lowest fits keep 0 18 (resultOf l a) 0 (l .each) (a .words) j h ∙ rw (zero-add j))
 
 -- 20: the lowest object whose new element in the first is not its old one in the second
-pub names-meeting : (l m : Changes) {j bit : ℕ} → join l m ≡ refused 20 j bit → Lowest meets keep keep (l .each) (m .each) j × (bit ≡ 255)
+pub names-meeting : (l m : Changes) {j bit : ℕ} → join l m ≡ refused (naming 20 j bit) → Lowest meets keep keep (l .each) (m .each) j × (bit ≡ 255)
 unfolding join
 names-meeting l m {j} {bit} e =
-    let place = past (eqb (l .to) (m .from)) 19 65535 255 _ (omega arith) e .1 in
+    let place = past (eqb (l .to) (m .from)) _ _ (omega arith) e .1 in
     let n = names-lowest meets keep keep 20 (jointOf l m) 0 (l .each) (m .each) place in
-    (rw (n .object, zero-add (n .place)) (n .lowest), n .no-bit)
+    (rw (ap (λ (r : Refused). r .object) (n .named), zero-add (n .place)) (n .lowest), ap (λ (r : Refused). r .bit) (n .named))
 
 pub refuses-meeting : (l m : Changes) (j : ℕ) → l .to ≡ m .from → Lowest meets keep keep (l .each) (m .each) j → join l m ≡ refusalAt 20 j
 unfolding join

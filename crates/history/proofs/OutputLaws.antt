@@ -11,7 +11,7 @@ use lib.Seq.{take-append-seam, drop-append-seam}
 use borrow.Rule.Slice.PartMut.{putMid}
 use borrow.Author.Tests.{le-leb, lt-leb, leb-true, leb-false}
 use Rattle.history.specs.declared.Answer.{Answer}
-use Rattle.history.specs.Verdict.{Verdict, refused, done, then, Outcome, numbers, unnamed, told, settled, Leaves}
+use Rattle.history.specs.Verdict.{Refused, Verdict, refused, done, then, Outcome, numbers, unnamed, told, settled, Leaves}
 
 -- the numbers of success, the answer's bytes in front, the rest as it was
 pub record Success (b out : List ℕ) (o : Outcome) : Type 0 where
@@ -31,14 +31,13 @@ pub too-short : {v : Verdict (List ℕ)} {b : List ℕ} (out : List ℕ) → v �
 unfolding settled
 too-short {v} {b} out e h = rw (e, lt-leb (length b) (length out) h) (refl, refl)
 
-pub refusal-told : {v : Verdict (List ℕ)} (code object bit : ℕ) (out : List ℕ) → v ≡ refused code object bit
-    → (settled v out .answer ≡ numbers code object bit 0) × (settled v out .output ≡ out)
+pub refusal-told : {v : Verdict (List ℕ)} (r : Refused) (out : List ℕ) → v ≡ refused r → (settled v out .answer ≡ numbers r 0) × (settled v out .output ≡ out)
 unfolding settled
-refusal-told code object bit out e = rw e (refl, refl)
+refusal-told r out e = rw e (refl, refl)
 
 -- whatever is not success leaves the output
 pub refusal-stays : (v : Verdict (List ℕ)) (out : List ℕ) → (settled v out .answer .code ≡ 0 → ⊥) → settled v out .output ≡ out
-refusal-stays (refused code object bit) out h = refusal-told code object bit out refl .1
+refusal-stays (refused r) out h = refusal-told r out refl .1
 refusal-stays (done b) out h = go (leb (length b) (length out)) refl
   where
     go : (u : Bool) → leb (length b) (length out) ≡ u → settled (done b) out .output ≡ out
@@ -47,7 +46,7 @@ refusal-stays (done b) out h = go (leb (length b) (length out)) refl
 
 -- the output keeps its length
 pub length-output : (v : Verdict (List ℕ)) (out : List ℕ) → length (settled v out .output) ≡ length out
-length-output (refused code object bit) out = ap length (refusal-told code object bit out refl .1)
+length-output (refused r) out = ap length (refusal-told r out refl .1)
 length-output (done b) out = go (leb (length b) (length out)) refl
   where
     go : (u : Bool) → leb (length b) (length out) ≡ u → length (settled (done b) out .output) ≡ length out
@@ -72,20 +71,20 @@ pub record Ran (v : Verdict (List ℕ)) (out : List ℕ) (r : Answer) (m : List 
 pub leaves-as : {v w : Verdict (List ℕ)} (out : List ℕ) {r : Answer} {m : List ℕ} → v ≡ w → Leaves v out r m → Leaves w out r m
 leaves-as out e q = rw e at q
 
-pub refused-leaves : (v : Verdict (List ℕ)) (out : List ℕ) {code object bit : ℕ} {r : Answer} → v ≡ refused code object bit → r ≡ numbers code object bit 0 → Leaves v out r out
+pub refused-leaves : (v : Verdict (List ℕ)) (out : List ℕ) {x : Refused} {r : Answer} → v ≡ refused x → r ≡ numbers x 0 → Leaves v out r out
 unfolding settled
 refused-leaves v out e q = rw e (q, refl)
 
 -- an answer that is not success, of a call that writes nothing, ..
 pub told-leaves : (v : Verdict (List ℕ)) (out : List ℕ) {r : Answer} → r ≡ told v → (r .code ≡ 0 → ⊥) → Leaves v out r out
 unfolding told
-told-leaves (refused code object bit) out e n = refused-leaves _ out refl e
+told-leaves (refused r) out e n = refused-leaves _ out refl e
 told-leaves (done b) out e n = absurd (n (ap (λ (r : Answer). r .code) e))
 
 -- .. is the answer of all that comes after
 pub first-leaves : {A : Type 0} (v : Verdict A) (f : A → Verdict (List ℕ)) (out : List ℕ) {r : Answer} → r ≡ told v → (r .code ≡ 0 → ⊥) → Leaves (then v f) out r out
 unfolding told
-first-leaves (refused code object bit) f out e n = refused-leaves _ out refl e
+first-leaves (refused r) f out e n = refused-leaves _ out refl e
 first-leaves (done a) f out e n = absurd (n (ap (λ (r : Answer). r .code) e))
 
 module _ (b out : List ℕ) {n : ℕ} (long : length b ≡ n) {r : Answer} where

@@ -16,7 +16,7 @@ use Rattle.kinds.specs.declared.Kind.{Kind}
 use Rattle.kinds.specs.declared.Element.{Element}
 use Rattle.elements.proofs.Laws.{state-kind}
 use Rattle.elements.proofs.DatLaws.{Stale}
-use Rattle.history.specs.Verdict.{Verdict, refused, done, then, refusalAt, _unless_⨾_}
+use Rattle.history.specs.Verdict.{naming, Verdict, refused, done, then, refusalAt, _unless_⨾_}
 use Rattle.history.specs.Table.{Plan, kindAt}
 use Rattle.history.specs.Image.{Image, element, _of_⨾_, imageBytes}
 use Rattle.history.specs.Calls.{readPlan, placed, stateAt, readStateUnder, readStateCall, checkState, writeStateUnder, writeStateCall}
@@ -72,8 +72,8 @@ module _ (ks : List Kind) (i : ℕ) (e : Element) where
   pub state-taken : {w : ℕ} → checkState ks i e ≡ done w → Taken w
   unfolding checkState
   state-taken q =
-      let q₁ = held (ltb i (length ks)) _ _ _ _ q in
-      let q₂ = held (sameKind (kindIn e) (kindAt ks i)) _ _ _ _ (q₁ .1) in
+      let q₁ = held (ltb i (length ks)) _ _ q in
+      let q₂ = held (sameKind (kindIn e) (kindAt ks i)) _ _ (q₁ .1) in
       let q₃ = was-accepted (element (kindAt ks i) (wordOf e)) i _ (q₂ .1) in
       record { inside = ltb-true _ _ (q₁ .0); kind = same-kind (kindIn e) (kindAt ks i) (q₂ .0); good = q₃ .0; word = cc (q₃ .1) }
 
@@ -138,7 +138,7 @@ module _ (T : List ℕ) {p : Plan} (t : readPlan T ≡ done p) where
   write-current a i e position l s n = write-is a i e position l s (ap isAccepted (state-current (kindAt (p .kinds) i) e s n))
 
   pub write-stale : {A : List ℕ} (a : AcceptedImage p A) (i : ℕ) (e : Element) (position : ℕ) → i < length (p .kinds) → kindIn e ≡ kindAt (p .kinds) i → Stale (kindIn e) (wordOf e)
-      → writeStateCall T A i e position ≡ refused 12 i 0
+      → writeStateCall T A i e position ≡ refused (naming 12 i 0)
   unfolding writeStateCall writeStateUnder
   write-stale a i e position l s h = rw (t, a .reads, state-checked (p .kinds) i e l s, state-twelve (kindAt (p .kinds) i) e s h)
 
@@ -178,7 +178,7 @@ module _ (T : List ℕ) {p : Plan} (t : readPlan T ≡ done p) where
   pub read-write : {A : List ℕ} (a : AcceptedImage p A) (i : ℕ) (e : Element)
       → readStateCall T A i ≡ done e → writeStateCall T A i e (a .image .position) ≡ done A
   read-write {A} a i e q =
-      let r = held (ltb i (length (p .kinds))) _ _ _ _ (sym (read-any a i) ∙ q) in
+      let r = held (ltb i (length (p .kinds))) _ _ (sym (read-any a i) ∙ q) in
       let l = ltb-true i (length (p .kinds)) (r .0) in
       let e-is : e ≡ stateAt p (a .image) i = cc (read-is a i l) in
       ap (λ (s : Element). writeStateCall T A i s (a .image .position)) e-is

@@ -12,7 +12,7 @@ use lib.ListN.{length, take, drop, getD, length-append, length-drop, length-map,
 use lib.Seq.{drop-cons, length-take-le, take-append-seam, drop-append-seam, getD-append-seam}
 use borrow.Author.Tests.{eq-eqb, eqb-true, le-leb, leb-true, not-true}
 use Rattle.octets.specs.Octets.{bytes, number, Bytes}
-use Rattle.history.specs.Verdict.{Verdict, refused, done, refusalAt, _unless_⨾_}
+use Rattle.history.specs.Verdict.{Refused, naming, Verdict, refused, done, refusalAt, _unless_⨾_}
 use Rattle.history.specs.Form.{Form, formBytes, readForm}
 use Rattle.history.specs.Table.{Object, Table, versionGood, catalogueGood, labelLimit, labelGood, objectBytes, objectsBytes, tableBytes, sameObject, repeats, ObjectEntry, objectAt, checkObject, readObjects, readTable, Plan, planOf, object}
 use Rattle.elements.specs.Elements.{carried}
@@ -20,7 +20,7 @@ use Rattle.octets.specs.Octets.{sameBytes}
 use Rattle.history.specs.Calls.{readPlan}
 use Rattle.history.specs.Legal.{LegalObject, LegalTable}
 use Rattle.octets.proofs.NumberLaws.{length-bytes, read-bytes, drop-bytes, cut}
-use Rattle.history.proofs.VerdictLaws.{all, left, right, kept, held, used, past, stopped}
+use Rattle.history.proofs.VerdictLaws.{all, left, right, one-refusal, kept, held, used, past, stopped}
 use Rattle.history.proofs.FormLaws.{form-version, form-contents, form-is, form-reads}
 use Rattle.history.proofs.ImageLaws.{Fair}
 
@@ -128,16 +128,16 @@ module _ (version x : ℕ) where
     pub whole : b ≡ objectBytes (objectAt b .object) ++ objectAt b .rest
     pub last : (refusalAt 7 (length earlier) unless not (repeats (objectAt b .object) earlier) ⨾ done (objectAt b)) ≡ v
 
-  pub tested : (earlier : List Object) (b : List ℕ) {v : Verdict ObjectEntry} → ((code object bit : ℕ) → (code ≡ 7 → ⊥) → refused code object bit ≡ v → ⊥)
+  pub tested : (earlier : List Object) (b : List ℕ) {v : Verdict ObjectEntry} → ((r : Refused) → (r .code ≡ 7 → ⊥) → refused r ≡ v → ⊥)
       → checkObject version x earlier b (objectAt b) ≡ v → Tested earlier b v
   unfolding checkObject
   tested earlier b other q =
       let n : ℕ = getD b 1 0 in
-      let p₁ = kept (leb 2 (length b)) _ _ _ _ (other _ _ _ (λ e. omega arith)) q in
-      let p₂ = kept (carried x (getD b 0 0)) _ _ _ _ (other _ _ _ (λ e. omega arith)) (p₁ .1) in
-      let p₃ = kept (leb 1 n && leb n (labelLimit version)) _ _ _ _ (other _ _ _ (λ e. omega arith)) (p₂ .1) in
-      let p₄ = kept (leb (2 + n) (length b)) _ _ _ _ (other _ _ _ (λ e. omega arith)) (p₃ .1) in
-      let p₅ = kept (labelGood (objectAt b .object .label)) _ _ _ _ (other _ _ _ (λ e. omega arith)) (p₄ .1) in
+      let p₁ = kept (leb 2 (length b)) _ _ (other _ (λ e. omega arith)) q in
+      let p₂ = kept (carried x (getD b 0 0)) _ _ (other _ (λ e. omega arith)) (p₁ .1) in
+      let p₃ = kept (leb 1 n && leb n (labelLimit version)) _ _ (other _ (λ e. omega arith)) (p₂ .1) in
+      let p₄ = kept (leb (2 + n) (length b)) _ _ (other _ (λ e. omega arith)) (p₃ .1) in
+      let p₅ = kept (labelGood (objectAt b .object .label)) _ _ (other _ (λ e. omega arith)) (p₄ .1) in
       let two : 2 ≤ length b = leb-true _ _ (p₁ .0) in
       let room : 2 + n ≤ length b = leb-true _ _ (p₄ .0) in
       let size : length (take n (drop 2 b)) ≡ n = length-take-le n (drop 2 b) (simp length-drop (omega arith)) in
@@ -158,8 +158,8 @@ module _ (version x : ℕ) where
 
   pub object-is : (earlier : List Object) (b : List ℕ) {e : ObjectEntry} → checkObject version x earlier b (objectAt b) ≡ done e → ObjectIs earlier b e
   object-is earlier b {e} q =
-      let i = tested earlier b (λ code object bit n z. let y : _≡_ {A = ℕ} 0 1 = cc in omega arith) q in
-      let p = held (not (repeats (objectAt b .object) earlier)) _ _ _ _ (i .last) in
+      let i = tested earlier b (λ r n z. let y : _≡_ {A = ℕ} 0 1 = cc in omega arith) q in
+      let p = held (not (repeats (objectAt b .object) earlier)) _ _ (i .last) in
       let e-is : e ≡ objectAt b = cc (p .1) in
       rw e-is (record { legal = i .legal; fresh = not-true (repeats (objectAt b .object) earlier) (p .0); whole = i .whole })
 
@@ -184,21 +184,21 @@ module _ (version x : ℕ) where
 
   -- an entry is refused with 5 exactly where its two first bytes are there and its type is not carried; it is named
   pub object-other : (earlier : List Object) (b : List ℕ) (k bit : ℕ)
-      → (checkObject version x earlier b (objectAt b) ≡ refused 5 k bit) ↔ ((2 ≤ length b) × (carried x (getD b 0 0) ≡ false) × (length earlier ≡ k) × (bit ≡ 255))
+      → (checkObject version x earlier b (objectAt b) ≡ refused (naming 5 k bit)) ↔ ((2 ≤ length b) × (carried x (getD b 0 0) ≡ false) × (length earlier ≡ k) × (bit ≡ 255))
   unfolding checkObject
   object-other earlier b k bit = (
     (λ q.
         let n : ℕ = getD b 1 0 in
-        let p = past (leb 2 (length b)) _ _ _ _ (λ z. omega arith) q in
-        let other = stopped (carried x (getD b 0 0)) _ _ _ _ (λ e.
-        let p₁ = past (leb 1 n && leb n (labelLimit version)) _ _ _ _ (λ z. omega arith) e in
-        let p₂ = past (leb (2 + n) (length b)) _ _ _ _ (λ z. omega arith) (p₁ .1) in
-        let p₃ = past (labelGood (objectAt b .object .label)) _ _ _ _ (λ z. omega arith) (p₂ .1) in
-        let p₄ = past (not (repeats (objectAt b .object) earlier)) _ _ _ _ (λ z. omega arith) (p₃ .1) in
+        let p = past (leb 2 (length b)) _ _ (λ z. omega arith) q in
+        let other = stopped (carried x (getD b 0 0)) _ _ (λ e.
+        let p₁ = past (leb 1 n && leb n (labelLimit version)) _ _ (λ z. omega arith) e in
+        let p₂ = past (leb (2 + n) (length b)) _ _ (λ z. omega arith) (p₁ .1) in
+        let p₃ = past (labelGood (objectAt b .object .label)) _ _ (λ z. omega arith) (p₂ .1) in
+        let p₄ = past (not (repeats (objectAt b .object) earlier)) _ _ (λ z. omega arith) (p₃ .1) in
         let z : _≡_ {A = ℕ} 0 1 = cc (p₄ .1) in
         omega arith) (p .1) in
-        let is : refusalAt {A = ObjectEntry} 5 (length earlier) ≡ refused 5 k bit = rw other at (p .1) in
-        (leb-true _ _ (p .0), other, cc, cc)),
+        let is = one-refusal (rw other at (p .1)) in
+        (leb-true _ _ (p .0), other, ap (λ (r : Refused). r .object) is, sym (ap (λ (r : Refused). r .bit) is))),
     (λ w. rw (le-leb 2 (length b) (w .0), w .1, w .2, w .3)),
   )
 
@@ -230,7 +230,7 @@ module _ (version x : ℕ) where
 
   objects-are : (earlier : List Object) (n : ℕ) (b : List ℕ) {os : List Object} → readObjects version x earlier n b ≡ done os → ObjectsAre earlier n b os
   objects-are earlier zero b {os} e =
-      let h = held (eqb (length b) 0) _ _ _ _ e in
+      let h = held (eqb (length b) 0) _ _ e in
       let os-is : os ≡ earlier = cc (h .1) in
       record { more = []; whole = os-is ∙ sym (append-nil earlier); count = refl; legal = tt; same = no-bytes b (eqb-true _ _ (h .0)) }
     where
@@ -309,8 +309,8 @@ table-is b {t} e =
     let p = used (readForm 5 versionGood b) _ e in
     let f = p .0 in
     let n : ℕ = number (take 2 (f .contents)) in
-    let p₁ = held (catalogueGood (f .x) (f .y)) _ _ _ _ (p .2) in
-    let p₂ = held (leb n 1024) _ _ _ _ (p₁ .1) in
+    let p₁ = held (catalogueGood (f .x) (f .y)) _ _ (p .2) in
+    let p₂ = held (leb n 1024) _ _ (p₁ .1) in
     let p₃ = used (readObjects (f .version) (f .x) [] n (drop 2 (f .contents))) _ (p₂ .1) in
     let t-is : t ≡ record { version = f .version; x = f .x; y = f .y; objects = p₃ .0 } = cc (p₃ .2) in
     let r = objects-are (f .version) (f .x) [] n (drop 2 (f .contents)) (p₃ .1) in

@@ -8,7 +8,7 @@ use mathlib.Core.Bool.{Bool, true, false, _&&_, _||_}
 use mathlib.Core.List.{List, [], _∷_}
 use mathlib.Core.Logic.{_⊎_, inl, inr}
 use lib.ListN.{length, getD}
-use Rattle.history.specs.Verdict.{Verdict, refused, done, then, refusalAt, _unless_⨾_}
+use Rattle.history.specs.Verdict.{Refused, naming, Verdict, refused, done, then, refusalAt, _unless_⨾_}
 use Rattle.history.specs.Operations.{lowest}
 use Rattle.history.specs.Legal.{Every, nil, and}
 
@@ -33,39 +33,41 @@ pub refuted : (b : Bool) → (b ≡ true → ⊥) → b ≡ false
 refuted true n = absurd (n refl)
 refuted false n = refl
 
+-- of one verdict there is one refusal
+pub one-refusal : {A : Type 0} {x y : Refused} → _≡_ {A = Verdict A} (refused x) (refused y) → x ≡ y
+one-refusal e = cc
+
 -- a verdict other than the test's refusal: the test held, and the rest gave it
-pub kept : {A : Type 0} (t : Bool) (code object bit : ℕ) (r : Verdict A) {v : Verdict A} → (refused code object bit ≡ v → ⊥) → (refused code object bit unless t ⨾ r) ≡ v → (t ≡ true) × (r ≡ v)
-kept true code object bit r n e = (refl, e)
-kept false code object bit r n e = absurd (n e)
+pub kept : {A : Type 0} (t : Bool) (x : Refused) (r : Verdict A) {v : Verdict A} → (refused x ≡ v → ⊥) → (refused x unless t ⨾ r) ≡ v → (t ≡ true) × (r ≡ v)
+kept true x r n e = (refl, e)
+kept false x r n e = absurd (n e)
 
 -- a verdict that is no refusal: the test held; the value was put to use
-pub held : {A : Type 0} (t : Bool) (code object bit : ℕ) (r : Verdict A) {a : A} → (refused code object bit unless t ⨾ r) ≡ done a → (t ≡ true) × (r ≡ done a)
-held t code object bit r = kept t code object bit r (λ e. let z : _≡_ {A = ℕ} 0 1 = cc in omega arith)
+pub held : {A : Type 0} (t : Bool) (x : Refused) (r : Verdict A) {a : A} → (refused x unless t ⨾ r) ≡ done a → (t ≡ true) × (r ≡ done a)
+held t x r = kept t x r (λ e. let z : _≡_ {A = ℕ} 0 1 = cc in omega arith)
 
 pub used : {A B : Type 0} (x : Verdict A) (f : A → Verdict B) {b : B} → then x f ≡ done b → (a : A) × (x ≡ done a) × (f a ≡ done b)
-used (refused code object bit) f e = absurd (let z : _≡_ {A = ℕ} 0 1 = cc in omega arith)
+used (refused r) f e = absurd (let z : _≡_ {A = ℕ} 0 1 = cc in omega arith)
 used (done a) f e = (a, refl, e)
 
 -- a refusal is that of a value or of its use
-pub either-refused : {A B : Type 0} (x : Verdict A) (f : A → Verdict B) {code object bit : ℕ} → then x f ≡ refused code object bit
-    → (x ≡ refused code object bit) ⊎ ((a : A) × (x ≡ done a) × (f a ≡ refused code object bit))
-either-refused (refused code object bit) f e = inl cc
+pub either-refused : {A B : Type 0} (x : Verdict A) (f : A → Verdict B) {r : Refused} → then x f ≡ refused r → (x ≡ refused r) ⊎ ((a : A) × (x ≡ done a) × (f a ≡ refused r))
+either-refused (refused r) f e = inl cc
 either-refused (done a) f e = inr (a, refl, e)
 
 -- a refusal is passed up
-pub passed-up : {A B : Type 0} (x : Verdict A) (f : A → B) {code object bit : ℕ} → then x (λ a. done (f a)) ≡ refused code object bit → x ≡ refused code object bit
-passed-up (refused code object bit) f e = cc
+pub passed-up : {A B : Type 0} (x : Verdict A) (f : A → B) {r : Refused} → then x (λ a. done (f a)) ≡ refused r → x ≡ refused r
+passed-up (refused r) f e = cc
 passed-up (done a) f e = absurd (let z : _≡_ {A = ℕ} 0 1 = cc in omega arith)
 
 -- a refusal of another code than the test's: the test held, and the rest gave it
-pub past : {A : Type 0} (t : Bool) (code object bit : ℕ) (r : Verdict A) {code′ object′ bit′ : ℕ}
-    → (code ≡ code′ → ⊥) → (refused code object bit unless t ⨾ r) ≡ refused code′ object′ bit′ → (t ≡ true) × (r ≡ refused code′ object′ bit′)
-past t code object bit r n = kept t code object bit r (λ e. n cc)
+pub past : {A : Type 0} (t : Bool) (x : Refused) (r : Verdict A) {y : Refused} → (x .code ≡ y .code → ⊥) → (refused x unless t ⨾ r) ≡ refused y → (t ≡ true) × (r ≡ refused y)
+past t x r n = kept t x r (λ e. n cc)
 
 -- a refusal that the rest does not give: the test failed
-pub stopped : {A : Type 0} (t : Bool) (code object bit : ℕ) (r : Verdict A) {v : Verdict A} → (r ≡ v → ⊥) → (refused code object bit unless t ⨾ r) ≡ v → t ≡ false
-stopped true code object bit r n e = absurd (n e)
-stopped false code object bit r n e = refl
+pub stopped : {A : Type 0} (t : Bool) (x : Refused) (r : Verdict A) {v : Verdict A} → (r ≡ v → ⊥) → (refused x unless t ⨾ r) ≡ v → t ≡ false
+stopped true x r n e = absurd (n e)
+stopped false x r n e = refl
 
 -- ---- the lowest object at which a test fails
 
@@ -88,30 +90,32 @@ module _ {A B : Type 0} (test : A → B → Bool) (x : A) (y : B) where
       go (suc k) h = l .holds k (omega arith)
 
   -- a refusal with this code, of objects counted from i, names the lowest at which the test fails
-  pub record Names (xs : List A) (ys : List B) (code i c j b : ℕ) : Type 0 where
+  pub record Names (xs : List A) (ys : List B) (code i : ℕ) (r : Refused) : Type 0 where
     pub place : ℕ
     pub lowest : Lowest xs ys place
-    pub object : j ≡ i + place
-    pub given : c ≡ code
-    pub no-bit : b ≡ 255
+    pub named : r ≡ naming code (i + place) 255
 
   module _ {C : Type 0} (code : ℕ) (c : C) where
-    pub names-lowest : (i : ℕ) (xs : List A) (ys : List B) {code′ j bit : ℕ} → lowest code test i xs ys c ≡ refused code′ j bit → Names xs ys code i code′ j bit
+    pub names-lowest : (i : ℕ) (xs : List A) (ys : List B) {r : Refused} → lowest code test i xs ys c ≡ refused r → Names xs ys code i r
     names-lowest i [] ys e = absurd (let z : _≡_ {A = ℕ} 0 1 = cc in omega arith)
     names-lowest i (a ∷ xs) [] e = absurd (let z : _≡_ {A = ℕ} 0 1 = cc in omega arith)
-    names-lowest i (a ∷ xs) (b ∷ ys) {code′} {j} {bit} e = go (test a b) refl (names-lowest (suc i) xs ys) e
+    names-lowest i (a ∷ xs) (b ∷ ys) {r} e = go (test a b) refl (names-lowest (suc i) xs ys) e
       where
-        go : (u : Bool) → test a b ≡ u → (lowest code test (suc i) xs ys c ≡ refused code′ j bit → Names xs ys code (suc i) code′ j bit)
-            → (refusalAt code i unless u ⨾ lowest code test (suc i) xs ys c) ≡ refused code′ j bit → Names (a ∷ xs) (b ∷ ys) code i code′ j bit
-        go false t later e = record { place = 0; lowest = lowest-here a b xs ys t; object = cc (add-zero i); given = cc; no-bit = cc }
+        go : (u : Bool) → test a b ≡ u → (lowest code test (suc i) xs ys c ≡ refused r → Names xs ys code (suc i) r)
+            → (refusalAt code i unless u ⨾ lowest code test (suc i) xs ys c) ≡ refused r → Names (a ∷ xs) (b ∷ ys) code i r
+        go false t later e = record { place = 0; lowest = lowest-here a b xs ys t; named = cc (add-zero i) }
         go true t later e =
-            let r = later e in
-            record { place = suc (r .place); lowest = lowest-later a b xs ys (r .place) t (r .lowest); object = omega (arith, r .object); given = r .given; no-bit = r .no-bit }
+            let n = later e in
+            record {
+              place = suc (n .place);
+              lowest = lowest-later a b xs ys (n .place) t (n .lowest);
+              named = n .named ∙ ap (λ (j : ℕ). naming code j 255) (suc-add i (n .place) ∙ sym (add-suc i (n .place)));
+            }
 
   module _ {C : Type 0} (code : ℕ) (c : C) where
     -- .. no other code is given ..
-    pub other-code : (i : ℕ) (xs : List A) (ys : List B) {code′ j bit : ℕ} → (code′ ≡ code → ⊥) → lowest code test i xs ys c ≡ refused code′ j bit → ⊥
-    other-code i xs ys n e = n (names-lowest code c i xs ys e .given)
+    pub other-code : (i : ℕ) (xs : List A) (ys : List B) {r : Refused} → (r .code ≡ code → ⊥) → lowest code test i xs ys c ≡ refused r → ⊥
+    other-code i xs ys n e = n (ap (λ (r : Refused). r .code) (names-lowest code c i xs ys e .named))
 
     -- .. and where the test fails, the lowest such object is refused
     pub refuses-lowest : (i : ℕ) (xs : List A) (ys : List B) (n : ℕ) → Lowest xs ys n → lowest code test i xs ys c ≡ refusalAt code (i + n)
@@ -140,10 +144,10 @@ module _ {A B : Type 0} where
     pub passed : {xs : List A} {ys : List B} → Paired xs ys → (i : ℕ) {c′ : C} → lowest code test i xs ys c ≡ done c′ → Every test xs ys
     passed none i e = nil
     passed (more {a = a} {b = b} r) i e =
-        let s = held (test a b) _ _ _ _ e in
+        let s = held (test a b) _ _ e in
         and (s .0) (passed r (suc i) (s .1))
 
     pub value : (xs : List A) (ys : List B) (i : ℕ) {c′ : C} → lowest code test i xs ys c ≡ done c′ → c ≡ c′
     value [] ys i e = cc
     value (x ∷ xs) [] i e = cc
-    value (x ∷ xs) (y ∷ ys) i e = value xs ys (suc i) (held (test x y) _ _ _ _ e .1)
+    value (x ∷ xs) (y ∷ ys) i e = value xs ys (suc i) (held (test x y) _ _ e .1)

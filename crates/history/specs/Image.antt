@@ -5,11 +5,12 @@ use mathlib.Core.List.{List, [], _∷_, _++_}
 use lib.Dec.{eqb}
 use lib.ListN.{length, take, drop}
 use Rattle.rows.specs.declared.Finding.{Finding}
+use Rattle.rows.specs.declared.Refusal.{Refusal}
 use Rattle.kinds.specs.Kinds.{widthOf}
 use Rattle.elements.specs.Elements.{elementCheck}
 use Rattle.kinds.specs.declared.Kind.{Kind}
 use Rattle.octets.specs.Octets.{bytes, number}
-use Rattle.history.specs.Verdict.{Verdict, refused, done, then, refusal, _unless_⨾_}
+use Rattle.history.specs.Verdict.{Refused, naming, Verdict, refused, done, then, refusal, _unless_⨾_}
 use Rattle.history.specs.Form.{formBytes, readForm}
 use Rattle.history.specs.Table.{Plan, sameCatalogue}
 
@@ -28,11 +29,15 @@ imageVersionGood v = eqb v 1
 unfoldable pub element : Kind → ℕ → Finding
 element k w = elementCheck k w
 
+-- an element's refusal, of object i
+abbrev pub foundIn : Refusal → ℕ → Refused
+foundIn f i = naming (f .code) i (f .bit)
+
 -- what is found of an element refuses, naming its object and bit; else the rest decides
 infixr 5 _of_⨾_
 abbrev pub _of_⨾_ : {A : Type 0} → Finding → ℕ → Verdict A → Verdict A
 Finding.Accepted of i ⨾ rest = rest
-Finding.Refused r of i ⨾ rest = refused (r .code) i (r .bit)
+Finding.Refused f of i ⨾ rest = refused (foundIn f i)
 
 -- all objects' width in bytes
 abbrev pub widths : List Kind → ℕ

@@ -8,22 +8,31 @@ use lib.Dec.{leb}
 use lib.ListN.{length, drop}
 use Rattle.history.specs.declared.Answer.{Answer}
 
--- what a call finds: a refusal's code, object and bit, or the value
+-- what a refusal tells: its code, and the object and the bit that it names
+pub record Refused : Type 0 where
+  pub code : ℕ
+  pub object : ℕ
+  pub bit : ℕ
+
+abbrev pub naming : ℕ → ℕ → ℕ → Refused
+naming code object bit = record { code = code; object = object; bit = bit }
+
+-- what a call finds: a refusal, or the value
 pub data Verdict (A : Type 0) : Type 0 where
-  refused : (code object bit : ℕ) → Verdict A
+  refused : Refused → Verdict A
   done : A → Verdict A
 
 -- a value is put to use; a refusal stays
 abbrev pub then : {A B : Type 0} → Verdict A → (A → Verdict B) → Verdict B
-then (refused code object bit) next = refused code object bit
+then (refused r) next = refused r
 then (done a) next = next a
 
 -- a refusal that names nothing (65535, 255); one that names an object
 abbrev pub refusal : {A : Type 0} → ℕ → Verdict A
-refusal code = refused code 65535 255
+refusal code = refused (naming code 65535 255)
 
 abbrev pub refusalAt : {A : Type 0} → ℕ → ℕ → Verdict A
-refusalAt code object = refused code object 255
+refusalAt code object = refused (naming code object 255)
 
 -- the refusal, unless the test holds; then the rest decides
 infixr 5 _unless_⨾_
@@ -33,16 +42,16 @@ r unless false ⨾ rest = r
 
 -- ---- the numbers given back, and the output at the end
 
-abbrev pub numbers : ℕ → ℕ → ℕ → ℕ → Answer
-numbers code object bit n = record { code = code; object = object; bit = bit; length = n }
+abbrev pub numbers : Refused → ℕ → Answer
+numbers r n = record { code = r .code; object = r .object; bit = r .bit; length = n }
 
 -- where nothing is named
 abbrev pub unnamed : ℕ → ℕ → Answer
-unnamed code n = numbers code 65535 255 n
+unnamed code n = numbers (naming code 65535 255) n
 
 -- a call that writes nothing: success is 0, 65535, 255, 0
 unfoldable pub told : {A : Type 0} → Verdict A → Answer
-told (refused code object bit) = numbers code object bit 0
+told (refused r) = numbers r 0
 told (done a) = unnamed 0 0
 
 pub record Outcome : Type 0 where
@@ -51,7 +60,7 @@ pub record Outcome : Type 0 where
 
 -- a call that writes: 21 last, with the length needed
 unfoldable pub settled : Verdict (List ℕ) → List ℕ → Outcome
-settled (refused code object bit) out = record { answer = numbers code object bit 0; output = out }
+settled (refused r) out = record { answer = numbers r 0; output = out }
 settled (done b) out =
     cond (leb (length b) (length out))
     (record { answer = unnamed 0 (length b); output = b ++ drop (length b) out })

@@ -8,7 +8,7 @@ use lib.ListN.{take, set}
 use Rattle.octets.specs.Octets.{bytes}
 use Rattle.rows.specs.Table.{table, layouts}
 use Rattle.elements.specs.Elements.{carried, kindOf, datRule, elementCheck}
-use Rattle.history.specs.Verdict.{refused, done}
+use Rattle.history.specs.Verdict.{naming, refused, done}
 use Rattle.history.specs.Form.{isWhole, readForm}
 use Rattle.history.specs.Table.{versionGood, catalogueGood, labelLimit, labelGood, checkObject, readTable, planOf}
 use Rattle.history.specs.Image.{imageVersionGood, element, elementsFrom, readImage}
@@ -24,7 +24,7 @@ lines =
     ∷ 0x30 ∷ 0x20 ∷ 0x34 ∷ 0x20 ∷ 0x41 ∷ 0x41 ∷ 0x3A ∷ 0x43 ∷ 0x56 ∷ 0x31 ∷ 0x20 ∷ 0x30 ∷ 0x30 ∷ 0x30 ∷ 0x31 ∷ 0x0A
     ∷ 0x31 ∷ 0x20 ∷ 0x32 ∷ 0x20 ∷ 0x41 ∷ 0x41 ∷ 0x3A ∷ 0x53 ∷ 0x31 ∷ 0x20 ∷ 0x30 ∷ 0x33 ∷ 0x0A ∷ []
 
--- "refused 10 1 3" and its newline
+-- "refused (naming 10 1 3)" and its newline
 abbrev refusal : List ℕ
 refusal = 0x72 ∷ 0x65 ∷ 0x66 ∷ 0x75 ∷ 0x73 ∷ 0x65 ∷ 0x64 ∷ 0x20 ∷ 0x31 ∷ 0x30 ∷ 0x20 ∷ 0x31 ∷ 0x20 ∷ 0x33 ∷ 0x0A ∷ []
 
@@ -39,12 +39,12 @@ pub listings : (listingOf (T ++ A) ≡ lines)
     × (listingOf (T3 ++ A3) ≡ new-lines)
     × (listingOf (T ++ set A 13 9) ≡ refusal)
     × (listingCall (T ++ A) ≡ done lines)
-    × (listingCall (T ++ set A 13 9) ≡ refused 10 1 3)
-    × (listingCall (take 23 T) ≡ refused 1 65535 255)
+    × (listingCall (T ++ set A 13 9) ≡ refused (naming 10 1 3))
+    × (listingCall (take 23 T) ≡ refused (naming 1 65535 255))
 unfolding bytes table layouts carried kindOf datRule elementCheck isWhole readForm versionGood catalogueGood labelLimit labelGood checkObject readTable planOf imageVersionGood element elementsFrom readImage decimalIn decimal hexDigit readBoth readPanel firstLine objectLine refusedLine listingCall printed listingOf
 listings = (refl, refl, refl, refl, refl, refl)
 
--- "refused 1 65535 255" and "refused 3 65535 255", each with its newline
+-- "refused (naming 1 65535 255)" and "refused (naming 3 65535 255)", each with its newline
 abbrev unnamed : ℕ → List ℕ
 unnamed digit =
     0x72 ∷ 0x65 ∷ 0x66 ∷ 0x75 ∷ 0x73 ∷ 0x65 ∷ 0x64 ∷ 0x20 ∷ digit

@@ -141,12 +141,12 @@ both-legal b a {p} e =
 
 text-few : (v : Verdict Panel) → ((p : Panel) → v ≡ done p → LegalTable (p .table)) → length (printed (textOf v)) ≤ 65536
 unfolding printed
-text-few (refused code object bit) h = omega (arith, refused-length code object bit)
+text-few (refused r) h = omega (arith, refused-length (r .code) (r .object) (r .bit))
 text-few (done p) h = omega (arith, panel-few (p .image) (h p refl))
 
 below-few : (v : Verdict Panel) → ((p : Panel) → v ≡ done p → LegalTable (p .table)) → length (linesIn v) ≤ 65450
 unfolding linesIn
-below-few (refused code object bit) h = omega arith
+below-few (refused r) h = omega arith
 below-few (done p) h = table-few (p .image) (h p refl)
 
 -- the first line is written: there is room for the lines below, and where they end
@@ -172,9 +172,9 @@ module _ (b a : List ℕ) (x y position count : ℕ) {l m : List ℕ} {p : ℕ} 
 panel-legal : (input : List ℕ) {p : Panel} → readPanel input ≡ done p → LegalTable (p .table)
 unfolding readPanel
 panel-legal input e =
-    let h₁ = held (leb (length input) 65536) _ _ _ _ e in
-    let h₂ = held (leb 4 (length input)) _ _ _ _ (h₁ .1) in
-    let h₃ = held (leb (tableSize input) (length input)) _ _ _ _ (h₂ .1) in
+    let h₁ = held (leb (length input) 65536) _ _ e in
+    let h₂ = held (leb 4 (length input)) _ _ (h₁ .1) in
+    let h₃ = held (leb (tableSize input) (length input)) _ _ (h₂ .1) in
     both-legal (take (tableSize input) input) (drop (tableSize input) input) (h₃ .1)
 
 -- ---- every listing
@@ -189,7 +189,7 @@ text-fits input e = omega (arith, listing-fits input, ap (λ (v : Verdict (List 
 
 some : (v : Verdict Panel) → 1 ≤ length (printed (textOf v))
 unfolding printed firstLine refusedLine
-some (refused code object bit) = omega arith
+some (refused r) = omega arith
 some (done p) = simp length-append (omega arith)
 
 pub listing-some : (input : List ℕ) → 1 ≤ length (listingOf input)

@@ -11,7 +11,7 @@ use lib.Seq.{sets-eq, take-all, take-append-seam, drop-append-seam}
 use borrow.Author.Tests.{le-leb, lt-leb}
 use Rattle.octets.specs.Octets.{number}
 use Rattle.history.specs.declared.Answer.{Answer}
-use Rattle.history.specs.Verdict.{Verdict, refused, done, told, settled, Leaves}
+use Rattle.history.specs.Verdict.{Verdict, refused, done, refusal, told, settled, Leaves}
 use Rattle.history.proofs.OutputLaws.{succeeds, refusal-told, refusal-stays}
 use Rattle.history.proofs.CodeLaws.{zero-succeeds}
 use Rattle.text.specs.Wrote.{Wrote}
@@ -22,17 +22,17 @@ use Rattle.listing.proofs.Printed.{line-is}
 use Rattle.listing.proofs.NameLaws.{listing-call-coded}
 
 module _ (input : List ℕ) where
-  pub above : 65536 < length input → listingCall input ≡ refused 1 65535 255
+  pub above : 65536 < length input → listingCall input ≡ refusal 1
   unfolding listingCall readPanel
   above h = rw (lt-leb (length input) 65536 h)
 
   module _ (few : length input ≤ 65536) where
-    pub under-four : length input < 4 → listingCall input ≡ refused 1 65535 255
+    pub under-four : length input < 4 → listingCall input ≡ refusal 1
     unfolding listingCall readPanel
     under-four h = rw (le-leb (length input) 65536 few, lt-leb 4 (length input) h)
 
     module _ (four : 4 ≤ length input) {n : ℕ} (n-is : n ≡ number (take 4 input)) where
-      pub unsplit : length input < 4 + n → listingCall input ≡ refused 1 65535 255
+      pub unsplit : length input < 4 + n → listingCall input ≡ refusal 1
       unfolding listingCall readPanel
       unsplit h =
           let short : leb (tableSize input) (length input) ≡ false = lt-leb (tableSize input) (length input) (omega arith) in
@@ -52,7 +52,7 @@ module _ (input : List ℕ) where
 
 told-roomy : (v : Verdict (List ℕ)) (out : List ℕ) → ((text : List ℕ) → v ≡ done text → length text ≤ length out) → (settled v out .answer .code ≡ 0 → ⊥) → settled v out .answer ≡ told v
 unfolding told
-told-roomy (refused code object bit) out fits n = refusal-told code object bit out refl .0
+told-roomy (refused r) out fits n = refusal-told r out refl .0
 told-roomy (done text) out fits n = absurd (n (ap (λ (a : Answer). a .code) (succeeds out refl (fits text refl) .answer)))
 
 -- so that what is not success is what is told of the input

@@ -41,11 +41,11 @@ use Rattle.listing.proofs.Fits.{lines-end}
 
 panel-image : (v : Verdict Table) (f : Plan → Verdict Image)
     → then (then v (λ t. done (planOf t))) f ≡ then {A = Panel} (then v (λ t. then (f (planOf t)) λ a. done (record { table = t; image = a }))) (λ p. done (p .image))
-panel-image (refused code object bit) f = refl
+panel-image (refused r) f = refl
 panel-image (done t) f = at (f (planOf t))
   where
     at : (w : Verdict Image) → w ≡ then {A = Panel} (then w (λ a. done (record { table = t; image = a }))) (λ p. done (p .image))
-    at (refused code object bit) = refl
+    at (refused r) = refl
     at (done a) = refl
 
 -- the image's check reads both forms, and gives the image

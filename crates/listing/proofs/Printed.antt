@@ -58,7 +58,7 @@ module _ (t a : List ℕ) (four : 4 ≤ length t) (fills : length t ≡ 4 + numb
 
 pub line-is : (v : Verdict (List ℕ)) → (told v .code ≡ 0 → ⊥) → printed v ≡ refusedLine (told v .code) (told v .object) (told v .bit)
 unfolding told printed
-line-is (refused code object bit) n = refl
+line-is (refused r) n = refl
 line-is (done text) n = absurd (n refl)
 
 both-read : (t a : List ℕ) {table : Table} {image : Image} → tableCall t ≡ done table → imageCall t a ≡ done image → printed (textOf (readBoth t a)) ≡ panelText table image

@@ -91,7 +91,7 @@ listingCall input = textOf (readPanel input)
 -- ---- what the program prints: the text, or the line of its refusal
 
 unfoldable pub printed : Verdict (List ℕ) → List ℕ
-printed (refused code object bit) = refusedLine code object bit
+printed (refused r) = refusedLine (r .code) (r .object) (r .bit)
 printed (done text) = text
 
 unfoldable pub listingOf : List ℕ → List ℕ

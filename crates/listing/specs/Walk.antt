@@ -31,5 +31,5 @@ pub record Ready (b a ns : List ℕ) : Type 0 where
 
 -- the lines below the first
 unfoldable pub linesIn : Verdict Panel → List ℕ
-linesIn (refused code object bit) = []
+linesIn (refused r) = []
 linesIn (done p) = linesOf 0 (p .table .objects) (planOf (p .table) .kinds) (p .image .words)

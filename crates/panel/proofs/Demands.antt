@@ -30,7 +30,7 @@ Read T A i s = s ≡ readingOf (readStateCall T A i)
 -- a reading that is a state
 state-read : (v : Verdict Element) (e : Element) → Reading.State e ≡ readingOf v → v ≡ done e
 unfolding readingOf
-state-read (refused code object bit) e q = absurd (let z : _≡_ {A = ℕ} 0 1 = cc in omega arith)
+state-read (refused r) e q = absurd (let z : _≡_ {A = ℕ} 0 1 = cc in omega arith)
 state-read (done s) e q = cc
 
 -- .. was read from an accepted image, whose position stands in its bytes 7 to 10

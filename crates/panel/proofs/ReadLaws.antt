@@ -17,7 +17,7 @@ use Rattle.kinds.specs.declared.Kind.{Kind}
 use Rattle.kinds.specs.declared.Element.{Element}
 use Rattle.elements.specs.Elements.{stateRead, stateOf}
 use Rattle.history.specs.declared.Answer.{Answer}
-use Rattle.history.specs.Verdict.{Verdict, refused, done, then, refusalAt, _unless_⨾_, numbers, told}
+use Rattle.history.specs.Verdict.{naming, Verdict, refused, done, then, refusalAt, _unless_⨾_, numbers, told}
 use Rattle.history.specs.Table.{kindAt}
 use Rattle.history.specs.Image.{readImage}
 use Rattle.history.specs.Calls.{stateAt, readStateUnder, readStateCall}
@@ -42,13 +42,13 @@ first-told v f e bad = e ∙ told-first v f (λ z. bad (ap (λ (a : Answer). a .
 -- .. and it is the reading
 refusal-read : {r : Answer} (v : Verdict Element) → r ≡ told v → (r .code ≡ 0 → ⊥) → Reading.Refused r ≡ readingOf v
 unfolding told readingOf
-refusal-read (refused code object bit) e n = ap Reading.Refused e
+refusal-read (refused r) e n = ap Reading.Refused e
 refusal-read (done s) e n = absurd (n (ap (λ (r : Answer). r .code) e))
 
 -- a reading's numbers are the call's
 pub reading-told : (v : Verdict Element) → answerIn (readingOf v) ≡ told v
 unfolding told readingOf
-reading-told (refused code object bit) = refl
+reading-told (refused r) = refl
 reading-told (done s) = refl
 
 -- ---- the table
@@ -87,7 +87,7 @@ module _ (x y : ℕ) (ns A : List ℕ) (i : ℕ) {r : Answer} (r-is : r ≡ told
     under = rw (taken .reads)
 
     -- 13
-    pub other-object : length ns ≤ i → {s : Answer} → s ≡ numbers 13 i 255 0 → Reading.Refused s ≡ readingOf (readStateUnder (planAs x y ns) A i)
+    pub other-object : length ns ≤ i → {s : Answer} → s ≡ numbers (naming 13 i 255) 0 → Reading.Refused s ≡ readingOf (readStateUnder (planAs x y ns) A i)
     unfolding readingOf
     other-object l {s} e =
         let none : readStateUnder (planAs x y ns) A i ≡ refusalAt 13 i = under ∙ rw (le-ltb i (length (kindsOf ns)) (omega (arith, length-kinds ns))) in

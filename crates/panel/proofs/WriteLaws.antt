@@ -22,9 +22,9 @@ use Rattle.kinds.specs.declared.Kind.{Kind}
 use Rattle.kinds.specs.declared.Element.{Element}
 use Rattle.elements.specs.Elements.{sameKind, elementCheck, wordOf}
 use Rattle.history.specs.declared.Answer.{Answer}
-use Rattle.history.specs.Verdict.{done, then, numbers, unnamed, told}
+use Rattle.history.specs.Verdict.{naming, done, then, numbers, unnamed, told}
 use Rattle.history.specs.Table.{kindAt}
-use Rattle.history.specs.Image.{element, _of_⨾_, readImage, imageBytes}
+use Rattle.history.specs.Image.{element, foundIn, _of_⨾_, readImage, imageBytes}
 use Rattle.history.specs.Calls.{placed, checkState, writeStateUnder, writeStateCall}
 use Rattle.history.specs.Legal.{AcceptedImage}
 use Rattle.history.proofs.CodeLaws.{state-coded, zero-told}
@@ -43,7 +43,7 @@ use Rattle.panel.proofs.ReadLaws.{first-told, taken, image-sized}
 
 module _ (ns : List ℕ) (i : ℕ) (e : Element) where
   -- 13
-  pub no-object : length ns ≤ i → {s : Answer} → s ≡ numbers 13 i 255 0 → s ≡ told (checkState (kindsOf ns) i e)
+  pub no-object : length ns ≤ i → {s : Answer} → s ≡ numbers (naming 13 i 255) 0 → s ≡ told (checkState (kindsOf ns) i e)
   unfolding checkState told
   no-object l q = q ∙ rw (le-ltb i (length (kindsOf ns)) (omega (arith, length-kinds ns)))
 
@@ -55,7 +55,7 @@ module _ (ns : List ℕ) (i : ℕ) (e : Element) where
     alike h = ap₂ sameKind (sym own-is) (sym kind-is) ∙ h
 
     -- 22
-    pub other-kind : {t : Bool} → t ≡ sameKind own kind → not t ≡ true → {s : Answer} → s ≡ numbers 22 i 255 0 → s ≡ told (checkState (kindsOf ns) i e)
+    pub other-kind : {t : Bool} → t ≡ sameKind own kind → not t ≡ true → {s : Answer} → s ≡ numbers (naming 22 i 255) 0 → s ≡ told (checkState (kindsOf ns) i e)
     unfolding checkState told
     other-kind t-is h q = q ∙ rw (inside, alike (no t-is h))
 
@@ -67,7 +67,7 @@ module _ (ns : List ℕ) (i : ℕ) (e : Element) where
           ∙ sym (rw (inside, alike (yes t-is h)))
 
       -- 12
-      pub bad-state : {f : Refusal} → found ≡ Finding.Refused f → {s : Answer} → s ≡ numbers (f .code) i (f .bit) 0 → s ≡ told (checkState (kindsOf ns) i e)
+      pub bad-state : {f : Refusal} → found ≡ Finding.Refused f → {s : Answer} → s ≡ numbers (foundIn f i) 0 → s ≡ told (checkState (kindsOf ns) i e)
       unfolding told
       bad-state {f} n q = q ∙ sym (ap (λ (n : Finding). told (n of i ⨾ done (wordOf e))) n) ∙ by-finding
 

@@ -6,7 +6,7 @@ use Rattle.panel.specs.declared.read.Reading.{Reading}
 
 -- the paper's numbers of a refusal, length 0; or the state
 unfoldable pub readingOf : Verdict Element → Reading
-readingOf (refused code object bit) = Reading.Refused (numbers code object bit 0)
+readingOf (refused r) = Reading.Refused (numbers r 0)
 readingOf (done e) = Reading.State e
 
 -- a reading's four numbers: success writes no bytes

@@ -10,7 +10,7 @@ use tables::accepted;
 use tables::first_kinds;
 use tables::outline;
 use tables::refused_at;
-use tables::refused_bit;
+use tables::refused_by;
 use tables::short;
 use tables::written;
 ghost use mathlib.Core.Path.{_≡_};
@@ -93,7 +93,7 @@ fn check_state(kinds: &[u8], object: u16, state: Element) -> Answer
     }
     let finding = elements::check_element(elements::word_of(state), kind);
     if let Finding::Refused(r) = finding {
-        return refused_bit(r.code, object, r.bit);
+        return refused_by(r, object);
     }
     accepted()
 }

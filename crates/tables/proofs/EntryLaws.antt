@@ -9,7 +9,7 @@ use lib.ListN.{length, getD, take, drop}
 use lib.Dec.{leb}
 use borrow.Author.Tests.{lt-leb, le-leb, leb-true}
 use Rattle.history.specs.declared.Answer.{Answer}
-use Rattle.history.specs.Verdict.{Verdict, refused, done, refusal, refusalAt, numbers}
+use Rattle.history.specs.Verdict.{Refused, Verdict, refused, done, refusal, refusalAt, numbers}
 use Rattle.elements.specs.Elements.{carried}
 use Rattle.history.specs.Table.{labelLimit, labelGood}
 use Rattle.history.proofs.VerdictLaws.{left, right, held}
@@ -21,19 +21,18 @@ use Rattle.tables.proofs.LabelLaws.{was-bad, was-good, hash-few}
 
 -- ---- what checking an entry gives
 
-pub refuses : (hash : ℕ) {v : Verdict ℕ} {code object bit : ℕ} {a : Answer} → a ≡ numbers code object bit 0 → v ≡ refused code object bit → Found.Refused a ≡ found hash v
+pub refuses : (hash : ℕ) {v : Verdict ℕ} {x : Refused} {a : Answer} → a ≡ numbers x 0 → v ≡ refused x → Found.Refused a ≡ found hash v
 unfolding found
 refuses hash e f = ap Found.Refused e ∙ sym (ap (found hash) f)
 
-refused-in : (hash : ℕ) (v : Verdict ℕ) (a : Answer) → Found.Refused a ≡ found hash v
-    → (code : ℕ) × (object : ℕ) × (bit : ℕ) × (v ≡ refused code object bit) × (a ≡ numbers code object bit 0)
+refused-in : (hash : ℕ) (v : Verdict ℕ) (a : Answer) → Found.Refused a ≡ found hash v → (x : Refused) × (v ≡ refused x) × (a ≡ numbers x 0)
 unfolding found
-refused-in hash (refused code object bit) a e = (code, object, bit, refl, (cc))
+refused-in hash (refused r) a e = (r, refl, (cc))
 refused-in hash (done next) a e = absurd (let z : _≡_ {A = ℕ} 0 1 = cc in omega arith)
 
 entry-in : (hash : ℕ) (v : Verdict ℕ) (own : ℕ) → Found.Entry own ≡ found hash v → (next : ℕ) × (v ≡ done next) × (own ≡ hash)
 unfolding found
-entry-in hash (refused code object bit) own e = absurd (let z : _≡_ {A = ℕ} 0 1 = cc in omega arith)
+entry-in hash (refused r) own e = absurd (let z : _≡_ {A = ℕ} 0 1 = cc in omega arith)
 entry-in hash (done next) own e = (next, refl, (cc))
 
 -- ---- each test
@@ -89,11 +88,11 @@ pub good-entry : (b : List ℕ) (at k : ℕ) {n : ℕ} → checkObjectAt b at k 
 unfolding checkObjectAt
 good-entry b at k e =
     let n : ℕ = getD b (at + 1) 0 in
-    let p₁ = held (leb (at + 2) (length b)) _ _ _ _ e in
-    let p₂ = held (carried (getD b 5 0) (getD b at 0)) _ _ _ _ (p₁ .1) in
-    let p₃ = held (leb 1 n && leb n (labelLimit (getD b 4 0))) _ _ _ _ (p₂ .1) in
-    let p₄ = held (leb (at + (2 + n)) (length b)) _ _ _ _ (p₃ .1) in
-    let p₅ = held (labelGood (take n (drop (at + 2) b))) _ _ _ _ (p₄ .1) in
+    let p₁ = held (leb (at + 2) (length b)) _ _ e in
+    let p₂ = held (carried (getD b 5 0) (getD b at 0)) _ _ (p₁ .1) in
+    let p₃ = held (leb 1 n && leb n (labelLimit (getD b 4 0))) _ _ (p₂ .1) in
+    let p₄ = held (leb (at + (2 + n)) (length b)) _ _ (p₃ .1) in
+    let p₅ = held (labelGood (take n (drop (at + 2) b))) _ _ (p₄ .1) in
     record {
       type = p₂ .0;
       some = leb-true _ _ (left (leb 1 n) _ (p₃ .0));
@@ -105,7 +104,7 @@ good-entry b at k e =
 -- ---- what was given of the entry at a place
 
 module _ (b : List ℕ) (at k : ℕ) {r : Found} (r-is : r ≡ found (hashAt b at) (checkObjectAt b at k)) where
-  pub was-refused : {a : Answer} → r ≡ Found.Refused a → (code : ℕ) × (object : ℕ) × (bit : ℕ) × (checkObjectAt b at k ≡ refused code object bit) × (a ≡ numbers code object bit 0)
+  pub was-refused : {a : Answer} → r ≡ Found.Refused a → (x : Refused) × (checkObjectAt b at k ≡ refused x) × (a ≡ numbers x 0)
   was-refused {a} e = refused-in (hashAt b at) (checkObjectAt b at k) a (sym e ∙ r-is)
 
   module _ {own : ℕ} (e : r ≡ Found.Entry own) where

@@ -13,7 +13,7 @@ use lib.Seq.{take-all, take-append-le, getD-append-seam}
 use borrow.Author.Tests.{lt-ltb, le-ltb}
 use Rattle.octets.specs.Octets.{Bytes}
 use Rattle.history.specs.declared.Answer.{Answer}
-use Rattle.history.specs.Verdict.{Verdict, refused, done, then, refusalAt, _unless_⨾_, numbers, unnamed, told}
+use Rattle.history.specs.Verdict.{naming, Verdict, refused, done, then, refusalAt, _unless_⨾_, numbers, unnamed, told}
 use Rattle.history.specs.Table.{Object, Table, object, objectsBytes}
 use Rattle.history.specs.Calls.{tableCall, Place, labelPlace, labelCall}
 use Rattle.history.proofs.LabelLaws.{LabelIs, label-is}
@@ -81,7 +81,7 @@ label-place-is b {t} a i h =
 
 refused-label : {A : Type 0} (v : Verdict A) (f : A → Verdict Place) (a : Answer) → a ≡ told v → (a .code ≡ 0 → ⊥) → noLabel a ≡ labelTold (then v f)
 unfolding labelTold told
-refused-label (refused code object bit) f a e n = ap noLabel e
+refused-label (refused r) f a e n = ap noLabel e
 refused-label (done t) f a e n = absurd (n (ap (λ (a : Answer). a .code) e))
 
 pub label-table : (b : List ℕ) (i : ℕ) (a : Answer) → a ≡ told (tableCall b) → (a .code ≡ 0 → ⊥) → (r : LabelAt) → r ≡ noLabel a → LabelFound b i r
@@ -99,7 +99,7 @@ module _ (b : List ℕ) (i : ℕ) (z : told (tableCall b) .code ≡ 0) where
   unfolding labelCall tableCall
   call-is = rw (table-of b z .1)
 
-  pub label-none : countIn b ≤ i → (c : Answer) → c ≡ numbers 13 i 255 0 → (r : LabelAt) → r ≡ noLabel c → LabelFound b i r
+  pub label-none : countIn b ≤ i → (c : Answer) → c ≡ numbers (naming 13 i 255) 0 → (r : LabelAt) → r ≡ noLabel c → LabelFound b i r
   unfolding labelTold told
   label-none h c c-is r r-is =
       let t = table-of b z in
@@ -137,7 +137,7 @@ module _ (b : List ℕ) (i : ℕ) (z : told (tableCall b) .code ≡ 0) where
 
 place-empty : (v : Verdict Place) (r : LabelAt) → r ≡ labelTold v → (r .answer .code ≡ 0 → ⊥) → (r .offset ≡ 0) × (r .size ≡ 0)
 unfolding labelTold told
-place-empty (refused code object bit) r e n = (ap (λ (r : LabelAt). r .offset) e, ap (λ (r : LabelAt). r .size) e)
+place-empty (refused x) r e n = (ap (λ (r : LabelAt). r .offset) e, ap (λ (r : LabelAt). r .size) e)
 place-empty (done p) r e n = absurd (n (ap (λ (r : LabelAt). r .answer .code) e))
 
 module _ {b : List ℕ} {i : ℕ} {r : LabelAt} (l : LabelFound b i r) where

@@ -95,7 +95,7 @@ all-filled {b} {count} {kinds} {i} {at} f h e z =
 
 refused-outline : (v : Verdict Table) (a : Answer) → a ≡ told v → (a .code ≡ 0 → ⊥) → record { answer = a; x = 0; y = 0; count = 0; kinds = replicate 1024 0 } ≡ outlineOf v
 unfolding outlineOf told
-refused-outline (refused code object bit) a e n = ap (λ (a : Answer). record { answer = a; x = 0; y = 0; count = 0; kinds = replicate 1024 0 }) e
+refused-outline (refused r) a e n = ap (λ (a : Answer). record { answer = a; x = 0; y = 0; count = 0; kinds = replicate 1024 0 }) e
 refused-outline (done t) a e n = absurd (n (ap (λ (a : Answer). a .code) e))
 
 plan-is : (b : List ℕ) {t : Table} → tableCall b ≡ done t → readPlan b ≡ done (planOf t)

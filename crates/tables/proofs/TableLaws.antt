@@ -78,14 +78,14 @@ record GoodRun (b : List ℕ) (n k : ℕ) (os : List Object) : Type 0 where
 good-run : (b : List ℕ) (n k : ℕ) {os : List Object} → entriesCheck b n k ≡ done os → GoodRun b n k os
 unfolding entriesCheck
 good-run b zero k {os} h =
-    let p = held (eqb (placeOf b k) (length b)) _ _ _ _ h in
+    let p = held (eqb (placeOf b k) (length b)) _ _ h in
     record {
       each = λ j l m. absurd (omega arith);
       objects = let e : os ≡ objectsBelow b k = cc (p .1) in e ∙ ap (objectsBelow b) (sym (add-zero k));
     }
 good-run b (suc n) k h =
     let p = used (checkObjectAt b (placeOf b k) k) _ h in
-    let q = held (not (repeatsBelow b k k)) _ _ _ _ (p .2) in
+    let q = held (not (repeatsBelow b k k)) _ _ (p .2) in
     let r = good-run b n (suc k) (q .1) in
     let e : k + suc n ≡ suc k + n = omega arith in
     record {
@@ -106,10 +106,10 @@ pub record Accepted (b : List ℕ) (t : Table) : Type 0 where
 
 pub accepted : (b : List ℕ) {t : Table} → tableCall b ≡ done t → Accepted b t
 accepted b {t} e =
-    let p₁ = held (isWhole 5 b) _ _ _ _ (sym (in-order b) ∙ e) in
-    let p₂ = held (versionGood (getD b 4 0)) _ _ _ _ (p₁ .1) in
-    let p₃ = held (catalogueGood (getD b 5 0) (getD b 6 0)) _ _ _ _ (p₂ .1) in
-    let p₄ = held (leb (countIn b) 1024) _ _ _ _ (p₃ .1) in
+    let p₁ = held (isWhole 5 b) _ _ (sym (in-order b) ∙ e) in
+    let p₂ = held (versionGood (getD b 4 0)) _ _ (p₁ .1) in
+    let p₃ = held (catalogueGood (getD b 5 0) (getD b 6 0)) _ _ (p₂ .1) in
+    let p₄ = held (leb (countIn b) 1024) _ _ (p₃ .1) in
     let p₅ = used (objectsIn b (countIn b)) _ (p₄ .1) in
     let t-is : t ≡ tableWith b (p₅ .0) = cc (p₅ .2) in
     let l : objectsPlace ≤ length b = table-inside b (p₁ .0) in

@@ -12,7 +12,7 @@ use lib.Dec.{leb}
 use lib.ListN.{length, getD, set}
 use borrow.Author.Tests.{eq-eqb, ne-eqb, leb-true, leb-false}
 use Rattle.history.specs.declared.Answer.{Answer}
-use Rattle.history.specs.Verdict.{Verdict, done, then, refusalAt, _unless_⨾_, numbers, unnamed, told}
+use Rattle.history.specs.Verdict.{naming, Verdict, done, then, refusalAt, _unless_⨾_, numbers, unnamed, told}
 use Rattle.history.specs.Table.{Object}
 use Rattle.heads.specs.Heads.{objectsPlace}
 use Rattle.heads.proofs.Places.{objects-place}
@@ -75,7 +75,7 @@ module _ {b : List ℕ} {count k at : ℕ} (w : Walking b count k at) where
       pub walk-stops : {a : Answer} → r ≡ Found.Refused a → a ≡ told (objectsIn b count)
       walk-stops {a} e =
           let q = was-refused b at k r-is e in
-          told-refused (objectsIn b count) (turn ∙ ap (λ (v : Verdict ℕ). then v (λ next. after b count k)) (q .3)) (q .4)
+          told-refused (objectsIn b count) (turn ∙ ap (λ (v : Verdict ℕ). then v (λ next. after b count k)) (q .1)) (q .2)
 
       module _ {own : ℕ} (e : r ≡ Found.Entry own) where
         entered : (next : ℕ) × (checkObjectAt b at k ≡ done next) × (own ≡ hashAt b at)
@@ -198,7 +198,7 @@ module _ {b : List ℕ} {count k at size own : ℕ} {heads links starts : List �
         pub was-fits : was + size ≤ length b
         was-fits = omega (arith, before, s .fits)
 
-        pub search-finds : getD b was 0 ≡ getD b at 0 → (i : ℕ) → i ≤ 1 → Agree b was at i size → numbers 7 k 255 0 ≡ told (objectsIn b count)
+        pub search-finds : getD b was 0 ≡ getD b at 0 → (i : ℕ) → i ≤ 1 → Agree b was at i size → numbers (naming 7 k 255) 0 ≡ told (objectsIn b count)
         unfolding told
         search-finds t i low a =
             let r = repeats-yes b k (j - 1) (omega (arith, s .passed)) (same-yes both (omega (arith, s .size-is)) t i low (rw (s .size-is) at a)) in

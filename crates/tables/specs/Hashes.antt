@@ -22,5 +22,5 @@ hashed true hash = Label.Good hash
 
 -- an entry's check as the code answers it
 unfoldable pub found : ℕ → Verdict ℕ → Found
-found hash (refused code object bit) = Found.Refused (numbers code object bit 0)
+found hash (refused r) = Found.Refused (numbers r 0)
 found hash (done next) = Found.Entry hash

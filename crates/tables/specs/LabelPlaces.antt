@@ -13,7 +13,7 @@ abbrev pub noLabel : Answer → LabelAt
 noLabel answer = record { answer = answer; offset = 0; size = 0 }
 
 unfoldable pub labelTold : Verdict Place → LabelAt
-labelTold (refused code object bit) = noLabel (told {A = Place} (refused code object bit))
+labelTold (refused r) = noLabel (told {A = Place} (refused r))
 labelTold (done p) = record { answer = told (done p); offset = p .offset; size = p .size }
 
 -- the whole outcome, and what callers go by; the bytes are inside the table, also where they are none

@@ -22,12 +22,12 @@ planAs x y ns = record { x = x; y = y; kinds = kindsOf ns }
 
 -- the layout numbers of a read table, in table order, in the first of 1,024 places
 unfoldable pub layoutsIn : Verdict Table → List ℕ
-layoutsIn (refused code object bit) = filled 1024 []
+layoutsIn (refused r) = filled 1024 []
 layoutsIn (done t) = filled 1024 (map layoutNo (planOf t .kinds))
 
 -- the answer; of a read table X, Y, count and layout numbers; else zeros
 unfoldable pub outlineOf : Verdict Table → Outline
-outlineOf (refused code object bit) = record { answer = told {A = Table} (refused code object bit); x = 0; y = 0; count = 0; kinds = filled 1024 [] }
+outlineOf (refused r) = record { answer = told {A = Table} (refused r); x = 0; y = 0; count = 0; kinds = filled 1024 [] }
 outlineOf (done t) = record { answer = told (done t); x = t .x; y = t .y; count = length (t .objects); kinds = layoutsIn (done t) }
 
 -- the whole outcome, and what callers go by

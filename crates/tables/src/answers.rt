@@ -1,7 +1,9 @@
 // The numbers given back, made in one place for each kind of answer; and what the calls on a table give beside them.
 use history::Answer;
+use rows::Refusal;
 ghost use mathlib.Core.Path.{_≡_};
-ghost use Rattle.history.specs.Verdict.{numbers, unnamed};
+ghost use Rattle.history.specs.Image.{foundIn};
+ghost use Rattle.history.specs.Verdict.{naming, numbers, unnamed};
 
 // A refusal that names nothing.
 pub fn refused(code: u8) -> Answer
@@ -12,19 +14,24 @@ pub fn refused(code: u8) -> Answer
 
 // A refusal that names an object.
 pub fn refused_at(code: u8, object: u16) -> Answer
-    ensures { λ r. ⌜ r ≡ numbers code object 255 0 ⌝ }
-{
-    refused_bit(code, object, 255)
-}
-
-// A refusal that names an object and a bit.
-pub fn refused_bit(code: u8, object: u16, bit: u8) -> Answer
-    ensures { λ r. ⌜ r ≡ numbers code object bit 0 ⌝ }
+    ensures { λ r. ⌜ r ≡ numbers (naming code object 255) 0 ⌝ }
 {
     Answer {
         code,
         object,
-        bit,
+        bit: 255,
+        length: 0,
+    }
+}
+
+// An element's refusal, passed on: it names the object and the bit that was found.
+pub fn refused_by(found: Refusal, object: u16) -> Answer
+    ensures { λ r. ⌜ r ≡ numbers (foundIn found object) 0 ⌝ }
+{
+    Answer {
+        code: found.code,
+        object,
+        bit: found.bit,
         length: 0,
     }
 }

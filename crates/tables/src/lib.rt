@@ -10,7 +10,7 @@ pub use answers::Outline;
 pub use answers::accepted;
 pub use answers::refused;
 pub use answers::refused_at;
-pub use answers::refused_bit;
+pub use answers::refused_by;
 pub use answers::short;
 pub use answers::written;
 pub use place::LabelAt;

@@ -25,7 +25,7 @@ use Rattle.view.specs.Parts.{countOf, givenPlace, Part}
 
 outline-count : (v : Verdict Table) → outlineOf v .count ≡ countOf v
 unfolding outlineOf countOf
-outline-count (refused code object bit) = refl
+outline-count (refused r) = refl
 outline-count (done t) = refl
 
 pub counted : {T : List ℕ} {r : Outline} → Outlined T r → r .count ≡ countOf (tableCall T)
@@ -38,7 +38,7 @@ at r = record { offset = r .offset; size = r .size }
 
 told-place : (v : Verdict Place) → at (labelTold v) ≡ givenPlace v
 unfolding labelTold givenPlace
-told-place (refused code object bit) = refl
+told-place (refused r) = refl
 told-place (done p) = refl
 
 found-place : {T : List ℕ} {i : ℕ} {r : LabelAt} → LabelFound T i r → at r ≡ givenPlace (labelCall T i)
@@ -59,7 +59,7 @@ own-place v p e = ap givenPlace e
 
 empty-place : (v : Verdict Place) (b : List ℕ) → (told v .code ≡ 0 → ⊥) → take (givenPlace v .size) (drop (givenPlace v .offset) b) ≡ []
 unfolding givenPlace told
-empty-place (refused code object bit) b n = refl
+empty-place (refused r) b n = refl
 empty-place (done p) b n = absurd (n refl)
 
 module _ {T part : RefT (List ℕ)} (i : ℕ) (p : Part T part (givenPlace (labelCall (now T) i))) {r : Answer} (r-is : r ≡ told (labelCall (now T) i)) where

@@ -11,12 +11,12 @@ use Rattle.history.specs.Calls.{Place}
 
 -- an accepted table's count; else 0
 unfoldable pub countOf : Verdict Table → ℕ
-countOf (refused code object bit) = 0
+countOf (refused r) = 0
 countOf (done t) = length (t .objects)
 
 -- the label's place; of a refused request the empty one at the front
 unfoldable pub givenPlace : Verdict Place → Place
-givenPlace (refused code object bit) = record { offset = 0; size = 0 }
+givenPlace (refused r) = record { offset = 0; size = 0 }
 givenPlace (done p) = p
 
 -- r is the part of s at a place: in s's own block, that far on, with its bytes

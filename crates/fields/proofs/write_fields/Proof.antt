@@ -7,10 +7,10 @@ use Rattle.fields.proofs.write_fields.Statement.{statement}
 use Rattle.fields.proofs.write_fields.Tie as tie
 
 returns : tie.Need-returns
-returns c = refused-settles (search no-kind) (state-refuses _ _ _ _ _ _) _ (c .refuse-state .ensures)
+returns c = refused-settles (search no-kind) (state-refuses _ _ _ _ _) _ (c .refuse-state .ensures)
 
 returns-2 : tie.Need-returns-2
-returns-2 c = refused-settles (search no-value) (state-refuses _ _ _ _ _ _) _ (c .refuse-state2 .ensures)
+returns-2 c = refused-settles (search no-value) (state-refuses _ _ _ _ _) _ (c .refuse-state2 .ensures)
 
 returns-3 : tie.Need-returns-3
 returns-3 c = leaves-as _ (search state-writes) (c .before .before .write-state .ensures)

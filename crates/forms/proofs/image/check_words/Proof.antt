@@ -16,7 +16,7 @@ abbrev μ-loop : tie.MeasureT-loop
 μ-loop kinds words at₀ i₀ at i = length kinds - i
 
 returns : tie.Need-returns Inv-loop μ-loop
-returns c = c .refused-bit .ensures ∙ search stops
+returns c = c .refused-by .ensures ∙ search stops
 
 loop-again : tie.Need-loop-again Inv-loop μ-loop
 loop-again c = search goes-on

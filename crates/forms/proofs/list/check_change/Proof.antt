@@ -8,10 +8,10 @@ use Rattle.forms.proofs.list.check_change.Statement.{statement}
 use Rattle.forms.proofs.list.check_change.Tie as tie
 
 returns : tie.Need-returns
-returns c = refuses _ (c .refused-bit .ensures) (search old-bad)
+returns c = refuses _ (c .refused-by .ensures) (search old-bad)
 
 returns-2 : tie.Need-returns-2
-returns-2 c = refuses _ (c .refused-bit2 .ensures) (search new-bad)
+returns-2 c = refuses _ (c .refused-by2 .ensures) (search new-bad)
 
 returns-3 : tie.Need-returns-3
 returns-3 c = refuses _ (c .refused-at .ensures) (search unchanged)
