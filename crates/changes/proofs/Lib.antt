@@ -1,4 +1,3 @@
-pub mod Parts
 pub mod Outcomes
 pub mod Calls
 pub mod Demands

@@ -1,4 +1,10 @@
 // Where the forms are accepted: what is left to test are positions and values, in the paper's order, and the room last.
+use heads::elements_of;
+use heads::entries_of;
+use heads::entry_count;
+use heads::from_of;
+use heads::position_of;
+use heads::to_of;
 use history::Answer;
 use steps::Walk;
 use tables::accepted;
@@ -7,7 +13,7 @@ use tables::refused_at;
 use walks::Size;
 ghost use mathlib.Core.Path.{_≡_};
 ghost use Prim.Native.Nat.{_≤_};
-ghost use lib.ListN.{length, drop};
+ghost use lib.ListN.{length};
 ghost use Rattle.history.specs.Verdict.{told, Leaves};
 ghost use Rattle.history.specs.Calls.{differenceUnder, applyUnder, joinUnder, turnUnder};
 ghost use Rattle.history.specs.Legal.{AcceptedImage, AcceptedList};
@@ -20,8 +26,8 @@ pub fn write_difference(x: u8, y: u8, kinds: &[u8], a: &[u8], b: &[u8], out: &mu
     requires { ⌜ AcceptedImage (planAs x y (now kinds)) (now b) ⌝ }
     ensures { λ r. ⌜ Leaves (differenceUnder (planAs x y (now (kinds .entry))) (now (a .entry)) (now (b .entry))) (now (out .entry)) r (now (out .exit)) ⌝ }
 {
-    let from = octets::get_at(a, 7, 4);
-    let to = octets::get_at(b, 7, 4);
+    let from = position_of(a);
+    let to = position_of(b);
     let old = elements_of(a);
     let new = elements_of(b);
     let size = walks::measure_difference(kinds, old, new);
@@ -46,7 +52,7 @@ pub fn write_applied(
     if answer.code != 0 {
         return answer;
     }
-    let to = octets::get_at(list, 11, 4);
+    let to = to_of(list);
     outputs::write_image(kinds, image, to, entries_of(list), out)
 }
 
@@ -64,8 +70,8 @@ pub fn write_joined(
     requires { ⌜ AcceptedList (planAs x y (now kinds)) (now second) ⌝ }
     ensures { λ r. ⌜ Leaves (joinUnder (planAs x y (now (kinds .entry))) (now (first .entry)) (now (second .entry))) (now (out .entry)) r (now (out .exit)) ⌝ }
 {
-    let end = octets::get_at(first, 11, 4);
-    let start = octets::get_at(second, 7, 4);
+    let end = to_of(first);
+    let start = from_of(second);
     if end != start {
         return refused(19);
     }
@@ -76,8 +82,8 @@ pub fn write_joined(
     if object < kinds.len() {
         return refused_at(20, object as u16);
     }
-    let from = octets::get_at(first, 7, 4);
-    let to = octets::get_at(second, 11, 4);
+    let from = from_of(first);
+    let to = to_of(second);
     outputs::write_list(
         Walk::Join,
         x,
@@ -98,11 +104,12 @@ pub fn write_turned(x: u8, y: u8, kinds: &[u8], list: &[u8], out: &mut [u8]) -> 
     requires { ⌜ AcceptedList (planAs x y (now kinds)) (now list) ⌝ }
     ensures { λ r. ⌜ Leaves (turnUnder (planAs x y (now (kinds .entry))) (now (list .entry))) (now (out .entry)) r (now (out .exit)) ⌝ }
 {
-    let from = octets::get_at(list, 11, 4);
-    let to = octets::get_at(list, 7, 4);
+    let from = to_of(list);
+    let to = from_of(list);
+    let entries = entries_of(list);
     let size = Size {
-        count: octets::get_at(list, 15, 2) as usize,
-        bytes: list.len() - 17,
+        count: entry_count(list),
+        bytes: entries.len(),
     };
     outputs::write_list(
         Walk::Turn,
@@ -111,7 +118,7 @@ pub fn write_turned(x: u8, y: u8, kinds: &[u8], list: &[u8], out: &mut [u8]) -> 
         kinds,
         from,
         to,
-        entries_of(list),
+        entries,
         &list[0..0],
         size,
         out,
@@ -125,8 +132,8 @@ fn check_applies(x: u8, y: u8, kinds: &[u8], image: &[u8], list: &[u8]) -> Answe
     requires { ⌜ AcceptedList (planAs x y (now kinds)) (now list) ⌝ }
     ensures { λ r. ⌜ r ≡ told (applyUnder (planAs x y (now (kinds .entry))) (now (image .entry)) (now (list .entry))) ⌝ }
 {
-    let position = octets::get_at(image, 7, 4);
-    let from = octets::get_at(list, 7, 4);
+    let position = position_of(image);
+    let from = from_of(list);
     if from < position {
         return refused(16);
     }
@@ -138,20 +145,4 @@ fn check_applies(x: u8, y: u8, kinds: &[u8], image: &[u8], list: &[u8]) -> Answe
         return refused_at(18, object as u16);
     }
     accepted()
-}
-
-// An image's elements.
-fn elements_of(image: &[u8]) -> &[u8]
-    requires { ⌜ 11 ≤ length (now image) ⌝ }
-    ensures { λ r. ⌜ now r ≡ drop 11 (now (image .entry)) ⌝ }
-{
-    &image[11..]
-}
-
-// A list's entries.
-fn entries_of(list: &[u8]) -> &[u8]
-    requires { ⌜ 17 ≤ length (now list) ⌝ }
-    ensures { λ r. ⌜ now r ≡ drop 17 (now (list .entry)) ⌝ }
-{
-    &list[17..]
 }

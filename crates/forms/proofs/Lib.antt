@@ -1,5 +1,6 @@
 pub mod Found
 pub mod KindLaws
+pub mod ElementPlaces
 pub mod WordLaws
 pub mod ImageAnswers
 pub mod ListEntryLaws

@@ -1,1 +1,2 @@
 pub mod ListEntries
+pub mod Places

@@ -9,4 +9,5 @@ pub use image::check_image_under;
 pub use list::check_list;
 pub use list::check_list_under;
 pub use objects::kind_at;
+pub use objects::place_of;
 pub use objects::widths_of;

@@ -6,6 +6,7 @@ ghost use lib.ListN.{length};
 ghost use Rattle.history.specs.Table.{kindAt};
 ghost use Rattle.history.specs.Image.{widths};
 ghost use Rattle.tables.specs.Outlines.{kindsOf};
+ghost use Rattle.forms.specs.Places.{placeIn};
 
 pub fn kind_at(kinds: &[u8], i: usize) -> Kind
     requires { ⌜ i < length (now kinds) ⌝ }
@@ -27,4 +28,12 @@ pub fn widths_of(kinds: &[u8]) -> usize
         i += 1;
     }
     sum
+}
+
+// The bytes of the elements before an object's own.
+pub fn place_of(kinds: &[u8], object: usize) -> usize
+    requires { ⌜ (object ≤ length (now kinds)) × (length (now kinds) ≤ 1024) ⌝ }
+    ensures { λ r. ⌜ (r ≡ placeIn (kindsOf (now (kinds .entry))) object) × (r ≤ 4096) ⌝ }
+{
+    widths_of(&kinds[0..object])
 }

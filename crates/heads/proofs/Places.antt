@@ -1,6 +1,6 @@
 -- How the places lie: what is read of a head stands before them.
 -- Assumes nothing.
-use Prim.Native.Nat.{ℕ, _+_, _-_, _≤_}
+use Prim.Native.Nat.{ℕ, _+_, _-_, _≤_, _<_}
 use native.Mathlib.Omega.{arith}
 use mathlib.Core.Path.{_≡_, refl, sym, ap, _∙_}
 use mathlib.Core.List.{List}
@@ -30,7 +30,14 @@ pub head-place : (b : List ℕ) → 11 ≤ imageHead b
 unfolding imageHead
 head-place b = omega (arith, elements-place (getD b 4 0))
 
--- the position is inside where they begin inside
+pub head-few : (b : List ℕ) → imageHead b ≤ 16
+unfolding imageHead
+head-few b = omega (arith, elements-place (getD b 4 0))
+
+-- the version and the position are inside where they begin inside
+pub version-inside : (b : List ℕ) → imageHead b ≤ length b → 4 < length b
+version-inside b h = omega (arith, head-place b)
+
 pub position-inside : (b : List ℕ) → imageHead b ≤ length b → 11 ≤ length b
 position-inside b h = omega (arith, head-place b)
 
@@ -40,9 +47,6 @@ module _ (b : List ℕ) (place : ℕ) (e : place ≡ elementsPlace (getD b 4 0))
   unfolding imageHead
   head-is = sym e
 
-  pub place-inside : imageHead b ≤ length b → place ≤ length b
-  place-inside h = omega (arith, head-is)
-
   pub head-inside : place ≤ length b → imageHead b ≤ length b
   head-inside h = omega (arith, head-is)
 
@@ -51,9 +55,10 @@ module _ (b : List ℕ) (place : ℕ) (e : place ≡ elementsPlace (getD b 4 0))
   unfolding elementsIn
   elements-fill h f = ap length f ∙ length-drop (imageHead b) b ∙ omega (arith, head-is)
 
-  pub elements-from : take (length b - place) (drop place b) ≡ elementsIn b
-  unfolding elementsIn imageHead
-  elements-from = to-end place b ∙ ap (λ (n : ℕ). drop n b) e
+-- .. as its head is told
+pub elements-from : (b : List ℕ) (place : ℕ) → place ≡ imageHead b → take (length b - place) (drop place b) ≡ elementsIn b
+unfolding elementsIn
+elements-from b place e = to-end place b ∙ ap (λ (n : ℕ). drop n b) e
 
 -- .. and the positions and the count before a list's entries
 pub entries-place : entriesPlace ≡ 17

@@ -83,13 +83,13 @@ module _ (b es : List ℕ) (h : imageHead b ≤ length b) where
   front-long : length (take (imageHead b) b) ≡ imageHead b
   front-long = length-take-le (imageHead b) b h
 
-  pub renewed-head : imageHead renewed ≡ imageHead b
+  renewed-head : imageHead renewed ≡ imageHead b
   unfolding imageHead
   renewed-head =
       ap elementsPlace (List·getD-append (take (imageHead b) b) es 0 4 (omega (arith, front-long, head-place b)) ∙ getD-take (imageHead b) b 4 0 (omega (arith, head-place b)))
 
-  pub renewed-long : length renewed ≡ imageHead b + length es
-  renewed-long = length-append (take (imageHead b) b) es ∙ ap (λ (n : ℕ). n + length es) front-long
+  pub renewed-inside : imageHead renewed ≤ length renewed
+  renewed-inside = omega (arith, renewed-head, length-append (take (imageHead b) b) es, front-long)
 
   -- .. with its position
   pub renewed-with : (position : ℕ) → withElements renewed position (elementsIn renewed) ≡ withElements b position es

@@ -11,6 +11,14 @@ pub fn elements_place(version: u8) -> usize
     11
 }
 
+// .. in this image.
+pub fn image_head(image: &[u8]) -> usize
+    requires { ⌜ imageHead (now image) ≤ length (now image) ⌝ }
+    ensures { λ r. ⌜ (r ≡ imageHead (now (image .entry))) × (r ≤ 16) ⌝ }
+{
+    elements_place(image[4])
+}
+
 // The position.
 pub fn position_of(image: &[u8]) -> u32
     requires { ⌜ imageHead (now image) ≤ length (now image) ⌝ }
@@ -24,6 +32,6 @@ pub fn elements_of(image: &[u8]) -> &[u8]
     requires { ⌜ imageHead (now image) ≤ length (now image) ⌝ }
     ensures { λ r. ⌜ now r ≡ elementsIn (now (image .entry)) ⌝ }
 {
-    let place = elements_place(image[4]);
+    let place = image_head(image);
     &image[place..]
 }

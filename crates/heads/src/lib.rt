@@ -8,6 +8,7 @@ mod written;
 
 pub use image::elements_of;
 pub use image::elements_place;
+pub use image::image_head;
 pub use image::position_of;
 pub use list::entries_of;
 pub use list::entry_count;

@@ -7,7 +7,7 @@ ghost use Rattle.heads.specs.Written.{opening, listHead, withElements};
 
 // Where a list's entries begin.
 pub fn entries_place() -> usize
-    ensures { λ r. ⌜ r ≡ entriesPlace ⌝ }
+    ensures { λ r. ⌜ (r ≡ entriesPlace) × (r ≤ 17) ⌝ }
 {
     17
 }

@@ -1,25 +1,26 @@
--- The bytes that are written, on any walk: a list's head and its entries; an image's head, its new position and its elements.
+-- The bytes that are written: the list of a walk's changes; an image after a list's entries, and after one element.
 use Prim.Native.Nat.{ℕ}
-use mathlib.Core.List.{List, [], _∷_, _++_}
-use lib.ListN.{take, drop}
+use mathlib.Core.List.{List}
 use Rattle.octets.specs.Octets.{bytes}
+use Rattle.kinds.specs.Kinds.{widthOf}
 use Rattle.kinds.specs.declared.Kind.{Kind}
-use Rattle.history.specs.Changes.{listVersion, listBytes}
+use Rattle.history.specs.Table.{kindAt}
+use Rattle.history.specs.Changes.{listBytes}
+use Rattle.heads.specs.Heads.{elementsIn}
+use Rattle.heads.specs.Written.{withElements}
 use Rattle.steps.specs.declared.Walk.{Walk}
 use Rattle.tables.specs.Outlines.{kindsOf, planAs}
+use Rattle.forms.specs.Places.{placeIn, over}
 use Rattle.walks.specs.Walks.{walked, renewal}
 
 -- the list of a walk's changes
 unfoldable pub walkList : Walk → ℕ → ℕ → List ℕ → ℕ → ℕ → List ℕ → List ℕ → List ℕ
 walkList walk x y ns from to f s = listBytes (planAs x y ns) (record { from = from; to = to; each = walked walk 0 (kindsOf ns) f s })
 
--- a list's first seven bytes, and its first 17: the bytes after the first four, X and Y, the positions, how many entries
-unfoldable pub opening : ℕ → ℕ → ℕ → List ℕ
-opening n x y = bytes 4 n ++ (listVersion ∷ x ∷ y ∷ [])
-
-unfoldable pub listHead : ℕ → ℕ → ℕ → ℕ → ℕ → ℕ → List ℕ
-listHead n x y from to count = opening n x y ++ (bytes 4 from ++ (bytes 4 to ++ bytes 2 count))
-
 -- the image b after the entries e, at the position to
-unfoldable pub imageAfter : List Kind → List ℕ → ℕ → List ℕ → List ℕ
-imageAfter ks b to e = take 7 b ++ (bytes 4 to ++ renewal 0 ks e (drop 11 b))
+unfoldable pub imageAfter : List Kind → ℕ → List ℕ → List ℕ → List ℕ
+imageAfter ks to e b = withElements b to (renewal 0 ks e (elementsIn b))
+
+-- the image b with the number w for object i's element, at the position to
+unfoldable pub imageWith : List Kind → ℕ → ℕ → ℕ → List ℕ → List ℕ
+imageWith ks to i w b = withElements b to (over (placeIn ks i) (bytes (widthOf (kindAt ks i)) w) (elementsIn b))

@@ -1,4 +1,3 @@
-pub mod ElementPlaces
 pub mod ReadLaws
 pub mod WriteLaws
 pub mod Demands

@@ -27,13 +27,14 @@ use Rattle.tables.specs.Outlines.{kindsOf, planAs, Outlined}
 use Rattle.tables.specs.declared.answers.Outline.{Outline}
 use Rattle.tables.proofs.AnswerLaws.{told-first}
 use Rattle.forms.proofs.Accepted.{image-accepted}
+use Rattle.heads.specs.Heads.{imageHead, elementsIn}
+use Rattle.heads.proofs.Parts.{elements-in, image-inside, elements-length}
+use Rattle.forms.specs.Places.{placeIn, Sized}
 use Rattle.forms.proofs.KindLaws.{length-kinds}
+use Rattle.forms.proofs.ElementPlaces.{words-number}
 use Rattle.forms.proofs.UnderPlan.{Starts, table-refused, under-plan}
 use Rattle.panel.specs.declared.read.Reading.{Reading}
 use Rattle.panel.specs.Readings.{readingOf, answerIn}
-use Rattle.panel.specs.Places.{placeIn, Sized}
-use Rattle.history.proofs.ImageLaws.{image-long}
-use Rattle.panel.proofs.ElementPlaces.{image-number}
 
 -- an answer that refuses is the answer of all that comes after
 pub first-told : {A B : Type 0} (v : Verdict A) (f : A → Verdict B) {r : Answer} → r ≡ told v → (r .code ≡ 0 → ⊥) → r ≡ told (then v f)
@@ -82,6 +83,9 @@ module _ (x y : ℕ) (ns A : List ℕ) (i : ℕ) {r : Answer} (r-is : r ≡ told
     pub taken : AcceptedImage (planAs x y ns) A
     taken = image-accepted (planAs x y ns) A h good r-is
 
+    pub head-inside : imageHead A ≤ length A
+    head-inside = image-inside taken
+
     under : readStateUnder (planAs x y ns) A i ≡ (refusalAt 13 i unless ltb i (length (kindsOf ns)) ⨾ done (stateAt (planAs x y ns) (taken .image) i))
     unfolding readStateUnder
     under = rw (taken .reads)
@@ -94,17 +98,17 @@ module _ (x y : ℕ) (ns A : List ℕ) (i : ℕ) {r : Answer} (r-is : r ≡ told
         ap Reading.Refused e ∙ sym (ap readingOf none)
 
     module _ (l : i < length ns) where
-      pub image-sized : length ns ≤ 1024 → Sized ns A i
-      image-sized few = record { below = l; few = few; long = ap length (taken .same) ∙ image-long (taken .legal) }
+      pub image-sized : length ns ≤ 1024 → {es : List ℕ} → es ≡ elementsIn A → Sized ns es i
+      image-sized few e = record { below = l; few = few; long = elements-length taken e }
 
       inside-kinds : i < length (kindsOf ns)
       inside-kinds = omega (arith, length-kinds ns)
 
-      module _ {kind : Kind} (kind-is : kind ≡ kindAt (kindsOf ns) i) {word : ℕ} (word-is : word ≡ number (take (widthOf (kindAt (kindsOf ns) i)) (drop (placeIn (kindsOf ns) i) A))) where
+      module _ {kind : Kind} (kind-is : kind ≡ kindAt (kindsOf ns) i) {es : List ℕ} (es-is : es ≡ elementsIn A) {word : ℕ} (word-is : word ≡ number (take (widthOf (kindAt (kindsOf ns) i)) (drop (placeIn (kindsOf ns) i) es))) where
         own-word : word ≡ getD (taken .image .words) i 0
         own-word =
-            word-is ∙ ap (λ (b : List ℕ). number (take (widthOf (kindAt (kindsOf ns) i)) (drop (placeIn (kindsOf ns) i) b))) (taken .same)
-            ∙ image-number (taken .legal) i inside-kinds
+            word-is ∙ ap (λ (b : List ℕ). number (take (widthOf (kindAt (kindsOf ns) i)) (drop (placeIn (kindsOf ns) i) b))) (es-is ∙ elements-in taken)
+            ∙ words-number (taken .legal .words) i inside-kinds
 
         admitted : admits kind word ≡ true
         admitted = rw (kind-is, own-word) (admitted-at (taken .legal .words) i inside-kinds)

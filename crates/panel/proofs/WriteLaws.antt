@@ -1,20 +1,17 @@
 -- Writing a state, at each place where its answer is made: a refusal's numbers are those of the call, and success writes the image
--- with the object's word and the position anew.
+-- with the object's word and the position.
 -- Assumes nothing.
-use Prim.Native.Nat.{ℕ, _+_, _-_, _≤_, _<_}
+use Prim.Native.Nat.{ℕ, _+_, _≤_, _<_}
 use native.Mathlib.Omega.{arith}
 use mathlib.Core.Path.{_≡_, refl, sym, ap, ap₂, _∙_}
 use mathlib.Core.Bool.{Bool, true, false, not}
-use mathlib.Core.List.{List, _++_}
+use mathlib.Core.List.{List}
 use lib.Dec.{ltb}
-use lib.ListN.{length, take, drop, getD, length-append, length-take, length-drop}
-use lib.Seq.{drop-drop}
+use lib.ListN.{length, take, getD, set}
 use borrow.Author.Tests.{lt-ltb, le-ltb}
-use borrow.Rule.Slice.PartMut.{putMid, midOf, mid-len}
 use mir.Syntax.{w8}
 use mir.Val.{Fits}
 use Rattle.octets.specs.Octets.{bytes}
-use Rattle.octets.proofs.NumberLaws.{length-bytes}
 use Rattle.rows.specs.declared.Finding.{Finding}
 use Rattle.rows.specs.declared.Refusal.{Refusal}
 use Rattle.kinds.specs.Kinds.{widthOf, kindIn}
@@ -24,20 +21,25 @@ use Rattle.elements.specs.Elements.{sameKind, elementCheck, wordOf}
 use Rattle.history.specs.declared.Answer.{Answer}
 use Rattle.history.specs.Verdict.{naming, done, then, numbers, unnamed, told}
 use Rattle.history.specs.Table.{kindAt}
-use Rattle.history.specs.Image.{element, foundIn, _of_⨾_, readImage, imageBytes}
+use Rattle.history.specs.Image.{element, foundIn, _of_⨾_, readImage, imageBytes, widths}
 use Rattle.history.specs.Calls.{placed, checkState, writeStateUnder, writeStateCall}
 use Rattle.history.specs.Legal.{AcceptedImage}
 use Rattle.history.proofs.CodeLaws.{state-coded, zero-told}
 use Rattle.history.proofs.StateLaws.{Taken, state-taken}
+use Rattle.history.proofs.ImageLaws.{length-words}
+use Rattle.heads.specs.Heads.{imageHead}
+use Rattle.heads.specs.Written.{withElements}
+use Rattle.heads.proofs.Parts.{elements-in, image-length}
+use Rattle.heads.proofs.WrittenLaws.{image-again}
 use Rattle.tables.specs.Outlines.{kindsOf, planAs, Outlined}
 use Rattle.tables.specs.declared.answers.Outline.{Outline}
 use Rattle.tables.proofs.AnswerLaws.{no, yes}
+use Rattle.forms.specs.Places.{placeIn, over}
 use Rattle.forms.proofs.KindLaws.{length-kinds}
+use Rattle.forms.proofs.ElementPlaces.{words-over, words-long}
 use Rattle.forms.proofs.UnderPlan.{Starts, under-plan}
-use Rattle.panel.specs.Places.{placeIn, Sized}
-use Rattle.panel.specs.Writings.{over, imageAnew, elementAnew}
-use Rattle.panel.proofs.ElementPlaces.{image-renewed, own-width}
-use Rattle.panel.proofs.ReadLaws.{first-told, taken, image-sized}
+use Rattle.outputs.specs.Outputs.{imageWith}
+use Rattle.panel.proofs.ReadLaws.{first-told, taken}
 
 -- ---- the state handed in
 
@@ -96,8 +98,8 @@ module _ (ns : List ℕ) (i : ℕ) (e : Element) {s : Answer} (s-is : s ≡ told
   taken-state : Taken (kindsOf ns) i e (state .0)
   taken-state = state-taken (kindsOf ns) i e (state .1)
 
-  pub write-sized : (x y : ℕ) (A : List ℕ) {r : Answer} → r ≡ told (readImage (planAs x y ns) A) → r .code ≡ 0 → ((n : ℕ) → Fits w8 (getD A n 0)) → length ns ≤ 1024 → Sized ns A i
-  write-sized x y A r-is good h few = image-sized x y ns A i r-is h good (omega (arith, taken-state .inside, length-kinds ns)) few
+  pub state-object : i < length ns
+  state-object = omega (arith, taken-state .inside, length-kinds ns)
 
 module _ (x y : ℕ) (ns A : List ℕ) (i : ℕ) (e : Element) (position : ℕ) {r : Answer} (r-is : r ≡ told (readImage (planAs x y ns) A)) where
   pub image-writes : (r .code ≡ 0 → ⊥) → r ≡ told (writeStateUnder (planAs x y ns) A i e position)
@@ -115,50 +117,20 @@ module _ (x y : ℕ) (ns A : List ℕ) (i : ℕ) (e : Element) (position : ℕ) 
     pub state-writes : (s .code ≡ 0 → ⊥) → s ≡ told (writeStateUnder (planAs x y ns) A i e position)
     state-writes bad = first-told (checkState (kindsOf ns) i e) _ s-is bad ∙ ap told (sym under)
 
+    pub image-sized : length A ≡ imageHead A + widths (kindsOf ns)
+    image-sized = image-length image
+
     module _ (fine : s .code ≡ 0) where
-      pub write-is : {word : ℕ} → word ≡ wordOf e → done (elementAnew (kindsOf ns) A i position word) ≡ writeStateUnder (planAs x y ns) A i e position
-      unfolding elementAnew
+      with-state : (w : ℕ) → imageWith (kindsOf ns) position i w A ≡ imageBytes (planAs x y ns) (placed (image .image) i w position)
+      unfolding imageWith
+      with-state w =
+          let inside : i < length (kindsOf ns) = taken-state ns i e s-is fine .inside in
+          let words = words-over w (image .legal .words) i inside in
+          let long = words-long w (image .legal .words) i ∙ length-words (image .legal .words) in
+          ap (λ (es : List ℕ). withElements A position (over (placeIn (kindsOf ns) i) (bytes (widthOf (kindAt (kindsOf ns) i)) w) es)) (elements-in image)
+          ∙ ap (withElements A position) words ∙ image-again image position (set (image .image .words) i w) long
+
+      pub write-is : {word : ℕ} → word ≡ wordOf e → done (imageWith (kindsOf ns) position i word A) ≡ writeStateUnder (planAs x y ns) A i e position
       write-is {word} word-is =
-          ap₂ (λ (b : List ℕ) (v : ℕ). done (imageAnew b position (placeIn (kindsOf ns) i) (widthOf (kindAt (kindsOf ns) i)) v)) (image .same) word-is
-          ∙ ap done (image-renewed (image .legal) i (taken-state ns i e s-is fine .inside) position (wordOf e))
+          ap done (with-state word) ∙ ap (λ (w : ℕ). done (imageBytes (planAs x y ns) (placed (image .image) i w position))) word-is
           ∙ sym (under ∙ rw (state ns i e s-is fine .1, ← taken-state ns i e s-is fine .word))
-
--- ---- the element's place
-
-module _ {ns A : List ℕ} {i : ℕ} (s : Sized ns A i) {at : ℕ} (at-is : at ≡ placeIn (kindsOf ns) i) {kind : Kind} (kind-is : kind ≡ kindAt (kindsOf ns) i) {w : ℕ} (w-is : w ≡ widthOf kind) where
-  pub anew-at : (position word : ℕ) → done (imageAnew A position at (at + w - at) word) ≡ done (elementAnew (kindsOf ns) A i position word)
-  unfolding elementAnew
-  anew-at position word =
-      let n : at + w - at ≡ widthOf (kindAt (kindsOf ns) i) = omega (arith, own-width s at-is kind-is w-is) in
-      ap₂ (λ (m n : ℕ). done (imageAnew A position m n word)) at-is n
-
--- ---- the bytes
-
--- a part lent from the middle and filled with a number
-put-part : (l m b : List ℕ) (from to v : ℕ) → from ≤ to → to ≤ length m → l ≡ m → b ≡ bytes (length (midOf from (to - from) l)) v
-    → putMid from (to - from) l b ≡ over from (bytes (to - from) v) m
-put-part l m b from to v s h e q =
-    let n : length (midOf from (to - from) m) ≡ to - from = mid-len from to m h in
-    let b-is : b ≡ bytes (to - from) v = q ∙ ap (λ (l : List ℕ). bytes (length (midOf from (to - from) l)) v) e ∙ ap (λ (n : ℕ). bytes n v) n in
-    ap₂ (λ (l b : List ℕ). putMid from (to - from) l b) e b-is
-    ∙ ap (λ (r : List ℕ). take from m ++ (bytes (to - from) v ++ r)) (drop-drop (to - from) from m ∙ ap (λ (n : ℕ). drop (from + n) m) (sym (length-bytes (to - from) v)))
-
-over-long : (at : ℕ) (bs l : List ℕ) → at + length bs ≤ length l → length (over at bs l) ≡ length l
-over-long at bs l h = simp (length-append, length-take, length-drop) (omega arith)
-
--- over what the code has in hand: where the element stands
-module _ (A : List ℕ) (at end : ℕ) (behind : 11 ≤ at) (up : at ≤ end) (inside : end ≤ length A) (position word : ℕ) where
-  first-long : length (over 7 (bytes 4 position) A) ≡ length A
-  first-long = over-long 7 (bytes 4 position) A (omega (arith, length-bytes 4 position))
-
-  pub anew-long : length (imageAnew A position at (end - at) word) ≡ length A
-  unfolding imageAnew
-  anew-long = over-long at (bytes (end - at) word) (over 7 (bytes 4 position) A) (omega (arith, first-long, length-bytes (end - at) word)) ∙ first-long
-
-  -- the image's bytes, the position's through one part, the element's through another
-  pub renewed : {l b d : List ℕ} → l ≡ A → b ≡ bytes (length (midOf 7 4 l)) position → d ≡ bytes (length (midOf at (end - at) (putMid 7 4 l b))) word
-      → putMid at (end - at) (putMid 7 4 l b) d ≡ imageAnew A position at (end - at) word
-  unfolding imageAnew
-  renewed {l} {b} {d} e f g =
-      let first = put-part l A b 7 11 position (omega arith) (omega arith) e f in
-      put-part _ (over 7 (bytes 4 position) A) d at end word up (omega (arith, first-long)) first g

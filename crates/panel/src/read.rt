@@ -2,6 +2,7 @@
 use super::place::word_at;
 use forms::check_image_under;
 use forms::kind_at;
+use heads::elements_of;
 use history::Answer;
 use kinds::Element;
 use tables::accepted;
@@ -60,6 +61,6 @@ fn read_under(x: u8, y: u8, kinds: &[u8], image: &[u8], object: u16) -> Reading
         return Reading::Refused(refused_at(13, object));
     }
     let kind = kind_at(kinds, index);
-    let word = word_at(kinds, image, index);
+    let word = word_at(kinds, elements_of(image), index);
     Reading::State(elements::state_of(word, kind))
 }

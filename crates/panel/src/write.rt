@@ -1,26 +1,22 @@
 // Writing an object's state, with the image's new position: table, image, 13, 22, 12, 21.
-use super::place::element_place;
 use forms::check_image_under;
 use forms::kind_at;
 use history::Answer;
 use kinds::Element;
 use kinds::kind_in;
+use outputs::write_element;
 use rows::Finding;
 use tables::accepted;
 use tables::first_kinds;
 use tables::outline;
 use tables::refused_at;
 use tables::refused_by;
-use tables::short;
-use tables::written;
 ghost use mathlib.Core.Path.{_≡_};
-ghost use Prim.Native.Nat.{_+_, _≤_, _-_};
+ghost use Prim.Native.Nat.{_≤_};
 ghost use lib.ListN.{length};
-ghost use Rattle.history.specs.Verdict.{done, told, Leaves};
+ghost use Rattle.history.specs.Verdict.{told, Leaves};
 ghost use Rattle.history.specs.Calls.{checkState, writeStateUnder, writeStateCall};
 ghost use Rattle.tables.specs.Outlines.{kindsOf, planAs};
-ghost use Rattle.panel.specs.Places.{Sized};
-ghost use Rattle.panel.specs.Writings.{elementAnew, imageAnew};
 
 // The image with an object's state and the position anew, at the front of the output.
 pub fn write_state(
@@ -76,7 +72,7 @@ fn write_under(
         return found;
     }
     let word = elements::word_of(state);
-    put_element(kinds, image, object as usize, position, word, out)
+    write_element(kinds, image, position, object as usize, word, out)
 }
 
 // A state handed in for an object: 13, 22, 12.
@@ -96,52 +92,4 @@ fn check_state(kinds: &[u8], object: u16, state: Element) -> Answer
         return refused_by(r, object);
     }
     accepted()
-}
-
-// The image with the position and the object's element anew, where the output has room; else 21.
-fn put_element(
-    kinds: &[u8],
-    image: &[u8],
-    object: usize,
-    position: u32,
-    word: u32,
-    out: &mut [u8],
-) -> Answer
-    requires { ⌜ Sized (now kinds) (now image) object ⌝ }
-    ensures { λ r. ⌜ Leaves (done (elementAnew (kindsOf (now (kinds .entry))) (now (image .entry)) object position word)) (now (out .entry)) r (now (out .exit)) ⌝ }
-{
-    let at = element_place(kinds, object);
-    let kind = kind_at(kinds, object);
-    let end = at + elements::width(kind);
-    put_image(image, position, at, end, word, out)
-}
-
-// The same, with the element's bytes from one place to another.
-fn put_image(
-    image: &[u8],
-    position: u32,
-    at: usize,
-    end: usize,
-    word: u32,
-    out: &mut [u8],
-) -> Answer
-    requires { ⌜ (11 ≤ at) × (at ≤ end) × (end ≤ at + 4) × (end ≤ length (now image)) × (length (now image) ≤ 4107) ⌝ }
-    ensures { λ r. ⌜ Leaves (done (imageAnew (now (image .entry)) position at (end - at) word)) (now (out .entry)) r (now (out .exit)) ⌝ }
-{
-    let size = image.len();
-    if out.len() < size {
-        return short(size as u32);
-    }
-    renew(&mut out[0..size], image, position, at, end, word);
-    written(size as u32)
-}
-
-// Fills the part with the image, then with the new position, then with the new element.
-fn renew(part: &mut [u8], image: &[u8], position: u32, at: usize, end: usize, word: u32)
-    requires { ⌜ (11 ≤ at) × (at ≤ end) × (end ≤ at + 4) × (end ≤ length (now image)) × (length (now part) ≡ length (now image)) ⌝ }
-    ensures { λ _. ⌜ now (part .exit) ≡ imageAnew (now (image .entry)) position at (end - at) word ⌝ }
-{
-    octets::copy(part, image);
-    octets::put(&mut part[7..11], position);
-    octets::put(&mut part[at..end], word);
 }

@@ -2,8 +2,8 @@
 -- Assumes nothing.
 use borrow.Author.Needs.{needs}
 use Rattle.tables.proofs.AnswerLaws.{told-refused}
-use Rattle.changes.proofs.Parts.{image-head, elements-length, list-head, from-inside}
-use Rattle.changes.proofs.Outcomes.{apply-late, apply-gap, apply-misfits, apply-fits}
+use Rattle.heads.proofs.Parts.{image-inside, list-inside}
+use Rattle.changes.proofs.Outcomes.{elements-sized, apply-late, apply-gap, apply-misfits, apply-fits}
 use Rattle.changes.proofs.accepted.check_applies.Statement.{statement}
 use Rattle.changes.proofs.accepted.check_applies.Tie as tie
 
@@ -23,15 +23,15 @@ pub check-applies-spec : {M : Type 1} → statement M
 check-applies-spec =
     tie.close
     (tie.spec
-    (λ c κs. search (image-head, needs))
-    (λ c κs. search (from-inside, needs))
+    (λ c κs. search image-inside)
+    (λ c κs. search list-inside)
     (λ c κs. search needs)
     returns
     (λ c κs. search needs)
     returns-2
-    (λ c κs. search list-head)
-    (λ c κs. search image-head)
-    (λ c κs. (search needs, search elements-length))
+    (λ c κs. search list-inside)
+    (λ c κs. search image-inside)
+    (λ c κs. (search needs, search elements-sized))
     (λ c. search needs)
     (λ c κs. search needs)
     returns-3

@@ -2,8 +2,8 @@
 -- Assumes nothing.
 use borrow.Author.Needs.{needs}
 use Rattle.history.proofs.OutputLaws.{leaves-as, told-leaves}
-use Rattle.changes.proofs.Parts.{image-length, list-head, to-inside}
-use Rattle.changes.proofs.Outcomes.{apply-is}
+use Rattle.heads.proofs.Parts.{list-inside}
+use Rattle.changes.proofs.Outcomes.{image-sized, apply-is}
 use Rattle.changes.proofs.accepted.write_applied.Statement.{statement}
 use Rattle.changes.proofs.accepted.write_applied.Tie as tie
 
@@ -19,8 +19,8 @@ write-applied-spec =
     (tie.spec
     (λ c κs. search needs)
     returns
-    (λ c κs. search (to-inside, needs))
-    (λ c κs. search list-head)
-    (λ c κs. search image-length)
+    (λ c κs. search list-inside)
+    (λ c κs. search list-inside)
+    (λ c κs. search image-sized)
     (λ c. search needs)
     returns-2)

@@ -2,7 +2,7 @@
 -- Assumes nothing.
 use borrow.Author.Needs.{needs}
 use Rattle.history.proofs.OutputLaws.{leaves-as, refused-leaves}
-use Rattle.changes.proofs.Parts.{list-head, from-inside, to-inside}
+use Rattle.heads.proofs.Parts.{list-inside}
 use Rattle.changes.proofs.Outcomes.{join-apart, join-misfits, join-size, join-is}
 use Rattle.changes.proofs.accepted.write_joined.Statement.{statement}
 use Rattle.changes.proofs.accepted.write_joined.Tie as tie
@@ -27,25 +27,25 @@ returns-3 c =
     let end = start .before in
     let known = end .before .before .before .before .before in
     leaves-as _
-    (join-is _ _ _ (known .pre .0) (known .pre .1 .0) (known .pre .1 .1) (end .get-at .ensures .0) (start .get-at2 .ensures .0) (tested .if1 .left) (first .entries-of .ensures) (second .entries-of2 .ensures) (sized .measure-join .ensures .found) (agreed .if2 .left) (from .get-at3 .ensures .0) (to .get-at4 .ensures .0))
+    (join-is _ _ _ (known .pre .0) (known .pre .1 .0) (known .pre .1 .1) (end .to-of .ensures) (start .from-of .ensures) (tested .if1 .left) (first .entries-of .ensures) (second .entries-of2 .ensures) (sized .measure-join .ensures .found) (agreed .if2 .left) (from .from-of2 .ensures) (to .to-of2 .ensures))
     (wrote .write-list .ensures)
 
 pub write-joined-spec : {M : Type 1} → statement M
 write-joined-spec =
     tie.close
     (tie.spec
-    (λ c κs. search (to-inside, needs))
-    (λ c κs. search (from-inside, needs))
+    (λ c κs. search list-inside)
+    (λ c κs. search list-inside)
     (λ c κs. search needs)
     returns
-    (λ c κs. search list-head)
-    (λ c κs. search list-head)
+    (λ c κs. search list-inside)
+    (λ c κs. search list-inside)
     (λ c κs. search needs)
     (λ c. search needs)
     (λ c κs. search needs)
     returns-2
-    (λ c κs. search (from-inside, needs))
-    (λ c κs. search (to-inside, needs))
+    (λ c κs. search list-inside)
+    (λ c κs. search list-inside)
     (λ c κs. (search needs, (tt {0}, search join-size)))
     (λ c. search needs)
     returns-3)

@@ -1,7 +1,7 @@
 -- `changes::accepted::write_turned` meets its contract: the walk over an accepted list's entries turns each.
 -- Assumes nothing.
 use borrow.Author.Needs.{needs}
-use Rattle.changes.proofs.Parts.{list-head, from-inside, to-inside}
+use Rattle.heads.proofs.Parts.{list-inside}
 use Rattle.history.proofs.OutputLaws.{leaves-as}
 use Rattle.changes.proofs.Outcomes.{turn-size, turn-is}
 use Rattle.changes.proofs.accepted.write_turned.Statement.{statement}
@@ -14,12 +14,10 @@ pub write-turned-spec : {M : Type 1} → statement M
 write-turned-spec =
     tie.close
     (tie.spec
-    (λ c κs. search (to-inside, needs))
-    (λ c κs. search (from-inside, needs))
-    (λ c κs. search (list-head, needs))
-    (λ c. search needs)
-    (λ c. search list-head)
-    (λ c κs. search list-head)
+    (λ c κs. search list-inside)
+    (λ c κs. search list-inside)
+    (λ c κs. search list-inside)
+    (λ c κs. search list-inside)
     (λ c. search needs)
     (λ c. search needs)
     (λ c. search needs)

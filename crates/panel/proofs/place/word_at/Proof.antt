@@ -1,7 +1,7 @@
 -- `panel::place::word_at` meets its contract: the number of the element's bytes.
 -- Assumes nothing.
 use mathlib.Core.Path.{_∙_}
-use Rattle.panel.proofs.ElementPlaces.{element-inside, number-at}
+use Rattle.forms.proofs.ElementPlaces.{element-inside, number-at}
 use borrow.Author.Needs.{needs}
 use Rattle.panel.proofs.place.word_at.Statement.{statement}
 use Rattle.panel.proofs.place.word_at.Tie as tie

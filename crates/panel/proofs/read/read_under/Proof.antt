@@ -1,6 +1,6 @@
 -- `panel::read::read_under` meets its contract: the image's refusal, 13, or the state at the object's place.
 -- Assumes nothing.
-use Rattle.panel.proofs.ReadLaws.{image-read, other-object, image-sized, state-is}
+use Rattle.panel.proofs.ReadLaws.{image-read, other-object, head-inside, image-sized, state-is}
 use borrow.Author.Needs.{needs}
 use Rattle.panel.proofs.read.read_under.Statement.{statement}
 use Rattle.panel.proofs.read.read_under.Tie as tie
@@ -23,6 +23,7 @@ read-under-spec =
     (λ c κs. search needs)
     returns-2
     (λ c κs. search needs)
+    (λ c κs. search head-inside)
     (λ c κs. search image-sized)
     (λ c κs. search needs)
     returns-3)

@@ -2,7 +2,7 @@
 -- Assumes nothing.
 use native.Mathlib.Omega.{arith}
 use Rattle.history.proofs.OutputLaws.{leaves-as, told-leaves}
-use Rattle.panel.proofs.WriteLaws.{image-writes, state-writes, write-sized, write-is}
+use Rattle.panel.proofs.WriteLaws.{image-writes, state-writes, state-object, image-sized, write-is}
 use borrow.Author.Needs.{needs}
 use Rattle.panel.proofs.write.write_under.Statement.{statement}
 use Rattle.panel.proofs.write.write_under.Tie as tie
@@ -13,13 +13,15 @@ returns c = told-leaves _ _ (search image-writes) (c .if1 .taken)
 returns-2 : tie.Need-returns-2
 returns-2 c = told-leaves _ _ (search state-writes) (c .if2 .taken)
 
-put-element-requires : tie.Need-put-element-requires
-put-element-requires c κs =
+write-element-requires : tie.Need-write-element-requires
+write-element-requires c κs =
     let word = c .before .before in
     let found = word .before .before in
     let checked = found .before .before .before in
-    let known = checked .before .before in
-    write-sized _ _ _ (found .check-state .ensures) (omega arith) _ _ _ (checked .check-image-under .ensures) (omega arith) (known .shared-slice-known2 .given) (omega arith)
+    let known = checked .before .before in (
+      (state-object _ _ _ (found .check-state .ensures) (omega arith), omega arith),
+      image-sized _ _ _ _ _ _ 0 (checked .check-image-under .ensures) (known .shared-slice-known2 .given) (omega arith) (found .check-state .ensures),
+    )
 
 returns-3 : tie.Need-returns-3
 returns-3 c =
@@ -28,7 +30,7 @@ returns-3 c =
     let found = word .before .before .before in
     let checked = found .before .before .before in
     let known = checked .before .before in
-    leaves-as _ (write-is _ _ _ _ _ _ _ (checked .check-image-under .ensures) (known .shared-slice-known2 .given) (omega arith) (found .check-state .ensures) (omega arith) (word .word-of .ensures)) (put .put-element .ensures)
+    leaves-as _ (write-is _ _ _ _ _ _ _ (checked .check-image-under .ensures) (known .shared-slice-known2 .given) (omega arith) (found .check-state .ensures) (omega arith) (word .word-of .ensures)) (put .write-element .ensures)
 
 pub write-under-spec : {M : Type 1} → statement M
 write-under-spec =
@@ -39,6 +41,6 @@ write-under-spec =
     (λ c κs. search needs)
     returns-2
     (λ c κs. search needs)
-    put-element-requires
+    write-element-requires
     (λ c. search needs)
     returns-3)

@@ -1,9 +1,9 @@
--- `outputs::write_list` meets its contract: the room is tested before the head and the entries are written.
+-- `outputs::list::write_list` meets its contract: the room is tested before the head and the entries are written.
 -- Assumes nothing.
 use borrow.Author.Needs.{needs}
-use Rattle.outputs.proofs.Heads.{short-answer, short-output, list-answer, list-output}
-use Rattle.outputs.proofs.write_list.Statement.{statement}
-use Rattle.outputs.proofs.write_list.Tie as tie
+use Rattle.outputs.proofs.Lists.{short-answer, short-output, list-answer, list-output}
+use Rattle.outputs.proofs.list.write_list.Statement.{statement}
+use Rattle.outputs.proofs.list.write_list.Tie as tie
 
 returns : tie.Need-returns
 returns c = search (short-answer, short-output)
@@ -16,11 +16,11 @@ write-list-spec =
     tie.close
     (tie.spec
     (λ c. search needs)
+    (λ c κs. search needs)
     (λ c. search needs)
     (λ c. search needs)
     (λ c κs. search needs)
     returns
-    (λ c. search needs)
     (λ c. search needs)
     (λ c. search needs)
     (λ c. search needs)
