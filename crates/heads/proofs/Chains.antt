@@ -6,10 +6,9 @@ use mathlib.Core.Path.{_≡_, refl, sym, ap, ap₂, _∙_}
 use mathlib.Core.Bool.{Bool, true, false}
 use mathlib.Core.List.{List, []}
 use lib.Dec.{eqb, leb}
-use lib.ListN.{length, take, drop, getD, length-drop}
+use lib.ListN.{length, drop, getD, length-drop}
 use lib.Seq.{drop-drop}
 use borrow.Author.Tests.{eq-eqb, ne-eqb, eqb-true, eqb-false}
-use Rattle.octets.specs.Octets.{number}
 use Rattle.history.specs.Verdict.{Verdict, done, then, refusal, _unless_⨾_}
 use Rattle.history.specs.Form.{isWhole}
 use Rattle.history.specs.Table.{Object, Table, Plan, versionGood, catalogueGood, readObjects, readTable}

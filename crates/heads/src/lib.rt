@@ -1,5 +1,5 @@
-// What stands where in the bytes of a form: every place that a form's layout sets is read and written here, and nowhere above. It checks
-// no contents and keeps nothing.
+// What stands where in the bytes of a form. The parts behind X and Y are read and written here alone: no crate above has an offset of its
+// own for them. It checks no contents and keeps nothing.
 mod image;
 mod list;
 mod table;

@@ -13,7 +13,7 @@ use borrow.Author.Tests.{lt-leb, le-leb, leb-true}
 use Rattle.history.specs.declared.Answer.{Answer}
 use Rattle.history.specs.Verdict.{Verdict, done, then, refusal, _unless_⨾_, unnamed, told}
 use Rattle.history.specs.Form.{isWhole}
-use Rattle.history.specs.Table.{Object, Table, versionGood, catalogueGood, readTable}
+use Rattle.history.specs.Table.{Object, Table, versionGood, catalogueGood}
 use Rattle.history.specs.Calls.{tableCall}
 use Rattle.history.proofs.VerdictLaws.{held, used}
 use Rattle.heads.specs.Heads.{countIn, objectsPlace}
