@@ -16,12 +16,11 @@ use tables::refused_by;
 ghost use mathlib.Core.Path.{_≡_};
 ghost use Prim.Native.Nat.{_+_, _≤_, _<_};
 ghost use lib.ListN.{length, drop};
-ghost use Rattle.kinds.specs.Kinds.{widthOf};
 ghost use Rattle.history.specs.Verdict.{told};
-ghost use Rattle.history.specs.Changes.{entryOf, entryAt, checkChange, checkEntry, readEntries, readList};
+ghost use Rattle.history.specs.Changes.{readNumber, readElements, checkEntry, readEntries, readList};
 ghost use Rattle.history.specs.Calls.{listCall};
 ghost use Rattle.tables.specs.Outlines.{kindsOf, planAs};
-ghost use Rattle.forms.specs.ListEntries.{passed};
+ghost use Rattle.forms.specs.ListEntries.{numbered, passed};
 
 // A change list, under its table.
 pub fn check_list(table: &[u8], list: &[u8]) -> Answer
@@ -69,7 +68,12 @@ fn check_entries(kinds: &[u8], count: usize, entries: &[u8]) -> Answer
             Passed::Refused(answer) => {
                 return answer;
             }
-            Passed::Entry { object, next } => {
+            Passed::Entry {
+                object,
+                old: _,
+                new: _,
+                next,
+            } => {
                 low = object + 1;
                 at = next;
             }
@@ -82,43 +86,77 @@ fn check_entries(kinds: &[u8], count: usize, entries: &[u8]) -> Answer
     accepted()
 }
 
-// What checking an entry gives: an answer that refuses, or the entry's object and the place after it.
-pub enum Passed {
+// What reading an entry's number gives: an answer that refuses, or the object.
+pub enum Numbered {
     Refused(Answer),
-    Entry { object: usize, next: usize },
+    Object(u16),
 }
 
-// The entry at a place, of an object from low on.
+// What checking an entry gives: an answer that refuses, or the entry's object, its elements and the place after it.
+pub enum Passed {
+    Refused(Answer),
+    Entry {
+        object: usize,
+        old: u32,
+        new: u32,
+        next: usize,
+    },
+}
+
+// The entry at a place, of an object from low on: its number, 14, its elements, 15.
 fn check_entry(kinds: &[u8], low: usize, entries: &[u8], at: usize) -> Passed
     requires { ⌜ (at ≤ length (now entries)) × (length (now kinds) ≤ 1024) ⌝ }
-    ensures { λ r. ⌜ r ≡ passed (at + 2) (checkEntry (kindsOf (now (kinds .entry))) low (drop at (now (entries .entry))) (entryAt (kindsOf (now (kinds .entry))) (drop at (now (entries .entry))))) ⌝ }
+    ensures { λ r. ⌜ r ≡ passed (at + 2) (checkEntry (kindsOf (now (kinds .entry))) low (drop at (now (entries .entry)))) ⌝ }
 {
-    let left = entries.len() - at;
-    if left < 2 {
-        return Passed::Refused(refused(8));
+    let number = check_number(kinds, entries, at);
+    match number {
+        Numbered::Refused(answer) => Passed::Refused(answer),
+        Numbered::Object(object) => {
+            let index = object as usize;
+            if index < low {
+                return Passed::Refused(refused_at(14, object));
+            }
+            let change = check_elements(kind_at(kinds, index), object, entries, at + 2);
+            if let Passed::Entry {
+                object: _,
+                old,
+                new,
+                next: _,
+            } = change {
+                if old == new {
+                    return Passed::Refused(refused_at(15, object));
+                }
+            }
+            change
+        }
+    }
+}
+
+// The number at a place, of an object of the table.
+fn check_number(kinds: &[u8], entries: &[u8], at: usize) -> Numbered
+    requires { ⌜ at ≤ length (now entries) ⌝ }
+    ensures { λ r. ⌜ r ≡ numbered (readNumber (kindsOf (now (kinds .entry))) (drop at (now (entries .entry)))) ⌝ }
+{
+    if entries.len() - at < 2 {
+        return Numbered::Refused(refused(8));
     }
     let number = octets::get_at(entries, at, 2);
     let object = number as usize;
     if kinds.len() <= object {
-        return Passed::Refused(refused_at(13, number as u16));
+        return Numbered::Refused(refused_at(13, number as u16));
     }
-    if object < low {
-        return Passed::Refused(refused_at(14, number as u16));
-    }
-    let kind = kind_at(kinds, object);
-    let width = elements::width(kind);
-    if left - 2 < width + width {
-        return Passed::Refused(refused(8));
-    }
-    check_change(kind, number as u16, entries, at + 2)
+    Numbered::Object(number as u16)
 }
 
-// The old and the new element from a place on: each is good, and they differ.
-fn check_change(kind: Kind, object: u16, entries: &[u8], at: usize) -> Passed
-    requires { ⌜ at + (widthOf kind + widthOf kind) ≤ length (now entries) ⌝ }
-    ensures { λ r. ⌜ r ≡ passed at (checkChange (entryOf object kind (drop at (now (entries .entry))))) ⌝ }
+// The old and the new element from a place on: each is good.
+fn check_elements(kind: Kind, object: u16, entries: &[u8], at: usize) -> Passed
+    requires { ⌜ at ≤ length (now entries) ⌝ }
+    ensures { λ r. ⌜ r ≡ passed at (readElements object kind (drop at (now (entries .entry)))) ⌝ }
 {
     let width = elements::width(kind);
+    if entries.len() - at < width + width {
+        return Passed::Refused(refused(8));
+    }
     let middle = at + width;
     let old = octets::get_at(entries, at, width);
     let new = octets::get_at(entries, middle, width);
@@ -130,11 +168,10 @@ fn check_change(kind: Kind, object: u16, entries: &[u8], at: usize) -> Passed
     if let Finding::Refused(r) = after {
         return Passed::Refused(refused_by(r, object));
     }
-    if old == new {
-        return Passed::Refused(refused_at(15, object));
-    }
     Passed::Entry {
         object: object as usize,
+        old,
+        new,
         next: middle + width,
     }
 }

@@ -26,7 +26,7 @@ use Rattle.history.specs.Form.{formBytes, isWhole, readForm}
 use Rattle.history.specs.Table.{versionGood, catalogueGood, labelLimit, firstColon, labelGood, checkObject, readTable, planOf}
 use Rattle.history.specs.Image.{imageVersionGood, element, imageBytes, elementsFrom, readImage}
 use Rattle.history.specs.declared.Change.the-variants.{Keep as keep, Swap as swap}
-use Rattle.history.specs.Changes.{listVersion, listBytes, checkChange, checkEntry, readList}
+use Rattle.history.specs.Changes.{listVersion, listBytes, readNumber, readElements, checkEntry, readList}
 use Rattle.history.specs.Operations.{difference, applied, join, turned}
 use Rattle.history.specs.Calls.{readPlan, tableCall, imageCall, listCall, differenceUnder, differenceCall, applyUnder, applyCall, joinUnder, joinCall, turnUnder, turnCall, readStateUnder, readStateCall, checkState, writeStateUnder, writeStateCall, labelCall}
 use Rattle.history.specs.Standing.{fresh, counted, receiveCall}
@@ -90,7 +90,7 @@ pub printed : (tableCall T ≡ done (record { version = 1; x = 1; y = 0; objects
     × (settled (differenceCall T A B) (replicate 23 0 ++ (5 ∷ [])) ≡ record { answer = unnamed 0 23; output = AB ++ (5 ∷ []) })
     × (told (imageCall T A) ≡ unnamed 0 0)
     × (told (imageCall T (set A 13 0x09)) ≡ numbers (naming 10 1 3) 0)
-unfolding table layouts datRule elementCheck stateOf wordOf bytes told settled formBytes isWhole readForm versionGood catalogueGood labelLimit carried kindOf labelGood checkObject readTable planOf imageVersionGood element imageBytes elementsFrom readImage listVersion listBytes checkChange checkEntry readList difference applied join turned readPlan tableCall imageCall listCall differenceUnder differenceCall applyUnder applyCall joinUnder joinCall turnUnder turnCall readStateUnder readStateCall checkState writeStateUnder writeStateCall labelCall zipWith
+unfolding table layouts datRule elementCheck stateOf wordOf bytes told settled formBytes isWhole readForm versionGood catalogueGood labelLimit carried kindOf labelGood checkObject readTable planOf imageVersionGood element imageBytes elementsFrom readImage listVersion listBytes readNumber readElements checkEntry readList difference applied join turned readPlan tableCall imageCall listCall differenceUnder differenceCall applyUnder applyCall joinUnder joinCall turnUnder turnCall readStateUnder readStateCall checkState writeStateUnder writeStateCall labelCall zipWith
 printed = (refl, refl, refl, refl, refl, refl, refl, refl, refl, refl, refl, refl, refl, refl, refl, refl)
 
 pub each-code : (tableCall (take 3 T) ≡ refused (naming 1 65535 255))
@@ -120,7 +120,7 @@ pub each-code : (tableCall (take 3 T) ≡ refused (naming 1 65535 255))
     × (settled (differenceCall T A B) (0 ∷ []) ≡ record { answer = unnamed 21 23; output = 0 ∷ [] })
     × (writeStateCall T A 0 (Element.ChangerSignal (record { current = true; aspect = ChangerAspect.FixedT })) 9 ≡ refused (naming 22 0 255))
     × (writeStateCall T A 1 (Element.ChangerSignal (record { current = false; aspect = ChangerAspect.FixedT })) 9 ≡ refused (naming 12 1 0))
-unfolding table layouts datRule elementCheck stateOf wordOf bytes settled formBytes isWhole readForm versionGood catalogueGood labelLimit carried kindOf labelGood checkObject readTable planOf imageVersionGood element imageBytes elementsFrom readImage listVersion listBytes checkChange checkEntry readList difference applied join turned readPlan tableCall imageCall listCall differenceUnder differenceCall applyUnder applyCall joinUnder joinCall turnUnder turnCall readStateUnder readStateCall checkState writeStateUnder writeStateCall zipWith
+unfolding table layouts datRule elementCheck stateOf wordOf bytes settled formBytes isWhole readForm versionGood catalogueGood labelLimit carried kindOf labelGood checkObject readTable planOf imageVersionGood element imageBytes elementsFrom readImage listVersion listBytes readNumber readElements checkEntry readList difference applied join turned readPlan tableCall imageCall listCall differenceUnder differenceCall applyUnder applyCall joinUnder joinCall turnUnder turnCall readStateUnder readStateCall checkState writeStateUnder writeStateCall zipWith
 each-code = (refl, refl, refl, refl, refl, refl, refl, refl, refl, refl, refl, refl, refl, refl, refl, refl, refl, refl, refl, refl, refl, refl, refl, refl, refl, refl, refl)
 
 -- what is named: the object's own number, wherever it stands
@@ -142,7 +142,7 @@ pub names-each : (tableCall (set T 17 10) ≡ refused (naming 5 1 255))
     × (applyCall T (set A 13 0x05) AC ≡ refused (naming 18 1 255))
     × (joinCall T AC (set (set AC 10 9) 19 0x07) ≡ refused (naming 20 1 255))
     × (writeStateCall T A 1 (Element.VirtualBoard (record { current = true; aspect = BoardAspect.Red; «closing_commanded» = false })) 9 ≡ refused (naming 22 1 255))
-unfolding table layouts datRule elementCheck stateOf wordOf bytes settled formBytes isWhole readForm versionGood catalogueGood labelLimit carried kindOf labelGood checkObject readTable planOf imageVersionGood element imageBytes elementsFrom readImage listVersion listBytes checkChange checkEntry readList difference applied join turned readPlan tableCall imageCall listCall differenceUnder differenceCall applyUnder applyCall joinUnder joinCall turnUnder turnCall readStateUnder readStateCall checkState writeStateUnder writeStateCall zipWith labelCall
+unfolding table layouts datRule elementCheck stateOf wordOf bytes settled formBytes isWhole readForm versionGood catalogueGood labelLimit carried kindOf labelGood checkObject readTable planOf imageVersionGood element imageBytes elementsFrom readImage listVersion listBytes readNumber readElements checkEntry readList difference applied join turned readPlan tableCall imageCall listCall differenceUnder differenceCall applyUnder applyCall joinUnder joinCall turnUnder turnCall readStateUnder readStateCall checkState writeStateUnder writeStateCall zipWith labelCall
 names-each = (refl, refl, refl, refl, refl, refl, refl, refl, refl, refl, refl, refl, refl, refl, refl, refl, refl, refl)
 
 -- 8, by where bytes are lacking or left over
@@ -153,7 +153,7 @@ pub eights : (tableCall (0 ∷ 0 ∷ 0 ∷ 6 ∷ 1 ∷ 1 ∷ 0 ∷ 0 ∷ 1 ∷ 2
     × (listCall T (set AB 16 2) ≡ refused (naming 8 65535 255))
     × (listCall T (set BC 24 0xFF) ≡ refused (naming 13 255 255))
     × (listCall T (set AC 18 0) ≡ refused (naming 8 65535 255))
-unfolding table layouts datRule elementCheck stateOf wordOf bytes settled formBytes isWhole readForm versionGood catalogueGood labelLimit carried kindOf labelGood checkObject readTable planOf imageVersionGood element imageBytes elementsFrom readImage listVersion listBytes checkChange checkEntry readList difference applied join turned readPlan tableCall imageCall listCall differenceUnder differenceCall applyUnder applyCall joinUnder joinCall turnUnder turnCall readStateUnder readStateCall checkState writeStateUnder writeStateCall zipWith
+unfolding table layouts datRule elementCheck stateOf wordOf bytes settled formBytes isWhole readForm versionGood catalogueGood labelLimit carried kindOf labelGood checkObject readTable planOf imageVersionGood element imageBytes elementsFrom readImage listVersion listBytes readNumber readElements checkEntry readList difference applied join turned readPlan tableCall imageCall listCall differenceUnder differenceCall applyUnder applyCall joinUnder joinCall turnUnder turnCall readStateUnder readStateCall checkState writeStateUnder writeStateCall zipWith
 eights = (refl, refl, refl, refl, refl, refl, refl)
 
 -- two faults at once: the order of the paper
@@ -176,7 +176,7 @@ pub first-named : (tableCall (set (set T 4 2) 6 1) ≡ refused (naming 2 65535 2
     × (readStateCall T (set A 13 0x09) 7 ≡ refused (naming 10 1 3))
     × (writeStateCall T A 0 (Element.ChangerSignal (record { current = false; aspect = ChangerAspect.FixedT })) 9 ≡ refused (naming 22 0 255))
     × (settled (writeStateCall T A 7 fixedT 9) [] .answer ≡ numbers (naming 13 7 255) 0)
-unfolding table layouts datRule elementCheck stateOf wordOf bytes settled formBytes isWhole readForm versionGood catalogueGood labelLimit carried kindOf labelGood checkObject readTable planOf imageVersionGood element imageBytes elementsFrom readImage listVersion listBytes checkChange checkEntry readList difference applied join turned readPlan tableCall imageCall listCall differenceUnder differenceCall applyUnder applyCall joinUnder joinCall turnUnder turnCall readStateUnder readStateCall checkState writeStateUnder writeStateCall zipWith
+unfolding table layouts datRule elementCheck stateOf wordOf bytes settled formBytes isWhole readForm versionGood catalogueGood labelLimit carried kindOf labelGood checkObject readTable planOf imageVersionGood element imageBytes elementsFrom readImage listVersion listBytes readNumber readElements checkEntry readList difference applied join turned readPlan tableCall imageCall listCall differenceUnder differenceCall applyUnder applyCall joinUnder joinCall turnUnder turnCall readStateUnder readStateCall checkState writeStateUnder writeStateCall zipWith
 first-named = (refl, refl, refl, refl, refl, refl, refl, refl, refl, refl, refl, refl, refl, refl, refl, refl, refl, refl, refl)
 
 -- two faults at once in a form: each test before the one that follows it, each entry before the next and before bytes that are left over
@@ -196,7 +196,7 @@ pub orders : (tableCall (set (T ++ (0 ∷ [])) 4 2) ≡ refused (naming 1 65535 
     × (listCall T (0 ∷ 0 ∷ 0 ∷ 0x11 ∷ 1 ∷ 1 ∷ 0 ∷ 0 ∷ 0 ∷ 0 ∷ 7 ∷ 0 ∷ 0 ∷ 0 ∷ 8 ∷ 0 ∷ 1 ∷ 0 ∷ 0 ∷ 0x14 ∷ 0x01 ∷ []) ≡ refused (naming 8 65535 255))
     × (listCall T (set (set BC 22 0x31) 24 7) ≡ refused (naming 15 0 255))
     × (listCall T (set (set (AB ++ (0 ∷ [])) 3 0x14) 22 0x01) ≡ refused (naming 15 0 255))
-unfolding table layouts datRule elementCheck stateOf wordOf bytes settled formBytes isWhole readForm versionGood catalogueGood labelLimit carried kindOf labelGood checkObject readTable planOf imageVersionGood element imageBytes elementsFrom readImage listVersion listBytes checkChange checkEntry readList difference applied join turned readPlan tableCall imageCall listCall differenceUnder differenceCall applyUnder applyCall joinUnder joinCall turnUnder turnCall readStateUnder readStateCall checkState writeStateUnder writeStateCall zipWith
+unfolding table layouts datRule elementCheck stateOf wordOf bytes settled formBytes isWhole readForm versionGood catalogueGood labelLimit carried kindOf labelGood checkObject readTable planOf imageVersionGood element imageBytes elementsFrom readImage listVersion listBytes readNumber readElements checkEntry readList difference applied join turned readPlan tableCall imageCall listCall differenceUnder differenceCall applyUnder applyCall joinUnder joinCall turnUnder turnCall readStateUnder readStateCall checkState writeStateUnder writeStateCall zipWith
 orders = (refl, refl, refl, refl, refl, refl, refl, refl, refl, refl, refl, refl, refl, refl, refl, refl)
 
 -- at the edges: the least lengths, 5, 7 and 13; an entry of two bytes and no more; labels of 1 and 32 bytes that are cut; one byte lacking
@@ -212,7 +212,7 @@ pub edges : (tableCall (0 ∷ 0 ∷ 0 ∷ 4 ∷ 1 ∷ 1 ∷ 0 ∷ 0 ∷ []) ≡ 
     × (tableCall (0 ∷ 0 ∷ 0 ∷ 7 ∷ 1 ∷ 1 ∷ 0 ∷ 0 ∷ 1 ∷ 2 ∷ 32 ∷ []) ≡ refused (naming 8 65535 255))
     × (tableCall (0 ∷ 0 ∷ 0 ∷ 9 ∷ 1 ∷ 1 ∷ 0 ∷ 0 ∷ 1 ∷ 2 ∷ 3 ∷ 0x41 ∷ 0x3A ∷ []) ≡ refused (naming 8 65535 255))
     × (listCall T (set (take 22 AB) 3 0x12) ≡ refused (naming 8 65535 255))
-unfolding table layouts datRule elementCheck stateOf wordOf bytes settled formBytes isWhole readForm versionGood catalogueGood labelLimit carried kindOf labelGood checkObject readTable planOf imageVersionGood element imageBytes elementsFrom readImage listVersion listBytes checkChange checkEntry readList difference applied join turned readPlan tableCall imageCall listCall differenceUnder differenceCall applyUnder applyCall joinUnder joinCall turnUnder turnCall readStateUnder readStateCall checkState writeStateUnder writeStateCall zipWith
+unfolding table layouts datRule elementCheck stateOf wordOf bytes settled formBytes isWhole readForm versionGood catalogueGood labelLimit carried kindOf labelGood checkObject readTable planOf imageVersionGood element imageBytes elementsFrom readImage listVersion listBytes readNumber readElements checkEntry readList difference applied join turned readPlan tableCall imageCall listCall differenceUnder differenceCall applyUnder applyCall joinUnder joinCall turnUnder turnCall readStateUnder readStateCall checkState writeStateUnder writeStateCall zipWith
 edges = (refl, refl, refl, refl, refl, refl, refl, refl, refl, refl, refl, refl)
 
 -- in a call: the table before all else, a form before what is asked of it, the gap before the values
@@ -228,7 +228,7 @@ pub call-orders : (listCall (set T 6 1) (take 3 AB) ≡ refused (naming 3 65535 
     × (writeStateCall (set T 6 1) (take 3 A) 7 fixedT 9 ≡ refused (naming 3 65535 255))
     × (writeStateCall T (set A 13 0x09) 7 fixedT 9 ≡ refused (naming 10 1 3))
     × (labelCall (set T 6 1) 7 ≡ refused (naming 3 65535 255))
-unfolding table layouts datRule elementCheck stateOf wordOf bytes settled formBytes isWhole readForm versionGood catalogueGood labelLimit carried kindOf labelGood checkObject readTable planOf imageVersionGood element imageBytes elementsFrom readImage listVersion listBytes checkChange checkEntry readList difference applied join turned readPlan tableCall imageCall listCall differenceUnder differenceCall applyUnder applyCall joinUnder joinCall turnUnder turnCall readStateUnder readStateCall checkState writeStateUnder writeStateCall zipWith labelCall
+unfolding table layouts datRule elementCheck stateOf wordOf bytes settled formBytes isWhole readForm versionGood catalogueGood labelLimit carried kindOf labelGood checkObject readTable planOf imageVersionGood element imageBytes elementsFrom readImage listVersion listBytes readNumber readElements checkEntry readList difference applied join turned readPlan tableCall imageCall listCall differenceUnder differenceCall applyUnder applyCall joinUnder joinCall turnUnder turnCall readStateUnder readStateCall checkState writeStateUnder writeStateCall zipWith labelCall
 call-orders = (refl, refl, refl, refl, refl, refl, refl, refl, refl, refl, refl, refl)
 
 -- what the forms may hold: labels of 33 to 126 with a colon inside, 32 bytes, version 1, catalogues 1.0 and 3.0
@@ -245,7 +245,7 @@ limits = (refl, refl, refl, refl, refl, refl, refl, refl)
 
 -- "A join that drops an object also applies to images that refuse the steps": the join of AB and BC drops object 0
 pub trap : (joinCall T AB BC ≡ done AC) × (applyCall T X AB ≡ refused (naming 18 0 255)) × (applyCall T X AC ≡ done Y)
-unfolding table layouts datRule elementCheck stateOf wordOf bytes formBytes isWhole readForm versionGood catalogueGood labelLimit carried kindOf labelGood checkObject readTable planOf imageVersionGood element imageBytes elementsFrom readImage listVersion listBytes checkChange checkEntry readList applied join readPlan applyUnder applyCall joinUnder joinCall zipWith
+unfolding table layouts datRule elementCheck stateOf wordOf bytes formBytes isWhole readForm versionGood catalogueGood labelLimit carried kindOf labelGood checkObject readTable planOf imageVersionGood element imageBytes elementsFrom readImage listVersion listBytes readNumber readElements checkEntry readList applied join readPlan applyUnder applyCall joinUnder joinCall zipWith
 trap = (refl, refl, refl)
 
 -- a tally for each call: applied, late (with no room too), gap, and others, 21 among them; a full one stays
@@ -259,7 +259,7 @@ pub received-each : (receiveCall T A AB (A ++ (5 ∷ [])) fresh ≡ record { ans
     × (receiveCall T A AB (take 13 B) fresh ≡ record { answer = unnamed 21 14; output = take 13 B; standing = record { applied = 0; late = 0; gap = 0; other = 1 } })
     × (receiveCall T A AB B brim .standing ≡ brim)
     × (receiveCall T A AB B (record { applied = 4294967294; late = 1; gap = 2; other = 3 }) .standing ≡ brim)
-unfolding table layouts datRule elementCheck stateOf wordOf bytes settled formBytes isWhole readForm versionGood catalogueGood labelLimit carried kindOf labelGood checkObject readTable planOf imageVersionGood element imageBytes elementsFrom readImage listVersion listBytes checkChange checkEntry readList applied readPlan applyUnder applyCall fresh counted receiveCall zipWith
+unfolding table layouts datRule elementCheck stateOf wordOf bytes settled formBytes isWhole readForm versionGood catalogueGood labelLimit carried kindOf labelGood checkObject readTable planOf imageVersionGood element imageBytes elementsFrom readImage listVersion listBytes readNumber readElements checkEntry readList applied readPlan applyUnder applyCall fresh counted receiveCall zipWith
 received-each = (refl, refl, refl, refl, refl, refl, refl)
 
 -- ---- catalogue 3.0: a signal and a changer signal. The signal's EAR is active; then it is green, its F flashes green and its router is in
@@ -317,7 +317,7 @@ pub new-catalogue : (tableCall T3 ≡ done (record { version = 1; x = 3; y = 0; 
     × (writeStateCall T3 A3 0 (Element.SignalV3 (routed true)) 8 ≡ done B3)
     × (readStateCall T3 A3 1 ≡ done fixedT)
     × (writeStateCall T1 A1 1 fixedT 7 ≡ done A1)
-unfolding table layouts datRule elementCheck stateOf wordOf bytes settled formBytes isWhole readForm versionGood catalogueGood labelLimit carried kindOf labelGood checkObject readTable planOf imageVersionGood element imageBytes elementsFrom readImage listVersion listBytes checkChange checkEntry readList difference applied join turned readPlan tableCall imageCall listCall differenceUnder differenceCall applyUnder applyCall joinUnder joinCall turnUnder turnCall readStateUnder readStateCall checkState writeStateUnder writeStateCall zipWith
+unfolding table layouts datRule elementCheck stateOf wordOf bytes settled formBytes isWhole readForm versionGood catalogueGood labelLimit carried kindOf labelGood checkObject readTable planOf imageVersionGood element imageBytes elementsFrom readImage listVersion listBytes readNumber readElements checkEntry readList difference applied join turned readPlan tableCall imageCall listCall differenceUnder differenceCall applyUnder applyCall joinUnder joinCall turnUnder turnCall readStateUnder readStateCall checkState writeStateUnder writeStateCall zipWith
 new-catalogue = (refl, refl, refl, refl, refl, refl, refl, refl, refl, refl, refl, refl, refl, refl)
 
 -- 3: neither 1.0 nor 3.0; 5: types 8, 9, 22 and 23, and the object; 9: an image and a list of the other catalogue; 11 and 10: GRP_ARS 3, and bit 31
@@ -344,5 +344,5 @@ pub new-refusals : (tableCall (set T3 5 2) ≡ refused (naming 3 65535 255))
     × (writeStateCall T3 A3 0 (Element.Signal (green false)) 8 ≡ refused (naming 22 0 255))
     × (writeStateCall T1 A1 0 (Element.SignalV3 (routed false)) 8 ≡ refused (naming 22 0 255))
     × (writeStateCall T3 A3 0 (Element.SignalV3 (routed false)) 8 ≡ refused (naming 12 0 0))
-unfolding table layouts datRule elementCheck stateOf wordOf bytes settled formBytes isWhole readForm versionGood catalogueGood labelLimit carried kindOf labelGood checkObject readTable planOf imageVersionGood element imageBytes elementsFrom readImage listVersion listBytes checkChange checkEntry readList difference applied join turned readPlan tableCall imageCall listCall differenceUnder differenceCall applyUnder applyCall joinUnder joinCall turnUnder turnCall readStateUnder readStateCall checkState writeStateUnder writeStateCall zipWith
+unfolding table layouts datRule elementCheck stateOf wordOf bytes settled formBytes isWhole readForm versionGood catalogueGood labelLimit carried kindOf labelGood checkObject readTable planOf imageVersionGood element imageBytes elementsFrom readImage listVersion listBytes readNumber readElements checkEntry readList difference applied join turned readPlan tableCall imageCall listCall differenceUnder differenceCall applyUnder applyCall joinUnder joinCall turnUnder turnCall readStateUnder readStateCall checkState writeStateUnder writeStateCall zipWith
 new-refusals = (refl, refl, refl, refl, refl, refl, refl, refl, refl, refl, refl, refl, refl, refl, refl, refl, refl, refl, refl, refl, refl, refl)

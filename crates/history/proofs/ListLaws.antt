@@ -20,7 +20,7 @@ use Rattle.history.specs.Table.{Plan, kindAt, sameCatalogue}
 use Rattle.history.specs.Image.{element}
 use Rattle.history.specs.declared.Change.{Change}
 use Rattle.history.specs.declared.Change.the-variants.{Keep as keep, Swap as swap}
-use Rattle.history.specs.Changes.{Changes, listVersion, entriesBytes, entries, listBytes, Entry, entryOf, entryAt, checkChange, checkEntry, readEntries, readList}
+use Rattle.history.specs.Changes.{Changes, listVersion, entriesBytes, entries, listBytes, Entry, entryOf, readNumber, readElements, checkEntry, readEntries, readList}
 use Rattle.history.specs.Legal.{isAccepted, Every, nil, and, lawful, LegalList}
 use Rattle.octets.proofs.NumberLaws.{length-bytes, read-bytes, drop-bytes, drop-is, cut, below}
 use Rattle.history.proofs.VerdictLaws.{all, held, used}
@@ -30,6 +30,10 @@ use Rattle.history.proofs.ElementLaws.{was-accepted, is-accepted, admit
 use Rattle.history.proofs.ImageLaws.{same-catalogue, own-catalogue, Fair}
 
 -- ---- an entry
+
+-- the entry at the front of the bytes
+abbrev pub entryAt : List Kind → List ℕ → Entry
+entryAt ks b = entryOf (number (take 2 b)) (kindAt ks (number (take 2 b))) (drop 2 b)
 
 -- the same entry, with more bytes behind it
 abbrev pub behind : Entry → List ℕ → Entry
@@ -64,52 +68,82 @@ entry-bytes i k b h room =
       after = drop-is w (drop w b) ho;
     }
 
+-- what the number that is read tells
+pub record Numbered (ks : List Kind) (b : List ℕ) (i : ℕ) : Type 0 where
+  pub two : 2 ≤ length b
+  pub number-is : number (take 2 b) ≡ i
+  pub inside : i < length ks
+
+pub was-numbered : (ks : List Kind) (b : List ℕ) {i : ℕ} → readNumber ks b ≡ done i → Numbered ks b i
+unfolding readNumber
+was-numbered ks b {i} q =
+    let q₁ = held (leb 2 (length b)) _ _ q in
+    let q₂ = held (ltb (number (take 2 b)) (length ks)) _ _ (q₁ .1) in
+    let i-is : number (take 2 b) ≡ i = cc (q₂ .1) in
+    record { two = leb-true _ _ (q₁ .0); number-is = i-is; inside = rw (← i-is) (ltb-true _ _ (q₂ .0)) }
+
+-- .. and the elements, which are an entry's
+pub record Fine (e : Entry) : Type 0 where
+  pub old : isAccepted (element (e .kind) (e .old)) ≡ true
+  pub new : isAccepted (element (e .kind) (e .new)) ≡ true
+
+pub were-elements : (i : ℕ) (k : Kind) (b : List ℕ) {e : Entry} → readElements i k b ≡ done e
+    → (entryOf i k b ≡ e) × (widthOf k + widthOf k ≤ length b) × Fine (entryOf i k b)
+unfolding readElements
+were-elements i k b {e} q =
+    let q₁ = held (leb (widthOf k + widthOf k) (length b)) _ _ q in
+    let q₂ = was-accepted (element k (entryOf i k b .old)) _ _ (q₁ .1) in
+    let q₃ = was-accepted (element k (entryOf i k b .new)) _ _ (q₂ .1) in
+    (cc (q₃ .1), leb-true _ _ (q₁ .0), record { old = q₂ .0; new = q₃ .0 })
+
+are-elements : (i : ℕ) (k : Kind) (b : List ℕ) → widthOf k + widthOf k ≤ length b → Fine (entryOf i k b) → readElements i k b ≡ done (entryOf i k b)
+unfolding readElements
+are-elements i k b room f =
+    rw (le-leb (widthOf k + widthOf k) (length b) room)
+    (is-accepted (element k (entryOf i k b .old)) _ _ (f .old) ∙ is-accepted (element k (entryOf i k b .new)) _ _ (f .new))
+
 -- what the checks of an entry tell
 pub record Checked (ks : List Kind) (low : ℕ) (b : List ℕ) (e : Entry) : Type 0 where
   pub two : 2 ≤ length b
   pub inside : e .object < length ks
   pub up : low ≤ e .object
   pub room : 2 + (widthOf (e .kind) + widthOf (e .kind)) ≤ length b
-  pub old : isAccepted (element (e .kind) (e .old)) ≡ true
-  pub new : isAccepted (element (e .kind) (e .new)) ≡ true
+  pub fine : Fine e
   pub other : not (eqb (e .old) (e .new)) ≡ true
 
-pub was-checked : (ks : List Kind) (low : ℕ) (b : List ℕ) (e : Entry) {e′ : Entry} → checkEntry ks low b e ≡ done e′ → (e ≡ e′) × Checked ks low b e
-unfolding checkEntry checkChange
-was-checked ks low b e {e′} q =
-    let q₁ = held (leb 2 (length b)) _ _ q in
-    let q₂ = held (ltb (e .object) (length ks)) _ _ (q₁ .1) in
-    let q₃ = held (leb low (e .object)) _ _ (q₂ .1) in
-    let q₄ = held (leb (2 + (widthOf (e .kind) + widthOf (e .kind))) (length b)) _ _ (q₃ .1) in
-    let q₅ = was-accepted (element (e .kind) (e .old)) _ _ (q₄ .1) in
-    let q₆ = was-accepted (element (e .kind) (e .new)) _ _ (q₅ .1) in
-    let q₇ = held (not (eqb (e .old) (e .new))) _ _ (q₆ .1) in (
-      cc (q₇ .1),
+pub was-checked : (ks : List Kind) (low : ℕ) (b : List ℕ) {e : Entry} → checkEntry ks low b ≡ done e → (entryAt ks b ≡ e) × Checked ks low b (entryAt ks b)
+unfolding checkEntry
+was-checked ks low b {e} q =
+    let q₁ = used (readNumber ks b) _ q in
+    let n = was-numbered ks b (q₁ .1) in
+    let i : ℕ = number (take 2 b) in
+    let E : Entry = entryAt ks b in
+    let q₂ = held (leb low i) _ _ (rw (← (n .number-is)) at (q₁ .2)) in
+    let q₃ = used (readElements i (E .kind) (drop 2 b)) _ (q₂ .1) in
+    let m = were-elements i (E .kind) (drop 2 b) (q₃ .1) in
+    let q₄ = held (not (eqb (E .old) (E .new))) _ _ (rw (← (m .0)) at (q₃ .2)) in (
+      cc (q₄ .1),
       record {
-        two = leb-true _ _ (q₁ .0);
-        inside = ltb-true _ _ (q₂ .0);
-        up = leb-true _ _ (q₃ .0);
-        room = leb-true _ _ (q₄ .0);
-        old = q₅ .0;
-        new = q₆ .0;
-        other = q₇ .0;
+        two = n .two;
+        inside = rw (n .number-is) (n .inside);
+        up = leb-true _ _ (q₂ .0);
+        room = omega (arith, n .two, m .1, length-drop 2 b);
+        fine = m .2;
+        other = q₄ .0;
       },
     )
 
-is-checked : (ks : List Kind) (low : ℕ) (b : List ℕ) (e : Entry) → Checked ks low b e → checkEntry ks low b e ≡ done e
-unfolding checkEntry checkChange
-is-checked ks low b e c =
-    rw (
-      le-leb 2 (length b) (c .two),
-      lt-ltb (e .object) (length ks) (c .inside),
-      le-leb low (e .object) (c .up),
-      le-leb (2 + (widthOf (e .kind) + widthOf (e .kind))) (length b) (c .room),
-    )
-    (is-accepted (element (e .kind) (e .old)) _ _ (c .old) ∙ is-accepted (element (e .kind) (e .new)) _ _ (c .new) ∙ rw (c .other))
+is-checked : (ks : List Kind) (low : ℕ) (b : List ℕ) → Checked ks low b (entryAt ks b) → checkEntry ks low b ≡ done (entryAt ks b)
+unfolding checkEntry readNumber
+is-checked ks low b c =
+    let i : ℕ = number (take 2 b) in
+    let k : Kind = kindAt ks i in
+    let room : widthOf k + widthOf k ≤ length (drop 2 b) = simp length-drop (omega (arith, c .room)) in
+    rw (le-leb 2 (length b) (c .two), lt-ltb i (length ks) (c .inside), le-leb low i (c .up), are-elements i k (drop 2 b) room (c .fine), c .other)
 
-entry-is : (ks : List Kind) (low : ℕ) (b : List ℕ) {e : Entry} → Bytes b → checkEntry ks low b (entryAt ks b) ≡ done e → EntryIs ks low b e
+entry-is : (ks : List Kind) (low : ℕ) (b : List ℕ) {e : Entry} → Bytes b → checkEntry ks low b ≡ done e → EntryIs ks low b e
 entry-is ks low b {e} h q =
-    let c = was-checked ks low b (entryAt ks b) q in
+    let c = was-checked ks low b q in
     let i : ℕ = number (take 2 b) in
     let k : Kind = kindAt ks i in
     let room : widthOf k + widthOf k ≤ length (drop 2 b) = simp length-drop (omega (arith, c .1 .room)) in
@@ -118,10 +152,14 @@ entry-is ks low b {e} h q =
       up = c .1 .up;
       inside = c .1 .inside;
       kind = refl;
-      law = all (all (lt-ltb _ _ (y .old)) (c .1 .old)) (all (all (lt-ltb _ _ (y .new)) (c .1 .new)) (c .1 .other));
+      law = all (all (lt-ltb _ _ (y .old)) (c .1 .fine .old)) (all (all (lt-ltb _ _ (y .new)) (c .1 .fine .new)) (c .1 .other));
       whole = cut 2 b (c .1 .two) h ∙ ap (λ (r : List ℕ). bytes 2 i ++ r) (y .whole);
       after = y .after;
     })
+
+-- the entry by another name
+checked-as : (ks : List Kind) (low : ℕ) (b : List ℕ) {e : Entry} → entryAt ks b ≡ e → Checked ks low b e → checkEntry ks low b ≡ done e
+checked-as ks low b same c = is-checked ks low b (rw same c) ∙ ap done same
 
 -- ---- an entry is read from its own bytes alone
 
@@ -142,15 +180,13 @@ entry-front ks b rest h =
       drop-append-le w (drop w c) rest new,
     )
 
-pub entry-alone : (ks : List Kind) (low : ℕ) (b rest : List ℕ) {e : Entry} → checkEntry ks low b (entryAt ks b) ≡ done e
-    → checkEntry ks low (b ++ rest) (entryAt ks (b ++ rest)) ≡ done (behind e rest)
+pub entry-alone : (ks : List Kind) (low : ℕ) (b rest : List ℕ) {e : Entry} → checkEntry ks low b ≡ done e → checkEntry ks low (b ++ rest) ≡ done (behind e rest)
 entry-alone ks low b rest {e} q =
-    let c = was-checked ks low b (entryAt ks b) q in
+    let c = was-checked ks low b q in
     let k = c .1 in
     let long = length-append b rest in
-    ap (checkEntry ks low (b ++ rest)) (entry-front ks b rest (k .room))
-    ∙ is-checked ks low (b ++ rest) (behind (entryAt ks b) rest)
-    (record { two = omega (arith, k .two); inside = k .inside; up = k .up; room = omega (arith, k .room); old = k .old; new = k .new; other = k .other })
+    checked-as ks low (b ++ rest) (entry-front ks b rest (k .room))
+    (record { two = omega (arith, k .two); inside = k .inside; up = k .up; room = omega (arith, k .room); fine = record { old = k .fine .old; new = k .fine .new }; other = k .other })
     ∙ ap (λ (e : Entry). done (behind e rest)) (c .0)
 
 -- ---- what is read
@@ -193,7 +229,7 @@ entries-are ks zero low b {cs} h s q =
     let cs-is : cs ≡ replicate (length ks - low) keep = cc (p .1) in
     rw cs-is (listed-end ks low b s (eqb-true _ _ (p .0)))
 entries-are ks (suc n) low b {cs} h s q =
-    let p = used (checkEntry ks low b (entryAt ks b)) _ q in
+    let p = used (checkEntry ks low b) _ q in
     let e : Entry = p .0 in
     let i : ℕ = e .object in
     let c = entry-is ks low b h (p .1) in
@@ -229,19 +265,17 @@ entry-checked ks low i x y rest u h l =
       inside = h;
       up = u;
       room = omega arith;
-      old = admits-accepted (kindAt ks i) x (s .old);
-      new = admits-accepted (kindAt ks i) y (s .new);
+      fine = record { old = admits-accepted (kindAt ks i) x (s .old); new = admits-accepted (kindAt ks i) y (s .new) };
       other = rw (ne-eqb x y (s .other));
     }
 
 entry-accepted : (ks : List Kind) (i x y : ℕ) (rest : List ℕ) → length ks ≤ 1024 → i < length ks → lawful (kindAt ks i) (swap x y) ≡ true
     → (b : List ℕ) → b ≡ bytes 2 i ++ (bytes (widthOf (kindAt ks i)) x ++ (bytes (widthOf (kindAt ks i)) y ++ rest))
-    → checkEntry ks i b (entryAt ks b) ≡ done (record { object = i; kind = kindAt ks i; old = x; new = y; rest = rest })
+    → checkEntry ks i b ≡ done (record { object = i; kind = kindAt ks i; old = x; new = y; rest = rest })
 entry-accepted ks i x y rest s h l b b-is =
-    let e : Entry = record { object = i; kind = kindAt ks i; old = x; new = y; rest = rest } in
-    ap (checkEntry ks i b) (entry-reads ks i x y rest s h l b b-is) ∙ is-checked ks i b e (rw b-is (entry-checked ks i i x y rest (le-refl i) h l))
+    checked-as ks i b (entry-reads ks i x y rest s h l b b-is) (rw b-is (entry-checked ks i i x y rest (le-refl i) h l))
 
-entries-step : (ks : List Kind) (n low : ℕ) (b : List ℕ) (e : Entry) (cs : List Change) → checkEntry ks low b (entryAt ks b) ≡ done e → readEntries ks (suc (e .object)) n (e .rest) ≡ done cs
+entries-step : (ks : List Kind) (n low : ℕ) (b : List ℕ) (e : Entry) (cs : List Change) → checkEntry ks low b ≡ done e → readEntries ks (suc (e .object)) n (e .rest) ≡ done cs
     → readEntries ks low (suc n) b ≡ done (replicate (e .object - low) keep ++ (swap (e .old) (e .new) ∷ cs))
 entries-step ks n low b e cs p q = rw (p, q)
 
@@ -253,11 +287,11 @@ entries-lower ks zero low b cs h q =
     let g : length ks - low ≡ suc (length ks - suc low) = omega arith in
     rw (p .0, g, cs-is)
 entries-lower ks (suc n) low b cs h q =
-    let p = used (checkEntry ks (suc low) b (entryAt ks b)) _ q in
-    let c = was-checked ks (suc low) b (entryAt ks b) (p .1) in
+    let p = used (checkEntry ks (suc low) b) _ q in
+    let c = was-checked ks (suc low) b (p .1) in
     let e : Entry = p .0 in
-    let k : Checked ks low b (entryAt ks b) = record { two = c .1 .two; inside = c .1 .inside; up = omega (arith, c .1 .up); room = c .1 .room; old = c .1 .old; new = c .1 .new; other = c .1 .other } in
-    let here : checkEntry ks low b (entryAt ks b) ≡ done e = is-checked ks low b (entryAt ks b) k ∙ ap done (c .0) in
+    let k : Checked ks low b (entryAt ks b) = record { two = c .1 .two; inside = c .1 .inside; up = omega (arith, c .1 .up); room = c .1 .room; fine = c .1 .fine; other = c .1 .other } in
+    let here : checkEntry ks low b ≡ done e = is-checked ks low b k ∙ ap done (c .0) in
     let r = used (readEntries ks (suc (e .object)) n (e .rest)) _ (p .2) in
     let cs-is : cs ≡ replicate (e .object - suc low) keep ++ (swap (e .old) (e .new) ∷ r .0) = cc (r .2) in
     let up : suc low ≤ e .object = rw (← (c .0)) (c .1 .up) in

@@ -26,14 +26,14 @@ use Rattle.history.specs.Table.{Object, Plan, versionGood, catalogueGood
 use Rattle.history.specs.Image.{Image, imageVersionGood, element, foundIn, _of_⨾_, widths, readWords, elementsFrom, readImage}
 use Rattle.history.specs.declared.Change.{Change}
 use Rattle.history.specs.declared.Change.the-variants.{Keep as keep, Swap as swap}
-use Rattle.history.specs.Changes.{Changes, listVersion, Entry, entryAt, checkChange, checkEntry, readEntries, readList}
+use Rattle.history.specs.Changes.{Changes, listVersion, Entry, readNumber, readElements, checkEntry, readEntries, readList}
 use Rattle.history.specs.Operations.{fits, meets, lowest, applied, join}
 use Rattle.history.specs.Calls.{readPlan, tableCall, imageCall, listCall, differenceUnder, differenceCall, applyUnder, applyCall, joinUnder, joinCall, turnUnder, turnCall, stateAt, readStateUnder, readStateCall, checkState, writeStateUnder, writeStateCall, labelCall}
 use Rattle.history.proofs.VerdictLaws.{held, used}
 use Rattle.history.proofs.FormLaws.{form-contents}
 use Rattle.history.proofs.TableLaws.{table-is}
 use Rattle.history.proofs.ElementLaws.{was-accepted, refuses-as}
-use Rattle.history.proofs.ListLaws.{was-checked, head-at}
+use Rattle.history.proofs.ListLaws.{entryAt, was-numbered, was-checked, head-at}
 
 -- ---- the paper's table
 
@@ -188,26 +188,35 @@ stands-behind k b s = record {
 module _ {P : Refused → Type 0} (ks : List Kind) (given : ℕ → Type 0) (eight : P (naming 8 65535 255)) (beyond : (i : ℕ) → given i → length ks ≤ i → P (naming 13 i 255))
     (its : (code i : ℕ) → oneOf itsNumbers code ≡ true → given i → i < length ks → P (naming code i 255))
     (field : (f : Refusal) (i : ℕ) → i < length ks → Refuses (kindAt ks i) (f .code) (f .bit) → P (foundIn f i)) where
-  entry-named : (low : ℕ) (b : List ℕ) → ((i : ℕ) → Stands b i → given i) → Named P (checkEntry ks low b (entryAt ks b))
-  unfolding checkEntry checkChange
-  entry-named low b g =
-      let e : Entry = entryAt ks b in
+  number-named : (b : List ℕ) → ((i : ℕ) → Stands b i → given i) → Named P (readNumber ks b)
+  unfolding readNumber
+  number-named b g =
       named-unless (leb 2 (length b)) _ _ (λ f. refuses eight) λ t.
-      let mine : given (e .object) = g (e .object) (record { at = 0; inside = leb-true _ _ t; is = refl }) in
-      named-unless (ltb (e .object) (length ks)) _ _ (λ f. refuses (beyond _ mine (ltb-false _ _ f))) λ t.
-      let l : e .object < length ks = ltb-true _ _ t in
-      named-unless (leb low (e .object)) _ _ (λ f. refuses (its 14 _ refl mine l)) λ t.
-      named-unless (leb (2 + (widthOf (e .kind) + widthOf (e .kind))) (length b)) _ _ (λ f. refuses eight) λ t.
-      named-element ks field (e .kind) (e .old) (e .object) _ l refl
-      (named-element ks field (e .kind) (e .new) (e .object) _ l refl
-      (named-unless (not (eqb (e .old) (e .new))) _ _ (λ f. refuses (its 15 _ refl mine l)) λ t. accepts))
+      named-unless (ltb (number (take 2 b)) (length ks)) _ _
+      (λ f. refuses (beyond _ (g _ (record { at = 0; inside = leb-true _ _ t; is = refl })) (ltb-false _ _ f))) λ t. accepts
+
+  elements-named : (i : ℕ) (b : List ℕ) → i < length ks → Named P (readElements i (kindAt ks i) b)
+  unfolding readElements
+  elements-named i b l =
+      named-unless (leb (widthOf (kindAt ks i) + widthOf (kindAt ks i)) (length b)) _ _ (λ f. refuses eight) λ t.
+      named-element ks field (kindAt ks i) _ i _ l refl (named-element ks field (kindAt ks i) _ i _ l refl accepts)
+
+  entry-named : (low : ℕ) (b : List ℕ) → ((i : ℕ) → Stands b i → given i) → Named P (checkEntry ks low b)
+  unfolding checkEntry
+  entry-named low b g =
+      named-then (readNumber ks b) _ (number-named b g) λ i q.
+      let n = was-numbered ks b q in
+      let mine : given i = g i (record { at = 0; inside = n .two; is = n .number-is }) in
+      named-unless (leb low i) _ _ (λ f. refuses (its 14 _ refl mine (n .inside))) λ t.
+      named-then (readElements i (kindAt ks i) (drop 2 b)) _ (elements-named i (drop 2 b) (n .inside)) λ e q.
+      named-unless (not (eqb (e .old) (e .new))) _ _ (λ f. refuses (its 15 _ refl mine (n .inside))) λ t. accepts
 
   pub entries-named : (low m : ℕ) (b : List ℕ) → ((i : ℕ) → Stands b i → given i) → Named P (readEntries ks low m b)
   entries-named low zero b g = named-unless (eqb (length b) 0) _ _ (λ f. refuses eight) λ t. accepts
   entries-named low (suc m) b g =
-      named-then (checkEntry ks low b (entryAt ks b)) _ (entry-named low b g) λ e q.
+      named-then (checkEntry ks low b) _ (entry-named low b g) λ e q.
       let w : ℕ = widthOf (entryAt ks b .kind) in
-      let rest : e .rest ≡ drop w (drop w (drop 2 b)) = ap (λ (e : Entry). e .rest) (sym (was-checked ks low b (entryAt ks b) q .0)) in
+      let rest : e .rest ≡ drop w (drop w (drop 2 b)) = ap (λ (e : Entry). e .rest) (sym (was-checked ks low b q .0)) in
       let behind : (i : ℕ) → Stands (e .rest) i → given i = λ i s. g i (stands-behind 2 b (stands-behind w (drop 2 b) (stands-behind w (drop w (drop 2 b)) (rw rest at s)))) in
       named-then (readEntries ks (suc (e .object)) m (e .rest)) _ (entries-named (suc (e .object)) m (e .rest) behind) λ cs q. accepts
 
@@ -266,9 +275,9 @@ entries-long ks zero low b {cs} l q =
     let cs-is : cs ≡ replicate (length ks - low) keep = cc (held (eqb (length b) 0) _ _ q .1) in
     omega (arith, ap length cs-is, length-replicate (length ks - low) keep)
 entries-long ks (suc m) low b {cs} l q =
-    let p = used (checkEntry ks low b (entryAt ks b)) _ q in
+    let p = used (checkEntry ks low b) _ q in
     let e : Entry = p .0 in
-    let c = was-checked ks low b (entryAt ks b) (p .1) in
+    let c = was-checked ks low b (p .1) in
     let i : e .object ≡ entryAt ks b .object = ap (λ (e : Entry). e .object) (sym (c .0)) in
     let r = used (readEntries ks (suc (e .object)) m (e .rest)) _ (p .2) in
     let more = entries-long ks m (suc (e .object)) (e .rest) (omega (arith, c .1 .inside)) (r .1) in

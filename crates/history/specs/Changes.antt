@@ -68,31 +68,35 @@ entryOf i k b = record {
   rest = drop (widthOf k) (drop (widthOf k) b);
 }
 
-abbrev pub entryAt : List Kind → List ℕ → Entry
-entryAt ks b = entryOf (number (take 2 b)) (kindAt ks (number (take 2 b))) (drop 2 b)
-
--- old element, new element, 15
-unfoldable pub checkChange : Entry → Verdict Entry
-checkChange e =
-    element (e .kind) (e .old) of e .object ⨾
-    element (e .kind) (e .new) of e .object ⨾
-    refusalAt 15 (e .object) unless not (eqb (e .old) (e .new)) ⨾
-    done e
-
--- an entry whose number is to be at least low: 8 (number cut), 13, 14, 8 (elements cut), then its elements
-unfoldable pub checkEntry : List Kind → ℕ → List ℕ → Entry → Verdict Entry
-checkEntry ks low b e =
+-- the number in front: 8 (cut), 13
+unfoldable pub readNumber : List Kind → List ℕ → Verdict ℕ
+readNumber ks b =
     refusal 8 unless leb 2 (length b) ⨾
-    refusalAt 13 (e .object) unless ltb (e .object) (length ks) ⨾
-    refusalAt 14 (e .object) unless leb low (e .object) ⨾
-    refusal 8 unless leb (2 + (widthOf (e .kind) + widthOf (e .kind))) (length b) ⨾
-    checkChange e
+    refusalAt 13 (number (take 2 b)) unless ltb (number (take 2 b)) (length ks) ⨾
+    done (number (take 2 b))
+
+-- the elements of object i: 8 (cut), old element, new element
+unfoldable pub readElements : ℕ → Kind → List ℕ → Verdict Entry
+readElements i k b =
+    refusal 8 unless leb (widthOf k + widthOf k) (length b) ⨾
+    element k (entryOf i k b .old) of i ⨾
+    element k (entryOf i k b .new) of i ⨾
+    done (entryOf i k b)
+
+-- an entry whose number is to be at least low: number, 14, elements, 15
+unfoldable pub checkEntry : List Kind → ℕ → List ℕ → Verdict Entry
+checkEntry ks low b =
+    then (readNumber ks b) λ i.
+    refusalAt 14 i unless leb low i ⨾
+    then (readElements i (kindAt ks i) (drop 2 b)) λ e.
+    refusalAt 15 i unless not (eqb (e .old) (e .new)) ⨾
+    done e
 
 -- what n entries say of each object from low on; last 8
 abbrev pub readEntries : List Kind → ℕ → ℕ → List ℕ → Verdict (List Change)
 readEntries ks low zero b = refusal 8 unless eqb (length b) 0 ⨾ done (replicate (length ks - low) keep)
 readEntries ks low (suc n) b =
-    then (checkEntry ks low b (entryAt ks b)) λ e.
+    then (checkEntry ks low b) λ e.
     then (readEntries ks (suc (e .object)) n (e .rest)) λ cs.
     done (replicate (e .object - low) keep ++ (swap (e .old) (e .new) ∷ cs))
 
