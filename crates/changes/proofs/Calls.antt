@@ -7,10 +7,9 @@ use lib.ListN.{take}
 use Rattle.history.specs.declared.Answer.{Answer}
 use Rattle.history.specs.Verdict.{told, Leaves}
 use Rattle.history.specs.Table.{Plan}
-use Rattle.history.specs.Image.{readImage}
-use Rattle.history.specs.Changes.{readList}
+use Rattle.history.specs.Image.{readImage, AcceptedImage}
+use Rattle.history.specs.Changes.{readList, AcceptedList}
 use Rattle.history.specs.Calls.{differenceUnder, differenceCall, applyUnder, applyCall, joinUnder, joinCall, turnUnder, turnCall}
-use Rattle.history.specs.Legal.{AcceptedImage, AcceptedList}
 use Rattle.history.proofs.OutputLaws.{first-leaves}
 use Rattle.tables.specs.declared.answers.Outline.{Outline}
 use Rattle.tables.specs.Outlines.{planAs, Outlined}

@@ -10,11 +10,9 @@ use lib.ListN.{length}
 use borrow.Author.Tests.{eq-eqb, ne-eqb, le-leb, lt-leb}
 use Rattle.history.specs.declared.Answer.{Answer}
 use Rattle.history.specs.Verdict.{Verdict, done, then, refusal, refusalAt, unnamed, told}
-use Rattle.history.specs.Image.{Image, widths, wordsBytes, imageBytes}
-use Rattle.history.specs.Changes.{listBytes}
+use Rattle.history.specs.Image.{Image, widths, wordsBytes, imageBytes, AcceptedImage}
+use Rattle.history.specs.Changes.{listBytes, AcceptedList, after, resultOf, jointOf, difference, applied, join, turned}
 use Rattle.history.specs.Calls.{differenceUnder, applyUnder, joinUnder, turnUnder}
-use Rattle.history.specs.Operations.{after, resultOf, jointOf, difference, applied, join, turned}
-use Rattle.history.specs.Legal.{AcceptedImage, AcceptedList}
 use Rattle.history.proofs.CodeLaws.{Coded, applied-coded, zero-told}
 use Rattle.history.proofs.ImageLaws.{length-words}
 use Rattle.history.proofs.OperationLaws.{takes}

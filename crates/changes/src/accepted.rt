@@ -16,7 +16,8 @@ ghost use Prim.Native.Nat.{_≤_};
 ghost use lib.ListN.{length};
 ghost use Rattle.history.specs.Verdict.{told, Leaves};
 ghost use Rattle.history.specs.Calls.{differenceUnder, applyUnder, joinUnder, turnUnder};
-ghost use Rattle.history.specs.Legal.{AcceptedImage, AcceptedList};
+ghost use Rattle.history.specs.Image.{AcceptedImage};
+ghost use Rattle.history.specs.Changes.{AcceptedList};
 ghost use Rattle.tables.specs.Outlines.{planAs};
 
 // The list from image a to image b.

@@ -23,9 +23,10 @@ use Rattle.history.specs.declared.Answer.{Answer}
 use Rattle.history.specs.Verdict.{Refused, naming, Verdict, refused, done, then, refusalAt, _unless_⨾_, numbers, told, Leaves}
 use Rattle.history.specs.Table.{Plan, kindAt}
 use Rattle.history.specs.Image.{Image, element, foundIn, _of_⨾_, imageBytes, readImage}
-use Rattle.history.specs.Calls.{readPlan, placed, stateAt, readStateUnder, readStateCall, checkState, writeStateUnder, writeStateCall}
+use Rattle.history.specs.Calls.{readPlan, placed, readStateUnder, readStateCall, checkState, writeStateUnder, writeStateCall}
 use Rattle.elements.proofs.Laws.{state-kind}
 use Rattle.history.proofs.OutputLaws.{leaves-as, refused-leaves}
+use Rattle.history.proofs.StateLaws.{stateAt}
 use Rattle.panel.specs.Readings.{readingOf}
 use Rattle.fields.specs.declared.Plain.{Plain}
 use Rattle.fields.specs.Fields.{shownOf, plainOf, valuesIn, named}

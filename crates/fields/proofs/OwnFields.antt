@@ -21,9 +21,8 @@ use Rattle.kinds.specs.declared.Element.{Element}
 use Rattle.kinds.proofs.KindLaws.{element-listed, element-kind}
 use Rattle.elements.proofs.Covering.{cover}
 use Rattle.history.specs.Verdict.{Verdict, done, refusalAt, _unless_⨾_, unnamed}
-use Rattle.history.specs.Image.{_of_⨾_}
+use Rattle.history.specs.Image.{_of_⨾_, isAccepted}
 use Rattle.history.specs.Calls.{readStateCall, writeStateCall}
-use Rattle.history.specs.Legal.{isAccepted}
 use Rattle.history.proofs.VerdictLaws.{held, used}
 use Rattle.history.proofs.ElementLaws.{was-accepted}
 use Rattle.history.proofs.Demands.{write-then-read}

@@ -9,9 +9,8 @@ use mir.Val.{Fits}
 use Rattle.history.specs.declared.Answer.{Answer}
 use Rattle.history.specs.Verdict.{told}
 use Rattle.history.specs.Table.{Plan}
-use Rattle.history.specs.Image.{readImage}
-use Rattle.history.specs.Changes.{readList}
-use Rattle.history.specs.Legal.{AcceptedImage, AcceptedList}
+use Rattle.history.specs.Image.{readImage, AcceptedImage}
+use Rattle.history.specs.Changes.{readList, AcceptedList}
 use Rattle.history.proofs.ImageLaws.{image-is}
 use Rattle.history.proofs.ListLaws.{list-is}
 use Rattle.history.proofs.CodeLaws.{image-coded, list-coded, zero-told}

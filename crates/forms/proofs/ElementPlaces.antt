@@ -13,8 +13,7 @@ use Rattle.kinds.specs.Kinds.{widthOf}
 use Rattle.kinds.specs.declared.Kind.{Kind}
 use Rattle.elements.specs.Elements.{kindNumbered}
 use Rattle.history.specs.Table.{kindAt}
-use Rattle.history.specs.Image.{widths, wordsBytes}
-use Rattle.history.specs.Legal.{admits, Every, nil, and}
+use Rattle.history.specs.Image.{widths, wordsBytes, admits, Every, nil, and}
 use Rattle.history.proofs.ElementLaws.{admits-fits}
 use Rattle.tables.specs.Outlines.{kindsOf}
 use Rattle.forms.specs.Places.{placeIn, Sized, over}

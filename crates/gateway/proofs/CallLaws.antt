@@ -19,10 +19,9 @@ use Rattle.elements.specs.Elements.{carried, kindOf, elementCheck}
 use Rattle.history.specs.declared.Answer.{Answer}
 use Rattle.history.specs.declared.Standing.{Standing}
 use Rattle.history.specs.Verdict.{Verdict, refused, done, numbers, unnamed, told, settled, Leaves}
-use Rattle.history.specs.Table.{catalogueGood, Object, Table, objectBytes, objectsBytes, labelLimit, readTable}
+use Rattle.history.specs.Table.{catalogueGood, Object, Table, objectBytes, objectsBytes, labelLimit, readTable, LegalTable}
 use Rattle.history.specs.Image.{element, foundIn, _of_⨾_}
 use Rattle.history.specs.Calls.{readStateCall, Place, labelPlace, labelCall}
-use Rattle.history.specs.Legal.{LegalTable}
 use Rattle.history.proofs.CodeLaws.{Coded, not-zero, read-call-coded}
 use Rattle.history.proofs.VerdictLaws.{held, used}
 use Rattle.history.proofs.TableLaws.{nobody, table-is}

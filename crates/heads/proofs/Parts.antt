@@ -9,9 +9,8 @@ use Rattle.octets.specs.Octets.{bytes, number}
 use Rattle.octets.proofs.NumberLaws.{length-bytes, read-bytes}
 use Rattle.history.specs.Form.{formBytes}
 use Rattle.history.specs.Table.{Table, objectsBytes, tableBytes, Plan}
-use Rattle.history.specs.Image.{Image, widths, wordsBytes, imageBytes, elementsFrom}
-use Rattle.history.specs.Changes.{Changes, entries, entriesBytes, listBytes}
-use Rattle.history.specs.Legal.{LegalImage, AcceptedImage, AcceptedList}
+use Rattle.history.specs.Image.{Image, widths, wordsBytes, imageBytes, elementsFrom, LegalImage, AcceptedImage}
+use Rattle.history.specs.Changes.{Changes, entries, entriesBytes, listBytes, AcceptedList}
 use Rattle.history.proofs.ImageLaws.{length-words}
 use Rattle.heads.specs.Heads.{objectsPlace, elementsPlace, imageHead, positionIn, elementsIn, fromIn, toIn, entryCountIn, entriesPlace, entriesIn}
 

@@ -14,9 +14,8 @@ use Rattle.kinds.specs.declared.Kind.{Kind}
 use Rattle.history.specs.declared.Change.{Change}
 use Rattle.history.specs.Form.{formBytes}
 use Rattle.history.specs.Table.{Plan}
-use Rattle.history.specs.Image.{Image, widths, wordsBytes, imageBytes, elementsFrom}
+use Rattle.history.specs.Image.{Image, widths, wordsBytes, imageBytes, elementsFrom, AcceptedImage}
 use Rattle.history.specs.Changes.{listVersion, entries, entriesBytes, listBytes}
-use Rattle.history.specs.Legal.{AcceptedImage}
 use Rattle.history.proofs.ImageLaws.{length-words}
 use Rattle.heads.specs.Heads.{elementsPlace, imageHead, elementsIn, entriesPlace}
 use Rattle.heads.specs.Written.{opening, listHead, withElements}

@@ -7,10 +7,9 @@ use Rattle.kinds.specs.declared.Element.{Element}
 use Rattle.octets.specs.Octets.{Bytes}
 use Rattle.history.specs.Verdict.{Verdict, done, then}
 use Rattle.history.specs.Table.{Plan}
-use Rattle.history.specs.Image.{Image, readImage}
-use Rattle.history.specs.Changes.{Changes, readList}
+use Rattle.history.specs.Image.{Image, readImage, AcceptedImage}
+use Rattle.history.specs.Changes.{Changes, readList, AcceptedList}
 use Rattle.history.specs.Calls.{readPlan, imageCall, listCall, differenceUnder, differenceCall, applyUnder, applyCall, joinUnder, joinCall, writeStateUnder, writeStateCall}
-use Rattle.history.specs.Legal.{AcceptedImage, AcceptedList}
 use Rattle.history.proofs.VerdictLaws.{used}
 use Rattle.history.proofs.ImageLaws.{image-is}
 use Rattle.history.proofs.ListLaws.{list-is}

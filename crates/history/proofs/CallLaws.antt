@@ -6,11 +6,9 @@ use mathlib.Core.List.{List}
 use Rattle.octets.specs.Octets.{Bytes}
 use Rattle.history.specs.Verdict.{done, then}
 use Rattle.history.specs.Table.{Plan}
-use Rattle.history.specs.Image.{Image, imageBytes, readImage}
-use Rattle.history.specs.Changes.{Changes, listBytes, readList}
-use Rattle.history.specs.Operations.{difference, applied, join, turned}
+use Rattle.history.specs.Image.{Image, imageBytes, readImage, LegalImage, AcceptedImage}
+use Rattle.history.specs.Changes.{Changes, listBytes, readList, LegalList, AcceptedList, difference, applied, join, turned}
 use Rattle.history.specs.Calls.{readPlan, imageCall, listCall, differenceUnder, differenceCall, applyUnder, applyCall, joinUnder, joinCall, turnUnder, turnCall}
-use Rattle.history.specs.Legal.{LegalImage, LegalList, AcceptedImage, AcceptedList}
 use Rattle.history.proofs.VerdictLaws.{used}
 use Rattle.history.proofs.OperationLaws.{difference-legal, apply-difference, only-difference, result-legal, join-differences, join-legal, turned-legal, turned-difference}
 use Rattle.history.proofs.ImageLaws.{image-is, image-reads}

@@ -9,8 +9,8 @@ use borrow.Author.Tests.{eq-eqb, ne-eqb, eqb-true, not-true, eqb-false}
 use Rattle.kinds.specs.declared.Kind.{Kind}
 use Rattle.history.specs.declared.Change.{Change}
 use Rattle.history.specs.declared.Change.the-variants.{Keep as keep, Swap as swap}
-use Rattle.history.specs.Operations.{differ, fits, after, meets, joined, back}
-use Rattle.history.specs.Legal.{admits, lawful}
+use Rattle.history.specs.Image.{admits}
+use Rattle.history.specs.Changes.{lawful, differ, fits, after, meets, joined, back}
 use Rattle.history.proofs.VerdictLaws.{all, left, right}
 
 pub differ-same : (a : ℕ) → differ a a ≡ keep

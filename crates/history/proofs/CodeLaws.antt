@@ -15,8 +15,7 @@ use Rattle.history.specs.declared.Answer.{Answer}
 use Rattle.history.specs.Verdict.{Refused, Verdict, refused, done, told, settled}
 use Rattle.history.specs.Table.{Plan}
 use Rattle.history.specs.Image.{Image, readImage}
-use Rattle.history.specs.Changes.{Changes, readList}
-use Rattle.history.specs.Operations.{applied}
+use Rattle.history.specs.Changes.{Changes, readList, applied}
 use Rattle.history.specs.Calls.{tableCall, imageCall, listCall, differenceCall, applyCall, joinCall, turnCall, readStateCall, checkState, writeStateCall, labelCall}
 use Rattle.history.proofs.VerdictLaws.{left, right}
 use Rattle.history.proofs.OutputLaws.{Ran, succeeds, too-short}

@@ -12,13 +12,11 @@ use Rattle.elements.proofs.DatLaws.{Stale}
 use Rattle.kinds.specs.declared.Element.{Element}
 use Rattle.octets.specs.Octets.{Bytes}
 use Rattle.history.specs.Verdict.{Refused, naming, refused, done, refusal}
-use Rattle.history.specs.Table.{Table, tableBytes, Plan, kindAt}
-use Rattle.history.specs.Image.{Image, imageBytes}
+use Rattle.history.specs.Table.{Table, tableBytes, Plan, kindAt, LegalTable}
+use Rattle.history.specs.Image.{Image, imageBytes, LegalImage}
 use Rattle.history.specs.declared.Change.the-variants.{Keep as keep}
-use Rattle.history.specs.Changes.{Changes, listBytes}
-use Rattle.history.specs.Operations.{fits, meets, applied, join}
+use Rattle.history.specs.Changes.{Changes, listBytes, LegalList, fits, meets, applied, join}
 use Rattle.history.specs.Calls.{readPlan, tableCall, imageCall, listCall, differenceCall, applyUnder, applyCall, joinUnder, joinCall, turnCall, placed, readStateCall, writeStateCall}
-use Rattle.history.specs.Legal.{LegalTable, LegalImage, LegalList}
 use Rattle.history.proofs.VerdictLaws.{Lowest, passed-up}
 use Rattle.history.proofs.OperationLaws.{one-version, keeps-version, late-exactly as late, gap-exactly as gap, apart-exactly as apart, names-old, names-meeting}
 use Rattle.history.proofs.TableLaws.{table-form, plan-fair}

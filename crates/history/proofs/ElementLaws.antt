@@ -20,8 +20,7 @@ use Rattle.elements.proofs.Laws.{word-fits, state-word-state, word-state-word, 
 use Rattle.elements.proofs.DatLaws.{Stale, state-accepted, state-stale}
 use Rattle.elements.proofs.Findings.{Refuses, element-refuses, zero-found}
 use Rattle.history.specs.Verdict.{Verdict, done}
-use Rattle.history.specs.Image.{element, _of_⨾_}
-use Rattle.history.specs.Legal.{isAccepted, admits}
+use Rattle.history.specs.Image.{element, _of_⨾_, isAccepted, admits}
 use Rattle.history.proofs.VerdictLaws.{all, left, right}
 
 -- ---- one element

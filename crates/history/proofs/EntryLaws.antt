@@ -15,8 +15,7 @@ use Rattle.octets.specs.Octets.{bytes, number, Bytes}
 use Rattle.octets.proofs.NumberLaws.{length-bytes, read-bytes, drop-bytes, below, cut}
 use Rattle.history.specs.Verdict.{Refused, naming, refused, done, refusalAt}
 use Rattle.history.specs.Form.{Form, formBytes, readForm}
-use Rattle.history.specs.Table.{Object, Table, object, versionGood, catalogueGood, objectBytes, objectsBytes, repeats, ObjectEntry, objectAt, checkObject, readObjects, readTable}
-use Rattle.history.specs.Legal.{LegalTable}
+use Rattle.history.specs.Table.{Object, Table, object, versionGood, catalogueGood, objectBytes, objectsBytes, repeats, ObjectEntry, objectAt, checkObject, readObjects, readTable, LegalTable}
 use Rattle.history.proofs.VerdictLaws.{one-refusal, either-refused, passed-up, past, stopped}
 use Rattle.history.proofs.FormLaws.{form-whole, form-version, form-other, form-is, form-length, form-reads}
 use Rattle.history.proofs.TableLaws.{repeats-one, repeats-each, LegalFrom, legal-each, legal-distinct, legal-from, tested, object-is, object-checked, object-other, objects-pass}

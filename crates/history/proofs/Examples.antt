@@ -26,8 +26,7 @@ use Rattle.history.specs.Form.{formBytes, isWhole, readForm}
 use Rattle.history.specs.Table.{versionGood, catalogueGood, labelLimit, firstColon, labelGood, checkObject, readTable, planOf}
 use Rattle.history.specs.Image.{imageVersionGood, element, imageBytes, elementsFrom, readImage}
 use Rattle.history.specs.declared.Change.the-variants.{Keep as keep, Swap as swap}
-use Rattle.history.specs.Changes.{listVersion, listBytes, readNumber, readElements, checkEntry, readList}
-use Rattle.history.specs.Operations.{difference, applied, join, turned}
+use Rattle.history.specs.Changes.{listVersion, listBytes, readNumber, readElements, checkEntry, readList, difference, applied, join, turned}
 use Rattle.history.specs.Calls.{readPlan, tableCall, imageCall, listCall, differenceUnder, differenceCall, applyUnder, applyCall, joinUnder, joinCall, turnUnder, turnCall, readStateUnder, readStateCall, checkState, writeStateUnder, writeStateCall, labelCall}
 use Rattle.history.specs.Standing.{fresh, counted, receiveCall}
 

@@ -11,12 +11,10 @@ use borrow.Author.Tests.{eq-eqb, ne-eqb, eqb-true, eqb-false}
 use Rattle.kinds.specs.declared.Kind.{Kind}
 use Rattle.history.specs.Verdict.{Refused, Verdict, refused, done, then, refusal, _unless_⨾_}
 use Rattle.history.specs.Table.{Plan}
-use Rattle.history.specs.Image.{Image, imageVersionGood}
+use Rattle.history.specs.Image.{Image, imageVersionGood, Every, nil, and, admits, LegalImage}
 use Rattle.history.specs.declared.Change.{Change}
 use Rattle.history.specs.declared.Change.the-variants.{Keep as keep, Swap as swap}
-use Rattle.history.specs.Changes.{Changes}
-use Rattle.history.specs.Operations.{fits, after, meets, joined, back, lowest, difference, applied, join, turned}
-use Rattle.history.specs.Legal.{Every, nil, and, admits, lawful, LegalImage, LegalList}
+use Rattle.history.specs.Changes.{Changes, lawful, LegalList, fits, after, meets, joined, back, lowest, difference, applied, join, turned}
 use Rattle.history.proofs.ElementLaws.{zero-admitted}
 use Rattle.history.proofs.ChangeLaws.{lawful-swap, back-differ}
 use Rattle.history.proofs.OperationLaws.{taking, joins, join-taken}

@@ -16,8 +16,7 @@ use Rattle.octets.specs.Octets.{bytes, number, Bytes}
 use Rattle.history.specs.Verdict.{done}
 use Rattle.history.specs.Form.{Form, formBytes, readForm}
 use Rattle.history.specs.Table.{Plan, sameCatalogue}
-use Rattle.history.specs.Image.{Image, imageVersionGood, element, widths, wordsBytes, imageBytes, readWords, elementsFrom, readImage}
-use Rattle.history.specs.Legal.{admits, Every, nil, and, LegalImage}
+use Rattle.history.specs.Image.{Image, imageVersionGood, element, widths, wordsBytes, imageBytes, readWords, elementsFrom, readImage, admits, Every, nil, and, LegalImage}
 use Rattle.octets.proofs.NumberLaws.{length-bytes, read-bytes, drop-bytes, drop-is, cut, below}
 use Rattle.history.proofs.VerdictLaws.{all, left, right, held, used}
 use Rattle.history.proofs.FormLaws.{Formed, form-is, form-reads}
@@ -123,20 +122,8 @@ image-reads {p} {a} f h =
 pub image-form : (p : Plan) → Fair p → (b : List ℕ) → Bytes b → (a : Image) → (readImage p b ≡ done a) ↔ (LegalImage p a × (b ≡ imageBytes p a))
 image-form p f b h a = (image-is p b h, (λ w. ap (readImage p) (w .1) ∙ image-reads f (w .0)))
 
--- ---- where its parts stand: the position from byte 7 on, the elements from byte 11 on
+-- ---- how long it is
 
-image-tail : (p : Plan) (a : Image) → drop 7 (imageBytes p a) ≡ bytes 4 (a .position) ++ wordsBytes (p .kinds) (a .words)
-unfolding imageBytes formBytes bytes
-image-tail p a = refl
-
-pub image-words : (p : Plan) (a : Image) → drop 11 (imageBytes p a) ≡ wordsBytes (p .kinds) (a .words)
-unfolding imageBytes formBytes bytes
-image-words p a = refl
-
-module _ {p : Plan} {a : Image} (h : LegalImage p a) where
-  pub image-position : number (take 4 (drop 7 (imageBytes p a))) ≡ a .position
-  image-position = ap (λ (b : List ℕ). number (take 4 b)) (image-tail p a) ∙ read-bytes 4 (a .position) _ (h .position)
-
-  pub image-long : length (imageBytes p a) ≡ 11 + widths (p .kinds)
-  unfolding imageBytes formBytes
-  image-long = simp (length-append, length-bytes, length-words (h .words)) (omega arith)
+pub image-long : {p : Plan} {a : Image} → LegalImage p a → length (imageBytes p a) ≡ 11 + widths (p .kinds)
+unfolding imageBytes formBytes
+image-long h = simp (length-append, length-bytes, length-words (h .words)) (omega arith)

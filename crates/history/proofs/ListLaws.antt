@@ -17,11 +17,10 @@ use Rattle.octets.specs.Octets.{bytes, number, Bytes}
 use Rattle.history.specs.Verdict.{done}
 use Rattle.history.specs.Form.{Form, formBytes, readForm}
 use Rattle.history.specs.Table.{Plan, kindAt, sameCatalogue}
-use Rattle.history.specs.Image.{element}
+use Rattle.history.specs.Image.{element, isAccepted, Every, nil, and}
 use Rattle.history.specs.declared.Change.{Change}
 use Rattle.history.specs.declared.Change.the-variants.{Keep as keep, Swap as swap}
-use Rattle.history.specs.Changes.{Changes, listVersion, entriesBytes, entries, listBytes, Entry, entryOf, readNumber, readElements, checkEntry, readEntries, readList}
-use Rattle.history.specs.Legal.{isAccepted, Every, nil, and, lawful, LegalList}
+use Rattle.history.specs.Changes.{Changes, listVersion, entriesBytes, entries, listBytes, Entry, entryOf, readNumber, readElements, checkEntry, readEntries, readList, lawful, LegalList}
 use Rattle.octets.proofs.NumberLaws.{length-bytes, read-bytes, drop-bytes, drop-is, cut, below}
 use Rattle.history.proofs.VerdictLaws.{all, held, used}
 use Rattle.history.proofs.ChangeLaws.{lawful-swap}

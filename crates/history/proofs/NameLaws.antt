@@ -15,7 +15,7 @@ use Rattle.rows.specs.declared.Refusal.{Refusal}
 use Rattle.kinds.specs.Kinds.{widthOf, kindIn}
 use Rattle.kinds.specs.declared.Kind.{Kind}
 use Rattle.kinds.specs.declared.Element.{Element}
-use Rattle.elements.specs.Elements.{carried, sameKind, wordOf}
+use Rattle.elements.specs.Elements.{carried, sameKind, wordOf, stateOf}
 use Rattle.elements.proofs.Findings.{Refuses}
 use Rattle.elements.proofs.Laws.{state-kind}
 use Rattle.octets.specs.Octets.{number}
@@ -26,9 +26,8 @@ use Rattle.history.specs.Table.{Object, Plan, versionGood, catalogueGood
 use Rattle.history.specs.Image.{Image, imageVersionGood, element, foundIn, _of_⨾_, widths, readWords, elementsFrom, readImage}
 use Rattle.history.specs.declared.Change.{Change}
 use Rattle.history.specs.declared.Change.the-variants.{Keep as keep, Swap as swap}
-use Rattle.history.specs.Changes.{Changes, listVersion, Entry, readNumber, readElements, checkEntry, readEntries, readList}
-use Rattle.history.specs.Operations.{fits, meets, lowest, applied, join}
-use Rattle.history.specs.Calls.{readPlan, tableCall, imageCall, listCall, differenceUnder, differenceCall, applyUnder, applyCall, joinUnder, joinCall, turnUnder, turnCall, stateAt, readStateUnder, readStateCall, checkState, writeStateUnder, writeStateCall, labelCall}
+use Rattle.history.specs.Changes.{Changes, listVersion, Entry, readNumber, readElements, checkEntry, readEntries, readList, fits, meets, lowest, applied, join}
+use Rattle.history.specs.Calls.{readPlan, tableCall, imageCall, listCall, differenceUnder, differenceCall, applyUnder, applyCall, joinUnder, joinCall, turnUnder, turnCall, readStateUnder, readStateCall, checkState, writeStateUnder, writeStateCall, labelCall}
 use Rattle.history.proofs.VerdictLaws.{held, used}
 use Rattle.history.proofs.FormLaws.{form-contents}
 use Rattle.history.proofs.TableLaws.{table-is}
@@ -405,7 +404,7 @@ module _ (T : List ℕ) where
       let q₁ = used (readImage p A) _ (q .2) in
       let q₂ = held (ltb i (length (p .kinds))) _ _ (q₁ .2) in
       let l : i < length (p .kinds) = ltb-true _ _ (q₂ .0) in
-      let s-is : s ≡ stateAt p (q₁ .0) i = cc (q₂ .1) in
+      let s-is : s ≡ stateOf (kindAt (p .kinds) i) (getD (q₁ .0 .words) i 0) = cc (q₂ .1) in
       rw (q .1, ← plan-count T (q .1)) (l, l, ap kindIn s-is ∙ state-kind (kindAt (p .kinds) i) _)
 
 -- ---- the numbers given back: success and 21 name nothing

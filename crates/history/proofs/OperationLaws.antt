@@ -11,12 +11,10 @@ use native.Mathlib.Nat.{le-antisymm, zero-add}
 use Rattle.kinds.specs.declared.Kind.{Kind}
 use Rattle.history.specs.Verdict.{Refused, naming, refused, done, refusal, refusalAt}
 use Rattle.history.specs.Table.{Plan}
-use Rattle.history.specs.Image.{Image, imageVersionGood}
+use Rattle.history.specs.Image.{Image, imageVersionGood, admits, Every, nil, and, LegalImage}
 use Rattle.history.specs.declared.Change.{Change}
 use Rattle.history.specs.declared.Change.the-variants.{Keep as keep}
-use Rattle.history.specs.Changes.{Changes}
-use Rattle.history.specs.Operations.{differ, fits, after, meets, joined, back, lowest, resultOf, jointOf, difference, applied, join, turned}
-use Rattle.history.specs.Legal.{admits, Every, nil, and, LegalImage, lawful, LegalList}
+use Rattle.history.specs.Changes.{Changes, lawful, LegalList, differ, fits, after, meets, joined, back, lowest, resultOf, jointOf, difference, applied, join, turned}
 use Rattle.history.proofs.VerdictLaws.{held, past, stopped, Lowest, names-lowest, other-code, refuses-lowest, Paired, none, more, paired, passes, passed, value}
 use Rattle.history.proofs.ChangeLaws.{fits-differ, after-differ, only-differ, meets-differ, joined-differ, back-differ, lawful-differ, lawful-joined, lawful-back, admits-after}
 

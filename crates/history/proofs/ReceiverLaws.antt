@@ -16,7 +16,8 @@ use Rattle.history.specs.Verdict.{Verdict, done, then, settled}
 use Rattle.history.specs.Table.{Plan}
 use Rattle.history.specs.Calls.{readPlan, differenceCall, applyCall, joinCall}
 use Rattle.history.specs.Standing.{Received, receiveCall, counted, NoneFull, total}
-use Rattle.history.specs.Legal.{AcceptedImage, AcceptedList}
+use Rattle.history.specs.Image.{AcceptedImage}
+use Rattle.history.specs.Changes.{AcceptedList}
 use Rattle.history.proofs.VerdictLaws.{used}
 use Rattle.history.proofs.OperationLaws.{keeps-version}
 use Rattle.history.proofs.CallLaws.{difference-is, difference-list, difference-applies, only-difference-applies, differences-join, applied-image}

@@ -15,13 +15,11 @@ use Rattle.kinds.specs.declared.Kind.{Kind}
 use Rattle.history.specs.Verdict.{done}
 use Rattle.history.specs.Form.{formBytes}
 use Rattle.history.specs.Table.{Plan}
-use Rattle.history.specs.Image.{widths}
+use Rattle.history.specs.Image.{widths, Every, nil, and, admits, AcceptedImage}
 use Rattle.history.specs.declared.Change.{Change}
 use Rattle.history.specs.declared.Change.the-variants.{Keep as keep, Swap as swap}
-use Rattle.history.specs.Changes.{Changes, entriesBytes, listBytes}
-use Rattle.history.specs.Operations.{differ, joined}
+use Rattle.history.specs.Changes.{Changes, entriesBytes, listBytes, lawful, AcceptedList, differ, joined}
 use Rattle.history.specs.Calls.{readPlan, differenceCall, applyCall, joinCall}
-use Rattle.history.specs.Legal.{Every, nil, and, admits, lawful, AcceptedImage, AcceptedList}
 use Rattle.octets.proofs.NumberLaws.{length-bytes}
 use Rattle.history.proofs.VerdictLaws.{left, right}
 use Rattle.history.proofs.ElementLaws.{admits-fits}

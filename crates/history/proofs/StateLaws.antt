@@ -18,14 +18,17 @@ use Rattle.elements.proofs.Laws.{state-kind}
 use Rattle.elements.proofs.DatLaws.{Stale}
 use Rattle.history.specs.Verdict.{naming, Verdict, refused, done, then, refusalAt, _unless_⨾_}
 use Rattle.history.specs.Table.{Plan, kindAt}
-use Rattle.history.specs.Image.{Image, element, _of_⨾_, imageBytes}
-use Rattle.history.specs.Calls.{readPlan, placed, stateAt, readStateUnder, readStateCall, checkState, writeStateUnder, writeStateCall}
+use Rattle.history.specs.Image.{Image, element, _of_⨾_, imageBytes, isAccepted, admits, Every, nil, and, LegalImage, AcceptedImage}
+use Rattle.history.specs.Calls.{readPlan, placed, readStateUnder, readStateCall, checkState, writeStateUnder, writeStateCall}
 use Rattle.elements.specs.Elements.{sameKind}
-use Rattle.history.specs.Legal.{isAccepted, admits, Every, nil, and, LegalImage, AcceptedImage}
 use Rattle.history.proofs.VerdictLaws.{held, used}
 use Rattle.history.proofs.ElementLaws.{was-accepted, is-accepted, admits-accepted, word-again, state-again, state-admitted, same-kind, is-same-kind, state-current, state-twelve}
 use Rattle.history.proofs.OperationLaws.{one-version}
 use Rattle.history.proofs.CallLaws.{legal-image}
+
+-- object i's element as a state
+abbrev pub stateAt : Plan → Image → ℕ → Element
+stateAt p a i = stateOf (kindAt (p .kinds) i) (getD (a .words) i 0)
 
 -- ---- all objects
 

@@ -14,11 +14,10 @@ use borrow.Author.Tests.{eq-eqb, eqb-true, le-leb, leb-true, not-true}
 use Rattle.octets.specs.Octets.{bytes, number, Bytes}
 use Rattle.history.specs.Verdict.{Refused, naming, Verdict, refused, done, refusalAt, _unless_⨾_}
 use Rattle.history.specs.Form.{Form, formBytes, readForm}
-use Rattle.history.specs.Table.{Object, Table, versionGood, catalogueGood, labelLimit, labelGood, objectBytes, objectsBytes, tableBytes, sameObject, repeats, ObjectEntry, objectAt, checkObject, readObjects, readTable, Plan, planOf, object}
+use Rattle.history.specs.Table.{Object, Table, versionGood, catalogueGood, labelLimit, labelGood, objectBytes, objectsBytes, tableBytes, sameObject, repeats, ObjectEntry, objectAt, checkObject, readObjects, readTable, Plan, planOf, object, LegalObject, LegalTable}
 use Rattle.elements.specs.Elements.{carried}
 use Rattle.octets.specs.Octets.{sameBytes}
 use Rattle.history.specs.Calls.{readPlan}
-use Rattle.history.specs.Legal.{LegalObject, LegalTable}
 use Rattle.octets.proofs.NumberLaws.{length-bytes, read-bytes, drop-bytes, cut}
 use Rattle.history.proofs.VerdictLaws.{all, left, right, one-refusal, kept, held, used, past, stopped}
 use Rattle.history.proofs.FormLaws.{form-version, form-contents, form-is, form-reads}

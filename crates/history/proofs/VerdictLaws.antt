@@ -9,8 +9,8 @@ use mathlib.Core.List.{List, [], _∷_}
 use mathlib.Core.Logic.{_⊎_, inl, inr}
 use lib.ListN.{length, getD}
 use Rattle.history.specs.Verdict.{Refused, naming, Verdict, refused, done, then, refusalAt, _unless_⨾_}
-use Rattle.history.specs.Operations.{lowest}
-use Rattle.history.specs.Legal.{Every, nil, and}
+use Rattle.history.specs.Changes.{lowest}
+use Rattle.history.specs.Image.{Every, nil, and}
 
 -- both of two tests
 pub all : {a b : Bool} → a ≡ true → b ≡ true → (a && b) ≡ true

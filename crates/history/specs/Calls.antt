@@ -11,8 +11,7 @@ use Rattle.kinds.specs.declared.Element.{Element}
 use Rattle.history.specs.Verdict.{Verdict, done, then, refusalAt, _unless_⨾_}
 use Rattle.history.specs.Table.{object, Table, objectsBytes, readTable, Plan, planOf, kindAt}
 use Rattle.history.specs.Image.{Image, element, _of_⨾_, readImage, imageBytes}
-use Rattle.history.specs.Changes.{Changes, readList, listBytes}
-use Rattle.history.specs.Operations.{difference, applied, join, turned}
+use Rattle.history.specs.Changes.{Changes, readList, listBytes, difference, applied, join, turned}
 
 -- ---- checking the three forms
 
@@ -68,16 +67,12 @@ turnCall T L = then (readPlan T) λ p. turnUnder p L
 
 -- ---- states
 
--- object i's element as a state
-abbrev pub stateAt : Plan → Image → ℕ → Element
-stateAt p a i = stateOf (kindAt (p .kinds) i) (getD (a .words) i 0)
-
--- 13
+-- 13; object i's element as a state
 unfoldable pub readStateUnder : Plan → List ℕ → ℕ → Verdict Element
 readStateUnder p A i =
     then (readImage p A) λ a.
     refusalAt 13 i unless ltb i (length (p .kinds)) ⨾
-    done (stateAt p a i)
+    done (stateOf (kindAt (p .kinds) i) (getD (a .words) i 0))
 
 unfoldable pub readStateCall : List ℕ → List ℕ → ℕ → Verdict Element
 readStateCall T A i = then (readPlan T) λ p. readStateUnder p A i

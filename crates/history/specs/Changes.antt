@@ -1,8 +1,9 @@
 -- "Change list: 4-byte from position, 4-byte to position, 2-byte entry count; per entry a 2-byte object number, the old element, the new
 -- element. Numbers ascend strictly; old differs from new."
-use Prim.Native.Nat.{ℕ, zero, suc, _+_, _-_}
-use mathlib.Core.Bool.{not}
-use mathlib.Core.List.{List, [], _∷_, _++_}
+use Prim.Native.Nat.{ℕ, zero, suc, _+_, _-_, _^_, _<_}
+use mathlib.Core.Bool.{not, Bool, true, cond, _&&_}
+use mathlib.Core.List.{List, [], _∷_, _++_, map, zipWith}
+use mathlib.Core.Path.{_≡_}
 use lib.Dec.{eqb, leb, ltb}
 use lib.ListN.{length, take, drop, replicate}
 use Rattle.kinds.specs.Kinds.{widthOf}
@@ -13,7 +14,7 @@ use Rattle.history.specs.declared.Change.the-variants.{Keep as keep, Swa
 use Rattle.history.specs.Verdict.{Verdict, done, then, refusal, refusalAt, _unless_⨾_}
 use Rattle.history.specs.Form.{formBytes, readForm}
 use Rattle.history.specs.Table.{Plan, kindAt, sameCatalogue}
-use Rattle.history.specs.Image.{element, _of_⨾_}
+use Rattle.history.specs.Image.{element, _of_⨾_, Image, admits, Every}
 
 -- two positions, and what the list says of each object in table order: the entries are the swaps, each with its object's number
 pub record Changes : Type 0 where
@@ -107,3 +108,97 @@ readList p b =
     refusal 9 unless sameCatalogue f p ⨾
     then (readEntries (p .kinds) 0 (number (take 2 (drop 8 (f .contents)))) (drop 10 (f .contents))) λ cs.
     done (record { from = number (take 4 (f .contents)); to = number (take 4 (drop 4 (f .contents))); each = cs })
+
+-- ---- what a list may hold: "old differs from new"
+
+-- old and new are elements of the kind, and differ
+abbrev pub lawful : Kind → Change → Bool
+lawful k keep = true
+lawful k (swap old new) = admits k old && (admits k new && not (eqb old new))
+
+pub record LegalList (p : Plan) (l : Changes) : Type 0 where
+  pub from : l .from < 2 ^ 32
+  pub to : l .to < 2 ^ 32
+  pub each : Every lawful (p .kinds) (l .each)
+
+-- accepted bytes, as of an image
+pub record AcceptedList (p : Plan) (L : List ℕ) : Type 0 where
+  pub list : Changes
+  pub legal : LegalList p list
+  pub reads : readList p L ≡ done list
+  pub same : L ≡ listBytes p list
+
+-- "Meaning of a list: it applies to an image whose position is its from position and whose named elements are the old ones. The result has
+-- the to position and the new elements, all else equal." (Joins and turning back are quoted at their definitions.)
+
+-- ---- one object
+
+-- an entry where the two differ
+abbrev pub differ : ℕ → ℕ → Change
+differ a b = cond (eqb a b) keep (swap a b)
+
+-- the named element is the old one
+abbrev pub fits : Change → ℕ → Bool
+fits keep a = true
+fits (swap old new) a = eqb old a
+
+-- the new element; all else equal
+abbrev pub after : Change → ℕ → ℕ
+after keep a = a
+after (swap old new) a = new
+
+-- in both: the first's new is the second's old
+abbrev pub meets : Change → Change → Bool
+meets keep d = true
+meets (swap old new) keep = true
+meets (swap old new) (swap old′ new′) = eqb new old′
+
+-- "an object in both has the first's old and the second's new and is dropped if these are equal; an object in one is copied"
+abbrev pub joined : Change → Change → Change
+joined keep d = d
+joined (swap old new) keep = swap old new
+joined (swap old new) (swap old′ new′) = differ old new′
+
+-- swaps old with new
+abbrev pub back : Change → Change
+back keep = keep
+back (swap old new) = swap new old
+
+-- ---- all objects (lists of one length)
+
+-- refused at the lowest object, counted from i, at which the test fails
+abbrev pub lowest : {A B C : Type 0} → ℕ → (A → B → Bool) → ℕ → List A → List B → C → Verdict C
+lowest code test i [] ys c = done c
+lowest code test i (x ∷ xs) [] c = done c
+lowest code test i (x ∷ xs) (y ∷ ys) c = refusalAt code i unless test x y ⨾ lowest code test (suc i) xs ys c
+
+-- ---- the four operations
+
+-- the list from one image to another
+unfoldable pub difference : Image → Image → Changes
+difference a b = record { from = a .position; to = b .position; each = zipWith differ (a .words) (b .words) }
+
+-- the result has the to position and the new elements, all else equal
+abbrev pub resultOf : Changes → Image → Image
+resultOf l a = record { version = a .version; position = l .to; words = zipWith after (l .each) (a .words) }
+
+-- 16 late, 17 gap, 18
+unfoldable pub applied : Changes → Image → Verdict Image
+applied l a =
+    refusal 16 unless leb (a .position) (l .from) ⨾
+    refusal 17 unless leb (l .from) (a .position) ⨾
+    lowest 18 fits 0 (l .each) (a .words) (resultOf l a)
+
+-- "the join of two lists goes from the first's start to the second's end"
+abbrev pub jointOf : Changes → Changes → Changes
+jointOf l m = record { from = l .from; to = m .to; each = zipWith joined (l .each) (m .each) }
+
+-- 19, 20
+unfoldable pub join : Changes → Changes → Verdict Changes
+join l m =
+    refusal 19 unless eqb (l .to) (m .from) ⨾
+    lowest 20 meets 0 (l .each) (m .each) (jointOf l m)
+
+-- "turning back swaps positions, and old with new"
+unfoldable pub turned : Changes → Changes
+turned l = record { from = l .to; to = l .from; each = map back (l .each) }

@@ -1,8 +1,9 @@
 -- "Image: a 4-byte position, then each object's element in table order."
-use Prim.Native.Nat.{ℕ, suc, _+_}
-use mathlib.Core.Bool.{Bool}
+use Prim.Native.Nat.{ℕ, suc, _+_, _^_, _<_}
+use mathlib.Core.Bool.{Bool, true, false, _&&_}
 use mathlib.Core.List.{List, [], _∷_, _++_}
-use lib.Dec.{eqb}
+use mathlib.Core.Path.{_≡_}
+use lib.Dec.{eqb, ltb}
 use lib.ListN.{length, take, drop}
 use Rattle.rows.specs.declared.Finding.{Finding}
 use Rattle.rows.specs.declared.Refusal.{Refusal}
@@ -76,3 +77,30 @@ readImage p b =
     refusal 8 unless eqb (length (f .contents)) (elementsFrom (f .version) + widths (p .kinds)) ⨾
     then (readWords 0 (p .kinds) (drop (elementsFrom (f .version)) (f .contents))) λ ws.
     done (record { version = f .version; position = number (take 4 (f .contents)); words = ws })
+
+-- ---- what an image may hold: "any other value is refused"
+
+abbrev pub isAccepted : Finding → Bool
+isAccepted Finding.Accepted = true
+isAccepted (Finding.Refused r) = false
+
+-- the number fits the kind's bytes and is an element of it
+abbrev pub admits : Kind → ℕ → Bool
+admits k w = ltb w (256 ^ widthOf k) && isAccepted (element k w)
+
+-- as long as one another, and the test holds at each place
+pub data Every {A B : Type 0} (test : A → B → Bool) : List A → List B → Type 0 where
+  nil : Every test [] []
+  and : {a : A} {b : B} {xs : List A} {ys : List B} → test a b ≡ true → Every test xs ys → Every test (a ∷ xs) (b ∷ ys)
+
+pub record LegalImage (p : Plan) (a : Image) : Type 0 where
+  pub version : imageVersionGood (a .version) ≡ true
+  pub position : a .position < 2 ^ 32
+  pub words : Every admits (p .kinds) (a .words)
+
+-- accepted bytes: what they are read as, and that they are what would be written for it
+pub record AcceptedImage (p : Plan) (A : List ℕ) : Type 0 where
+  pub image : Image
+  pub legal : LegalImage p image
+  pub reads : readImage p A ≡ done image
+  pub same : A ≡ imageBytes p image

@@ -3,7 +3,5 @@ pub mod Form
 pub mod Table
 pub mod Image
 pub mod Changes
-pub mod Operations
 pub mod Calls
-pub mod Legal
 pub mod Standing

@@ -47,11 +47,8 @@ pub record Received : Type 0 where
   pub output : List ℕ
   pub standing : Standing
 
-abbrev pub receivedAs : Outcome → Standing → Received
-receivedAs o s = record { answer = o .answer; output = o .output; standing = counted (o .answer .code) s }
-
 unfoldable pub receiveCall : List ℕ → List ℕ → List ℕ → List ℕ → Standing → Received
-receiveCall T A L out s = receivedAs (settled (applyCall T A L) out) s
+receiveCall T A L out s = let o : Outcome = settled (applyCall T A L) out in record { answer = o .answer; output = o .output; standing = counted (o .answer .code) s }
 
 -- ---- "While none has reached it, the four sum to the receive calls since fresh."
 

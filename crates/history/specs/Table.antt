@@ -1,8 +1,9 @@
 -- "Table: after X, Y a 2-byte object count (0 to 1,024), then per object its type (1 byte), label length (1 byte, 1 to 32) and label.
 -- Objects are numbered from 0. By section 6, no two objects share both type and label."
-use Prim.Native.Nat.{ℕ, zero, suc, _+_}
+use Prim.Native.Nat.{ℕ, zero, suc, _+_, _≤_, _<_}
 use mathlib.Core.Bool.{Bool, true, false, cond, not, _&&_, _||_}
 use mathlib.Core.List.{List, [], _∷_, _++_, map}
+use mathlib.Core.Path.{_≡_}
 use lib.Dec.{eqb, leb, ltb}
 use lib.ListN.{length, take, drop, getD}
 use Rattle.elements.specs.Elements.{carried, kindOf}
@@ -110,6 +111,22 @@ readTable b =
     refusal 4 unless leb (number (take 2 (f .contents))) 1024 ⨾
     then (readObjects (f .version) (f .x) [] (number (take 2 (f .contents))) (drop 2 (f .contents))) λ os.
     done (record { version = f .version; x = f .x; y = f .y; objects = os })
+
+-- ---- what a table may hold: bytes are accepted exactly where they are written of such (`table-form` of proofs/Demands)
+
+pub record LegalObject (version x : ℕ) (o : Object) : Type 0 where
+  pub type : carried x (o .type) ≡ true
+  pub some : 1 ≤ length (o .label)
+  pub few : length (o .label) ≤ labelLimit version
+  pub good : labelGood (o .label) ≡ true
+
+-- no two objects share both type and label
+pub record LegalTable (t : Table) : Type 0 where
+  pub version : versionGood (t .version) ≡ true
+  pub catalogue : catalogueGood (t .x) (t .y) ≡ true
+  pub count : length (t .objects) ≤ 1024
+  pub each : (i : ℕ) → i < length (t .objects) → LegalObject (t .version) (t .x) (object t i)
+  pub distinct : (i j : ℕ) → i < j → j < length (t .objects) → object t i ≡ object t j → ⊥
 
 -- ---- what the other forms go by: X and Y, and each object's kind
 

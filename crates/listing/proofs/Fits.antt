@@ -20,9 +20,8 @@ use Rattle.kinds.specs.declared.Kind.{Kind}
 use Rattle.elements.specs.Elements.{carried, kindOf}
 use Rattle.elements.proofs.TypeLaws.{every-carried}
 use Rattle.history.specs.Verdict.{Verdict, refused, done}
-use Rattle.history.specs.Table.{Object, Table, object, labelLimit, planOf, readTable}
+use Rattle.history.specs.Table.{Object, Table, object, labelLimit, planOf, readTable, LegalTable}
 use Rattle.history.specs.Image.{Image, readImage}
-use Rattle.history.specs.Legal.{LegalTable}
 use Rattle.history.proofs.TableLaws.{nobody, table-is}
 use Rattle.history.proofs.VerdictLaws.{used, held}
 use Rattle.text.specs.Decimal.{decimalIn, decimal}

@@ -13,10 +13,9 @@ use Rattle.elements.specs.Elements.{kindOf}
 use Rattle.history.specs.declared.Answer.{Answer}
 use Rattle.history.specs.Verdict.{Verdict, refused, done, then, unnamed, told, settled, Leaves}
 use Rattle.history.specs.Form.{formBytes}
-use Rattle.history.specs.Table.{Object, Table, Plan, objectsBytes, tableBytes, readTable, planOf}
-use Rattle.history.specs.Image.{Image, wordsBytes, readImage}
+use Rattle.history.specs.Table.{Object, Table, Plan, objectsBytes, tableBytes, readTable, planOf, LegalTable}
+use Rattle.history.specs.Image.{Image, wordsBytes, readImage, Every, admits}
 use Rattle.history.specs.Calls.{readPlan, imageCall}
-use Rattle.history.specs.Legal.{LegalTable, Every, admits}
 use Rattle.history.proofs.VerdictLaws.{used}
 use Rattle.history.proofs.TableLaws.{table-is, plan-fair}
 use Rattle.history.proofs.CodeLaws.{image-coded, zero-told}

@@ -13,8 +13,7 @@ use Rattle.octets.proofs.NumberLaws.{length-bytes, take-bytes, drop-bytes}
 use Rattle.kinds.specs.Kinds.{widthOf}
 use Rattle.kinds.specs.declared.Kind.{Kind}
 use Rattle.history.specs.Table.{Object, objectsBytes, kindAt}
-use Rattle.history.specs.Image.{wordsBytes}
-use Rattle.history.specs.Legal.{Every, and, admits}
+use Rattle.history.specs.Image.{wordsBytes, Every, and, admits}
 use Rattle.heads.specs.Heads.{objectsPlace, elementsIn}
 use Rattle.tables.specs.Outlines.{kindsOf}
 use Rattle.forms.proofs.KindLaws.{length-kinds, kinds-next, kinds-end}

@@ -8,7 +8,7 @@ use mathlib.Core.Path.{_≡_, sym, ap, _∙_}
 use mathlib.Core.List.{List, _++_}
 use lib.ListN.{length, take, drop}
 use borrow.Author.Tests.{le-leb}
-use Rattle.octets.specs.Octets.{Bytes, number}
+use Rattle.octets.specs.Octets.{Bytes}
 use Rattle.kinds.specs.declared.Element.{Element}
 use Rattle.history.specs.declared.Answer.{Answer}
 use Rattle.history.specs.Verdict.{Verdict, refused, done, then, unnamed, settled}
@@ -18,7 +18,9 @@ use Rattle.history.specs.Calls.{readPlan, imageCall, readStateUnder, readStateC
 use Rattle.history.proofs.CodeLaws.{write-call-coded, Delivered, delivered}
 use Rattle.history.proofs.Demands.{write-then-read, others-stay, read-then-write}
 use Rattle.history.proofs.OutputLaws.{Ran, refusal-stays}
-use Rattle.history.proofs.ImageLaws.{image-is, image-position}
+use Rattle.history.proofs.ImageLaws.{image-is}
+use Rattle.heads.specs.Heads.{positionIn}
+use Rattle.heads.proofs.Parts.{written-position}
 use Rattle.history.proofs.VerdictLaws.{used}
 use Rattle.panel.specs.declared.read.Reading.{Reading}
 use Rattle.panel.specs.Readings.{readingOf}
@@ -33,15 +35,15 @@ unfolding readingOf
 state-read (refused r) e q = absurd (let z : _≡_ {A = ℕ} 0 1 = cc in omega arith)
 state-read (done s) e q = cc
 
--- .. was read from an accepted image, whose position stands in its bytes 7 to 10
+-- .. was read from an accepted image, whose position stands in its bytes
 read-image : (T A : List ℕ) (i : ℕ) (e : Element) → Bytes A → readStateCall T A i ≡ done e
-    → (a : Image) × (imageCall T A ≡ done a) × (a .position ≡ number (take 4 (drop 7 A)))
+    → (a : Image) × (imageCall T A ≡ done a) × (a .position ≡ positionIn A)
 unfolding readStateCall readStateUnder imageCall
 read-image T A i e h q =
     let t = used (readPlan T) _ q in
     let a = used (readImage (t .0) A) _ (t .2) in
     let w = image-is (t .0) A h (a .1) in
-    (a .0, ap (λ (v : Verdict Plan). then v (λ p. readImage p A)) (t .1) ∙ a .1, sym (ap (λ (b : List ℕ). number (take 4 (drop 7 b))) (w .1) ∙ image-position (w .0)))
+    (a .0, ap (λ (v : Verdict Plan). then v (λ p. readImage p A)) (t .1) ∙ a .1, sym (ap positionIn (w .1) ∙ written-position (w .0)))
 
 module _ (T A : List ℕ) (i : ℕ) (e : Element) (position : ℕ) {out : List ℕ} {r : Answer} {m : List ℕ} (w : Ran (writeStateCall T A i e position) out r m) where
   -- a refusal writes no output
@@ -68,10 +70,10 @@ module _ (T A : List ℕ) (i : ℕ) (e : Element) (position : ℕ) {out : List �
 
 -- what was read, written at the image's own position where there is room, gives the image's bytes
 pub write-after-read : (T A : List ℕ) (i : ℕ) (e : Element) (out : List ℕ) {r : Answer} {m : List ℕ} → Bytes A → Read T A i (Reading.State e) → length A ≤ length out
-    → Ran (writeStateCall T A i e (number (take 4 (drop 7 A)))) out r m → (r ≡ unnamed 0 (length A)) × (m ≡ A ++ drop (length A) out)
+    → Ran (writeStateCall T A i e (positionIn A)) out r m → (r ≡ unnamed 0 (length A)) × (m ≡ A ++ drop (length A) out)
 unfolding settled
 write-after-read T A i e out h q room w =
     let v = state-read (readStateCall T A i) e q in
     let a = read-image T A i e h v in
-    let same : writeStateCall T A i e (number (take 4 (drop 7 A))) ≡ done A = ap (writeStateCall T A i e) (sym (a .2)) ∙ read-then-write T A i h (a .1) v in
+    let same : writeStateCall T A i e (positionIn A) ≡ done A = ap (writeStateCall T A i e) (sym (a .2)) ∙ read-then-write T A i h (a .1) v in
     (rw (le-leb (length A) (length out) room) at (rw same at (w .leaves .0)), rw (le-leb (length A) (length out) room) at (rw same at (w .leaves .1)))

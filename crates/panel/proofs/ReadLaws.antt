@@ -19,10 +19,10 @@ use Rattle.elements.specs.Elements.{stateRead, stateOf}
 use Rattle.history.specs.declared.Answer.{Answer}
 use Rattle.history.specs.Verdict.{naming, Verdict, refused, done, then, refusalAt, _unless_⨾_, numbers, told}
 use Rattle.history.specs.Table.{kindAt}
-use Rattle.history.specs.Image.{readImage}
-use Rattle.history.specs.Calls.{stateAt, readStateUnder, readStateCall}
-use Rattle.history.specs.Legal.{admits, Every, nil, and, AcceptedImage}
+use Rattle.history.specs.Image.{readImage, admits, Every, nil, and, AcceptedImage}
+use Rattle.history.specs.Calls.{readStateUnder, readStateCall}
 use Rattle.history.proofs.ElementLaws.{admits-read}
+use Rattle.history.proofs.StateLaws.{stateAt}
 use Rattle.tables.specs.Outlines.{kindsOf, planAs, Outlined}
 use Rattle.tables.specs.declared.answers.Outline.{Outline}
 use Rattle.tables.proofs.AnswerLaws.{told-first}

@@ -21,9 +21,8 @@ use Rattle.elements.specs.Elements.{sameKind, elementCheck, wordOf}
 use Rattle.history.specs.declared.Answer.{Answer}
 use Rattle.history.specs.Verdict.{naming, done, then, numbers, unnamed, told}
 use Rattle.history.specs.Table.{kindAt}
-use Rattle.history.specs.Image.{element, foundIn, _of_⨾_, readImage, imageBytes, widths}
+use Rattle.history.specs.Image.{element, foundIn, _of_⨾_, readImage, imageBytes, widths, AcceptedImage}
 use Rattle.history.specs.Calls.{placed, checkState, writeStateUnder, writeStateCall}
-use Rattle.history.specs.Legal.{AcceptedImage}
 use Rattle.history.proofs.CodeLaws.{state-coded, zero-told}
 use Rattle.history.proofs.StateLaws.{Taken, state-taken}
 use Rattle.history.proofs.ImageLaws.{length-words}

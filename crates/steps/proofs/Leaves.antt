@@ -14,8 +14,7 @@ use Rattle.octets.specs.Octets.{bytes, number}
 use Rattle.octets.proofs.Writing.{start, append-put, filled}
 use Rattle.history.specs.declared.Change.{Change}
 use Rattle.history.specs.declared.Change.the-variants.{Keep as keep, Swap as swap}
-use Rattle.history.specs.Changes.{entries}
-use Rattle.history.specs.Operations.{differ, meets, joined, back}
+use Rattle.history.specs.Changes.{entries, differ, meets, joined, back}
 use Rattle.steps.specs.declared.Walk.{Walk}
 use Rattle.steps.specs.Steps.{span, entryBytes, names, countIf, sizeIf, saidIf, changeAt, isSwap, stepOf, Stepped, Silent, Idle, renewed}
 

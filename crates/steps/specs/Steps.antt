@@ -9,7 +9,7 @@ use lib.ListN.{length, take, drop}
 use Rattle.octets.specs.Octets.{bytes, number}
 use Rattle.history.specs.declared.Change.{Change}
 use Rattle.history.specs.declared.Change.the-variants.{Keep as keep, Swap as swap}
-use Rattle.history.specs.Operations.{differ, meets, joined, back}
+use Rattle.history.specs.Changes.{differ, meets, joined, back}
 use Rattle.steps.specs.declared.Walk.{Walk}
 
 -- the bytes that an object's entry takes, and the entry itself

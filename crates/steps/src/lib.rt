@@ -8,7 +8,7 @@ ghost use Prim.Native.Nat.{_+_, _≤_, _<_};
 ghost use lib.ListN.{length, drop};
 ghost use Rattle.kinds.specs.Kinds.{widthOf};
 ghost use Rattle.history.specs.Table.{kindAt};
-ghost use Rattle.history.specs.Operations.{differ, fits, meets, joined, back};
+ghost use Rattle.history.specs.Changes.{differ, fits, meets, joined, back};
 ghost use Rattle.tables.specs.Outlines.{kindsOf};
 ghost use Rattle.steps.specs.Steps.{span, entryBytes, names, countIf, sizeIf, saidIf, changeAt, isSwap, Silent, Idle, renewed};
 

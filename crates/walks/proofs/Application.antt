@@ -18,7 +18,7 @@ use Rattle.history.specs.declared.Change.{Change}
 use Rattle.history.specs.declared.Change.the-variants.{Keep as keep, Swap as swap}
 use Rattle.history.specs.Table.{kindAt}
 use Rattle.history.specs.Image.{widths}
-use Rattle.history.specs.Operations.{fits}
+use Rattle.history.specs.Changes.{fits}
 use Rattle.octets.proofs.NumberLaws.{length-bytes}
 use Rattle.octets.proofs.Writing.{Filling, begin, along, keeps, write, ended, untouched}
 use Rattle.tables.specs.Outlines.{kindsOf}

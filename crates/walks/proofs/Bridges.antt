@@ -15,11 +15,9 @@ use Rattle.kinds.specs.Kinds.{widthOf}
 use Rattle.kinds.specs.declared.Kind.{Kind}
 use Rattle.history.specs.declared.Change.{Change}
 use Rattle.history.specs.declared.Change.the-variants.{Keep as keep, Swap as swap}
-use Rattle.history.specs.Changes.{entriesBytes, entries}
-use Rattle.history.specs.Image.{wordsBytes}
+use Rattle.history.specs.Changes.{entriesBytes, entries, lawful, differ, fits, meets, joined, back, after, lowest}
+use Rattle.history.specs.Image.{wordsBytes, Every, nil, and, admits}
 use Rattle.history.specs.Verdict.{Verdict, done, refusalAt, _unless_⨾_}
-use Rattle.history.specs.Operations.{differ, fits, meets, joined, back, after, lowest}
-use Rattle.history.specs.Legal.{Every, nil, and, admits, lawful}
 use Rattle.octets.proofs.NumberLaws.{length-bytes, take-bytes, drop-bytes, read-bytes}
 use Rattle.history.proofs.ChangeLaws.{lawful-swap}
 use Rattle.history.proofs.ElementLaws.{admits-fits}

@@ -14,8 +14,7 @@ use Rattle.kinds.specs.declared.Kind.{Kind}
 use Rattle.history.specs.declared.Change.{Change}
 use Rattle.history.specs.Table.{kindAt}
 use Rattle.history.specs.Image.{widths}
-use Rattle.history.specs.Changes.{entriesBytes}
-use Rattle.history.specs.Operations.{differ, meets, joined, back}
+use Rattle.history.specs.Changes.{entriesBytes, differ, meets, joined, back}
 use Rattle.tables.specs.Outlines.{kindsOf}
 use Rattle.forms.proofs.KindLaws.{kinds-next}
 use Rattle.steps.specs.declared.Walk.{Walk}

@@ -9,8 +9,7 @@ use Rattle.octets.specs.Octets.{number}
 use Rattle.kinds.specs.Kinds.{widthOf}
 use Rattle.kinds.specs.declared.Kind.{Kind}
 use Rattle.history.specs.declared.Change.{Change}
-use Rattle.history.specs.Changes.{entriesBytes, entries}
-use Rattle.history.specs.Operations.{fits}
+use Rattle.history.specs.Changes.{entriesBytes, entries, fits}
 use Rattle.history.specs.Image.{widths}
 use Rattle.tables.specs.Outlines.{kindsOf}
 use Rattle.steps.specs.declared.Walk.{Walk}

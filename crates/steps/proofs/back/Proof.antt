@@ -2,7 +2,7 @@
 -- Assumes nothing.
 use mathlib.Core.Path.{sym, ap}
 use borrow.Author.Needs.{needs}
-use Rattle.history.specs.Operations.{back}
+use Rattle.history.specs.Changes.{back}
 use Rattle.steps.proofs.back.Statement.{statement}
 use Rattle.steps.proofs.back.Tie as tie
 

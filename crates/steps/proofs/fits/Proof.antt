@@ -3,7 +3,7 @@
 use mathlib.Core.Path.{sym, ap}
 use borrow.Author.Needs.{needs}
 use Rattle.history.specs.declared.Change.{Change}
-use Rattle.history.specs.Operations.{fits}
+use Rattle.history.specs.Changes.{fits}
 use Rattle.steps.proofs.fits.Statement.{statement}
 use Rattle.steps.proofs.fits.Tie as tie
 
