@@ -5,10 +5,10 @@ use mathlib.Core.Bool.{Bool, true, false, cond}
 use mathlib.Core.List.{List}
 use Prim.Native.Nat.{ℕ, _+_, _%_, _<_, _≤_}
 use borrow.Author.Tests.{ne-eqb}
-use lib.ListN.{take, drop, replicate}
+use lib.ListN.{take, drop}
 use Rattle.octets.specs.Octets.{number}
 use Rattle.rows.specs.Table.{rowTotal, rowsFrom}
-use Rattle.rows.specs.Fields.{codeAt, checkRows, valuesOf, composeOf, padded, onFinding, fieldsRead}
+use Rattle.rows.specs.Fields.{codeAt, checkRows, composeOf, padded, onFinding, fieldsRead}
 use Rattle.rows.specs.Marks.{Shows}
 use Rattle.rows.specs.declared.Refusal.{Refusal}
 use Rattle.rows.specs.declared.Fields.{Fields}
@@ -16,7 +16,7 @@ use Rattle.rows.specs.declared.Finding.{Finding}
 use Rattle.rows.specs.declared.Layout.{Layout}
 use Rattle.kinds.specs.Kinds.{layoutOf, widthOf, rowsOf, elementOf, elementValues, kindIn}
 use Rattle.kinds.specs.Glances.{Glanced}
-use Rattle.elements.specs.Elements.{datRule, elementCheck, stateOf, stateRead, wordOf}
+use Rattle.elements.specs.Elements.{datRule, elementCheck, stateRead, wordOf}
 use Rattle.kinds.specs.declared.Kind.{Kind}
 use Rattle.kinds.specs.declared.Element.{Element}
 use Rattle.kinds.specs.declared.Glance.{Glance}

@@ -18,7 +18,7 @@ use Rattle.octets.specs.Octets.{number}
 use Rattle.elements.specs.Elements.{carried, kindOf, elementCheck}
 use Rattle.history.specs.declared.Answer.{Answer}
 use Rattle.history.specs.declared.Standing.{Standing}
-use Rattle.history.specs.Verdict.{Verdict, refused, done, numbers, unnamed, told, settled, Leaves}
+use Rattle.history.specs.Verdict.{Verdict, refused, done, numbers, unnamed, told, Leaves}
 use Rattle.history.specs.Table.{catalogueGood, Object, Table, objectBytes, objectsBytes, labelLimit, readTable, LegalTable}
 use Rattle.history.specs.Image.{element, foundIn, _of_⨾_}
 use Rattle.history.specs.Calls.{readStateCall, Place, labelPlace, labelCall}

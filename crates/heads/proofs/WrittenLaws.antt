@@ -4,7 +4,7 @@ use Prim.Native.Nat.{ℕ, _+_, _-_, _≤_}
 use native.Mathlib.Omega.{arith}
 use mathlib.Core.Path.{_≡_, refl, sym, ap, ap₂, _∙_}
 use mathlib.Core.List.{List, [], _∷_, _++_, append-assoc}
-use lib.ListN.{length, take, drop, getD, set, length-append, List·getD-append}
+use lib.ListN.{length, take, drop, set, length-append, List·getD-append}
 use lib.Seq.{drop-drop, drop-at, take-append-le, take-take, getD-take, length-take-le}
 use borrow.Rule.Slice.PartMut.{putMid, midOf, mid-len}
 use Rattle.octets.specs.Octets.{bytes}

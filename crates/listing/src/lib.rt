@@ -9,7 +9,6 @@ use lines::put_refusal;
 use tables::refused;
 use tables::short;
 use tables::written;
-ghost use mathlib.Core.Path.{_≡_};
 ghost use Prim.Native.Nat.{_≤_};
 ghost use lib.ListN.{length};
 ghost use Rattle.history.specs.Verdict.{done, Leaves};

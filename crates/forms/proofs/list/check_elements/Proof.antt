@@ -1,8 +1,6 @@
 -- `forms::list::check_elements` meets its contract: each return is what the tests so far decide.
 -- Assumes nothing.
-use native.Mathlib.Omega.{arith}
 use borrow.Author.Needs.{needs}
-use Rattle.history.proofs.ElementLaws.{width-few}
 use Rattle.forms.proofs.ListEntryLaws.{refuses, elements-cut, old-bad, new-bad, both-good}
 use Rattle.forms.proofs.list.check_elements.Statement.{statement}
 use Rattle.forms.proofs.list.check_elements.Tie as tie
