@@ -9,6 +9,7 @@ use lib.ListN.{length, replicate}
 use lib.Pow.{pow-mono, pow-pos}
 use Rattle.rows.specs.Fields.{checkRows, valuesOf, composeOf, padded, onFinding}
 use Rattle.rows.specs.declared.Finding.{Finding}
+use Rattle.rows.specs.declared.Refusal.{Refusal}
 use Rattle.rows.proofs.Words.{Within, compose-values, compose-bound, values-compose}
 use Rattle.rows.proofs.Listed.{listed-within, listed-from, accepted-within, within-accepted, zero-accepted, compose-append}
 use Rattle.kinds.specs.Kinds.{widthOf, rowsOf, elementOf, elementValues, kindIn}
@@ -76,6 +77,15 @@ word-state-word k w h ok = fields-word k w h (accepted-fields k w ok)
 pub accepted-state : (k : Kind) (w : ℕ) → elementCheck k w ≡ Finding.Accepted → stateRead k w ≡ stateOf k w
 unfolding stateRead stateOf
 accepted-state k w ok = ap (λ (f : Finding). elementOf k (onFinding f (padded (valuesOf w (rowsOf k))) (λ r. replicate 24 0))) (accepted-fields k w ok)
+
+-- .. so a legal state, written and read, is that state
+pub read-written : (e : Element) → elementCheck (kindIn e) (wordOf e) ≡ Finding.Accepted → stateRead (kindIn e) (wordOf e) ≡ e
+read-written e ok = accepted-state (kindIn e) (wordOf e) ok ∙ state-word-state e
+
+-- .. and those of a number with a refused field as zeros
+pub refused-state : (k : Kind) (w : ℕ) {r : Refusal} → checkRows w (rowsOf k) ≡ Finding.Refused r → stateRead k w ≡ elementOf k (replicate 24 0)
+unfolding stateRead
+refused-state k w bad = ap (λ (f : Finding). elementOf k (onFinding f (padded (valuesOf w (rowsOf k))) (λ r. replicate 24 0))) bad
 
 -- ---- what is found of a state's own number
 

@@ -3,7 +3,7 @@
 use Prim.Native.Nat.{ℕ}
 use mathlib.Core.Path.{_≡_}
 use mathlib.Core.List.{List}
-use Rattle.history.specs.Verdict.{Verdict, told, settled}
+use Rattle.history.specs.Verdict.{Verdict, told}
 use Rattle.history.specs.Calls.{tableCall, imageCall, listCall, readStateCall, labelCall, differenceCall, applyCall, joinCall, turnCall}
 use Rattle.history.proofs.OneOutcome.{one-outcome, one-pair}
 use Rattle.tables.specs.LabelPlaces.{labelTold}
@@ -13,16 +13,12 @@ use Rattle.listing.specs.Listing.{listingCall}
 use Rattle.fields.specs.Fields.{plainOf}
 use Rattle.fields.specs.Calls.{writeFieldsCall}
 use Rattle.history.specs.Standing.{talliesOf}
-use Rattle.gateway.specs.Slots.{answerSlots, readSlots, fieldsAfter, labelSlots, standingIn}
+use Rattle.gateway.specs.Slots.{answerSlots, LeavesSlots, readSlots, fieldsAfter, labelSlots, standingIn}
 use Rattle.gateway.specs.Calls.{elementCall}
 
 -- a call that fills the eight numbers alone
 abbrev pub Fills : {A : Type 0} → Verdict A → List ℕ → Type 0
 Fills v a = a ≡ answerSlots (told v)
-
--- a call that writes: the eight numbers, and the output at the end
-abbrev pub Writes : Verdict (List ℕ) → List ℕ → List ℕ → List ℕ → Type 0
-Writes v out a m = (a ≡ answerSlots (settled v out .answer)) × (m ≡ settled v out .output)
 
 -- reading a state: its fields, and the eight numbers
 abbrev pub Reads : List ℕ → List ℕ → ℕ → List ℕ → List ℕ → List ℕ → Type 0
@@ -54,22 +50,22 @@ module _ {a a′ : List ℕ} where
 
   module _ (out : List ℕ) {m m′ : List ℕ} where
     pub one-write-state : (T A : List ℕ) (i kind : ℕ) (fields : List ℕ) (position : ℕ)
-        → Writes (writeFieldsCall T A i kind fields position) out a m → Writes (writeFieldsCall T A i kind fields position) out a′ m′ → (a ≡ a′) × (m ≡ m′)
+        → LeavesSlots (writeFieldsCall T A i kind fields position) out a m → LeavesSlots (writeFieldsCall T A i kind fields position) out a′ m′ → (a ≡ a′) × (m ≡ m′)
     one-write-state T A i kind fields position = one-pair
 
-    pub one-difference : (T A B : List ℕ) → Writes (differenceCall T A B) out a m → Writes (differenceCall T A B) out a′ m′ → (a ≡ a′) × (m ≡ m′)
+    pub one-difference : (T A B : List ℕ) → LeavesSlots (differenceCall T A B) out a m → LeavesSlots (differenceCall T A B) out a′ m′ → (a ≡ a′) × (m ≡ m′)
     one-difference T A B = one-pair
 
-    pub one-apply : (T A L : List ℕ) → Writes (applyCall T A L) out a m → Writes (applyCall T A L) out a′ m′ → (a ≡ a′) × (m ≡ m′)
+    pub one-apply : (T A L : List ℕ) → LeavesSlots (applyCall T A L) out a m → LeavesSlots (applyCall T A L) out a′ m′ → (a ≡ a′) × (m ≡ m′)
     one-apply T A L = one-pair
 
-    pub one-join : (T L M : List ℕ) → Writes (joinCall T L M) out a m → Writes (joinCall T L M) out a′ m′ → (a ≡ a′) × (m ≡ m′)
+    pub one-join : (T L M : List ℕ) → LeavesSlots (joinCall T L M) out a m → LeavesSlots (joinCall T L M) out a′ m′ → (a ≡ a′) × (m ≡ m′)
     one-join T L M = one-pair
 
-    pub one-turn-back : (T L : List ℕ) → Writes (turnCall T L) out a m → Writes (turnCall T L) out a′ m′ → (a ≡ a′) × (m ≡ m′)
+    pub one-turn-back : (T L : List ℕ) → LeavesSlots (turnCall T L) out a m → LeavesSlots (turnCall T L) out a′ m′ → (a ≡ a′) × (m ≡ m′)
     one-turn-back T L = one-pair
 
-    pub one-listing : (input : List ℕ) → Writes (listingCall input) out a m → Writes (listingCall input) out a′ m′ → (a ≡ a′) × (m ≡ m′)
+    pub one-listing : (input : List ℕ) → LeavesSlots (listingCall input) out a m → LeavesSlots (listingCall input) out a′ m′ → (a ≡ a′) × (m ≡ m′)
     one-listing input = one-pair
 
     pub one-receive : (T A L tallies : List ℕ) {k k′ : List ℕ} → Receives T A L out tallies a m k → Receives T A L out tallies a′ m′ k′ → (a ≡ a′) × ((m ≡ m′) × (k ≡ k′))

@@ -98,7 +98,3 @@ module _ {p : Plan} {L : List ℕ} (l : AcceptedList p L) where
   -- the positions and the count are inside
   pub list-inside : entriesPlace ≤ length L
   list-inside = rw (l .same) (list-long p (l .list))
-
-pub entries-length : (L : List ℕ) → length (entriesIn L) ≡ length L - entriesPlace
-unfolding entriesIn
-entries-length L = length-drop entriesPlace L

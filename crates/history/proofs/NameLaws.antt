@@ -34,6 +34,12 @@ use Rattle.history.proofs.TableLaws.{table-is}
 use Rattle.history.proofs.ElementLaws.{was-accepted, refuses-as}
 use Rattle.history.proofs.ListLaws.{entryAt, was-numbered, was-checked, head-at}
 
+-- a state of a kind is of that kind, whatever its number
+own-kind : (k : Kind) (w : ℕ) {s : Element} → done (stateOf k w) ≡ done s → kindIn s ≡ k
+own-kind k w {s} e =
+    let s-is : s ≡ stateOf k w = cc e in
+    ap kindIn s-is ∙ state-kind k w
+
 -- ---- the paper's table
 
 -- the codes that name nothing; an object; a number that was handed in, which is an object's. Beside these, 13 and those of elements
@@ -404,8 +410,7 @@ module _ (T : List ℕ) where
       let q₁ = used (readImage p A) _ (q .2) in
       let q₂ = held (ltb i (length (p .kinds))) _ _ (q₁ .2) in
       let l : i < length (p .kinds) = ltb-true _ _ (q₂ .0) in
-      let s-is : s ≡ stateOf (kindAt (p .kinds) i) (getD (q₁ .0 .words) i 0) = cc (q₂ .1) in
-      rw (q .1, ← plan-count T (q .1)) (l, l, ap kindIn s-is ∙ state-kind (kindAt (p .kinds) i) _)
+      rw (q .1, ← plan-count T (q .1)) (l, l, own-kind _ _ (q₂ .1))
 
 -- ---- the numbers given back: success and 21 name nothing
 

@@ -1,5 +1,5 @@
 -- "Change list: 4-byte from position, 4-byte to position, 2-byte entry count; per entry a 2-byte object number, the old element, the new
--- element. Numbers ascend strictly; old differs from new."
+-- element. Numbers ascend strictly; old differs from new." Its bytes, what it may hold, and what the four operations make of it.
 use Prim.Native.Nat.{ℕ, zero, suc, _+_, _-_, _^_, _<_}
 use mathlib.Core.Bool.{not, Bool, true, cond, _&&_}
 use mathlib.Core.List.{List, [], _∷_, _++_, map, zipWith}

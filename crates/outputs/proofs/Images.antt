@@ -60,13 +60,10 @@ module _ (ns b : List ℕ) (h : length b ≡ imageHead b + widths (kindsOf ns)) 
   few-bytes few = omega (arith, head-few b, length-kinds ns, widths-few (kindsOf ns))
 
   module _ (place : ℕ) (e : place ≡ imageHead b) where
-    pub begins-inside : place ≤ length b
+    begins-inside : place ≤ length b
     begins-inside = omega arith
 
     -- a list's entries are taken into the elements
-    pub part-sized : length (midOf place (length b - place) b) ≡ widths (kindsOf ns)
-    part-sized = ap length (elements-from b place e) ∙ elements-long
-
     module _ (to : ℕ) (entries : List ℕ) {es : List ℕ} (q : es ≡ renewal 0 (kindsOf ns) entries (midOf place (length b - place) b)) where
       after : putMid place (length b - place) b es ≡ take (imageHead b) b ++ renewal 0 (kindsOf ns) entries (elementsIn b)
       after =

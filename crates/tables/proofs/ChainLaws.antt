@@ -41,11 +41,11 @@ pub record Last (b : List ℕ) (h n l : ℕ) : Type 0 where
   pub is : (i : ℕ) → l ≡ suc i → hash b i ≡ h
 
 -- k entries are passed: the last of each hash; for each entry the last of its hash before it, and where it begins
-pub record Chained (b : List ℕ) (k : ℕ) (heads links starts : List ℕ) : Type 0 where
-  pub heads-room : length heads ≡ 1024
+pub record Chained (b : List ℕ) (k : ℕ) (lasts links starts : List ℕ) : Type 0 where
+  pub lasts-room : length lasts ≡ 1024
   pub links-room : length links ≡ 1024
   pub starts-room : length starts ≡ 1024
-  pub head : (h : ℕ) → h < 1024 → Last b h k (getD heads h 0)
+  pub head : (h : ℕ) → h < 1024 → Last b h k (getD lasts h 0)
   pub link : (i : ℕ) → i < k → Last b (hash b i) i (getD links i 0)
   pub start : (i : ℕ) → i < k → getD starts i 0 ≡ placeOf b i
   pub none : k ≤ 0 → (getD links 0 0 ≡ 0) × (getD starts 0 0 ≡ 0)
@@ -54,7 +54,7 @@ pub chain-begins : (b : List ℕ) → Chained b 0 (replicate 1024 0) (replicate 
 chain-begins b =
     let zero-at : (i : ℕ) → i < 1024 → getD (replicate {A = ℕ} 1024 0) i 0 ≡ 0 = λ i l. getD-replicate {A = ℕ} 1024 i 0 0 l in
     record {
-      heads-room = length-replicate {A = ℕ} 1024 0;
+      lasts-room = length-replicate {A = ℕ} 1024 0;
       links-room = length-replicate {A = ℕ} 1024 0;
       starts-room = length-replicate {A = ℕ} 1024 0;
       head = λ h l. rw (zero-at h l) (record { low = omega arith; skip = λ i lo hi. absurd (omega arith); is = λ i e. absurd (omega arith) });
@@ -74,9 +74,9 @@ module _ (b : List ℕ) (k : ℕ) where
     is = p .is;
   }
 
-module _ {b : List ℕ} {k : ℕ} {heads links starts : List ℕ} (c : Chained b k heads links starts) where
+module _ {b : List ℕ} {k : ℕ} {lasts links starts : List ℕ} (c : Chained b k lasts links starts) where
   -- what the chains hold, of the j-th entry and where there is none, is lower and stands before the next place
-  pub head-low : (h : ℕ) → h < 1024 → getD heads h 0 ≤ k
+  pub head-low : (h : ℕ) → h < 1024 → getD lasts h 0 ≤ k
   head-low h l = c .head h l .low
 
   module _ (j : ℕ) (m : j ≤ k) where
@@ -92,13 +92,13 @@ module _ {b : List ℕ} {k : ℕ} {heads links starts : List ℕ} (c : Chained b
 
   -- an entry more, of hash h, at its place
   pub chain-next : k < 1024 → (h at : ℕ) → h ≡ hash b k → at ≡ placeOf b k
-      → Chained b (k + 1) (set heads h (k + 1)) (set links k (getD heads h 0)) (set starts k at)
+      → Chained b (k + 1) (set lasts h (k + 1)) (set links k (getD lasts h 0)) (set starts k at)
   chain-next few h at e p = record {
-    heads-room = length-set heads h (k + 1) ∙ c .heads-room;
-    links-room = length-set links k (getD heads h 0) ∙ c .links-room;
+    lasts-room = length-set lasts h (k + 1) ∙ c .lasts-room;
+    links-room = length-set links k (getD lasts h 0) ∙ c .links-room;
     starts-room = length-set starts k at ∙ c .starts-room;
     head = λ x l. head-at x l (eqb x h) refl;
-    link = λ i l. ⊎-elim (λ s. link-here i s) (λ lt. rw (getD-set-other links k i (getD heads h 0) 0 (λ s. omega arith)) (c .link i lt)) (let y : i ≤ k = omega arith in eq-or-lt-of-le y);
+    link = λ i l. ⊎-elim (λ s. link-here i s) (λ lt. rw (getD-set-other links k i (getD lasts h 0) 0 (λ s. omega arith)) (c .link i lt)) (let y : i ≤ k = omega arith in eq-or-lt-of-le y);
     start = λ i l. ⊎-elim (λ s. rw s (getD-set-same starts k at 0 (omega (arith, c .starts-room)) ∙ p)) (λ lt. getD-set-other starts k i at 0 (λ s. omega arith) ∙ c .start i lt) (let y : i ≤ k = omega arith in eq-or-lt-of-le y);
     none = λ l. absurd (omega arith);
   }
@@ -106,13 +106,13 @@ module _ {b : List ℕ} {k : ℕ} {heads links starts : List ℕ} (c : Chained b
       small : h < 1024
       small = omega (arith, hash-few b (placeOf b k))
 
-      head-at : (x : ℕ) → x < 1024 → (t : Bool) → eqb x h ≡ t → Last b x (k + 1) (getD (set heads h (k + 1)) x 0)
+      head-at : (x : ℕ) → x < 1024 → (t : Bool) → eqb x h ≡ t → Last b x (k + 1) (getD (set lasts h (k + 1)) x 0)
       head-at x l true t =
           let s : x ≡ h = eqb-true x h t in
-          rw (s, getD-set-same heads h (k + 1) 0 (omega (arith, c .heads-room)), e) (last-here b k)
+          rw (s, getD-set-same lasts h (k + 1) 0 (omega (arith, c .lasts-room)), e) (last-here b k)
       head-at x l false t =
           let n = eqb-false x h t in
-          rw (getD-set-other heads h x (k + 1) 0 n) (last-other b k x (getD heads x 0) (λ f. n (f ∙ sym e)) (c .head x l))
+          rw (getD-set-other lasts h x (k + 1) 0 n) (last-other b k x (getD lasts x 0) (λ f. n (f ∙ sym e)) (c .head x l))
 
-      link-here : (i : ℕ) → i ≡ k → Last b (hash b i) i (getD (set links k (getD heads h 0)) i 0)
-      link-here i s = rw (s, getD-set-same links k (getD heads h 0) 0 (omega (arith, c .links-room)), ← e) (c .head h small)
+      link-here : (i : ℕ) → i ≡ k → Last b (hash b i) i (getD (set links k (getD lasts h 0)) i 0)
+      link-here i s = rw (s, getD-set-same links k (getD lasts h 0) 0 (omega (arith, c .links-room)), ← e) (c .head h small)

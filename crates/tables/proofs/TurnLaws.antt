@@ -42,9 +42,9 @@ unfolding placeOf
 walk-begins b count at h e = record { bound = omega arith; place = e; inside = omega arith; near = omega (arith, objects-place); left = entries-are b count h ∙ ap (λ (n : ℕ). entriesCheck b n 0) (sym (sub-zero count)) }
 
 -- the entry at the cursor is good but for repeats; of those before it the j-th has its hash, and all from there on are unlike it
-pub record Searching (b : List ℕ) (count k at size own : ℕ) (heads links starts : List ℕ) (j : ℕ) : Type 0 where
+pub record Searching (b : List ℕ) (count k at size own : ℕ) (lasts links starts : List ℕ) (j : ℕ) : Type 0 where
   pub walking : Walking b count k at
-  pub chained : Chained b k heads links starts
+  pub chained : Chained b k lasts links starts
   pub more : k < count
   pub next : ℕ
   pub good : checkObjectAt b at k ≡ done next
@@ -81,8 +81,8 @@ module _ {b : List ℕ} {count k at : ℕ} (w : Walking b count k at) where
         entered : (next : ℕ) × (checkObjectAt b at k ≡ done next) × (own ≡ hashAt b at)
         entered = was-found b at k r-is e
 
-        pub search-begins : (size : ℕ) → size ≡ 2 + getD b (at + 1) 0 → {heads links starts : List ℕ} → Chained b k heads links starts → Searching b count k at size own heads links starts (getD heads own 0)
-        search-begins size s {heads} c =
+        pub search-begins : (size : ℕ) → size ≡ 2 + getD b (at + 1) 0 → {lasts links starts : List ℕ} → Chained b k lasts links starts → Searching b count k at size own lasts links starts (getD lasts own 0)
+        search-begins size s {lasts} c =
             let o : own ≡ hash b k = entered .2 ∙ ap (hashAt b) (w .place) in
             let l = c .head own (found-few b at k r-is e) in
             record {
@@ -96,8 +96,8 @@ module _ {b : List ℕ} {count k at : ℕ} (w : Walking b count k at) where
               own-is = o;
               few = found-few b at k r-is e;
               passed = l .low;
-              before = link-low c (getD heads own 0) (l .low);
-              inside = start-low c (getD heads own 0) (l .low) at (w .place);
+              before = link-low c (getD lasts own 0) (l .low);
+              inside = start-low c (getD lasts own 0) (l .low) at (w .place);
               linked = λ i f. l .is i f ∙ o;
               unlike = λ i lo hi. other-hash b i k (λ f. l .skip i lo hi (f ∙ sym o));
             }
@@ -114,7 +114,7 @@ module _ {b : List ℕ} {count k at : ℕ} (w : Walking b count k at) where
     unfolding entriesCheck told
     end-good e = rw (none, ← w .place, eq-eqb _ _ e)
 
-module _ {b : List ℕ} {count k at size own : ℕ} {heads links starts : List ℕ} {j : ℕ} (s : Searching b count k at size own heads links starts j) where
+module _ {b : List ℕ} {count k at size own : ℕ} {lasts links starts : List ℕ} {j : ℕ} (s : Searching b count k at size own lasts links starts j) where
   is-after : objectsIn b count ≡ after b count k
   is-after = turn (s .walking) (s .more) ∙ ap (λ (v : Verdict ℕ). then v (λ next. after b count k)) (s .good)
 
@@ -130,7 +130,7 @@ module _ {b : List ℕ} {count k at size own : ℕ} {heads links starts : List �
         left = is-after ∙ rw r;
       }
 
-  pub chained-next : k < 1024 → Chained b (k + 1) (set heads own (k + 1)) (set links k (getD heads own 0)) (set starts k at)
+  pub chained-next : k < 1024 → Chained b (k + 1) (set lasts own (k + 1)) (set links k (getD lasts own 0)) (set starts k at)
   chained-next few = chain-next (s .chained) few own at (s .own-is) (s .walking .place)
 
   -- the j-th entry is compared with the one at the cursor
@@ -166,7 +166,7 @@ module _ {b : List ℕ} {count k at size own : ℕ} {heads links starts : List �
           let m : i ≤ j - 1 = omega arith in
           ⊎-elim (λ f. rw f (same-no both d)) (λ lt. other-hash b i k (λ f. link .skip i lo lt (f ∙ sym same-hash))) (eq-or-lt-of-le m)
 
-      goes : Searching b count k at size own heads links starts (getD links (j - 1) 0)
+      goes : Searching b count k at size own lasts links starts (getD links (j - 1) 0)
       goes = record {
         walking = s .walking;
         chained = s .chained;
@@ -184,14 +184,14 @@ module _ {b : List ℕ} {count k at size own : ℕ} {heads links starts : List �
         unlike = λ i lo hi. unlike-at i lo hi (leb j i) refl;
       }
 
-    pub goes-by-type : (getD b was 0 ≡ getD b at 0 → ⊥) → Searching b count k at size own heads links starts (getD links (j - 1) 0)
+    pub goes-by-type : (getD b was 0 ≡ getD b at 0 → ⊥) → Searching b count k at size own lasts links starts (getD links (j - 1) 0)
     goes-by-type d = goes (λ x. d (x .type))
 
-    pub goes-by-byte : (i : ℕ) → 1 < i → i < size → (getD b (was + i) 0 ≡ getD b (at + i) 0 → ⊥) → Searching b count k at size own heads links starts (getD links (j - 1) 0)
+    pub goes-by-byte : (i : ℕ) → 1 < i → i < size → (getD b (was + i) 0 ≡ getD b (at + i) 0 → ⊥) → Searching b count k at size own lasts links starts (getD links (j - 1) 0)
     goes-by-byte i low l d = goes (λ x. d (x .byte i low (omega (arith, s .size-is))))
 
     module _ (n : ℕ) (e : n ≡ 2 + getD b (was + 1) 0) where
-      pub goes-by-size : (n ≡ size → ⊥) → Searching b count k at size own heads links starts (getD links (j - 1) 0)
+      pub goes-by-size : (n ≡ size → ⊥) → Searching b count k at size own lasts links starts (getD links (j - 1) 0)
       goes-by-size d = goes (λ x. d (omega (arith, x .size, s .size-is)))
 
       module _ (z : n ≡ size) where

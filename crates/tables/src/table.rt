@@ -48,13 +48,13 @@ pub fn check_table(table: &[u8]) -> Answer
 // Per entry its check, then 7; last 8. The search for an earlier object with the same type and label goes by the earlier entries of the
 // same hash, the last first, and is left at the first that repeats. Two entries are compared by their types, their lengths, and then their
 // labels from the last byte to the first: the labels of a station begin alike.
-// For each hash `heads` has the last entry of it, for each entry `links` has the one of its hash before it and `starts` its place. An
+// For each hash `lasts` has the last entry of it, for each entry `links` has the one of its hash before it and `starts` its place. An
 // entry stands there by one more than its number; 0 is none.
 fn check_entries(table: &[u8], count: usize) -> Answer
     requires { ⌜ (objectsPlace ≤ length (now table)) × (count ≤ 1024) ⌝ }
     ensures { λ r. ⌜ r ≡ told (objectsIn (now (table .entry)) count) ⌝ }
 {
-    let mut heads = [0u16; 1024];
+    let mut lasts = [0u16; 1024];
     let mut links = [0u16; 1024];
     let mut starts = [0u16; 1024];
     let mut k = 0;
@@ -70,7 +70,7 @@ fn check_entries(table: &[u8], count: usize) -> Answer
             }
         }
         let size = entry_size(table, at);
-        let mut j = heads[hash] as usize;
+        let mut j = lasts[hash] as usize;
         'earlier: while 0 < j {
             let e = j - 1;
             let was = starts[e] as usize;
@@ -90,11 +90,11 @@ fn check_entries(table: &[u8], count: usize) -> Answer
             }
             break 'entries;
         }
-        links[k] = heads[hash];
+        links[k] = lasts[hash];
         starts[k] = at as u16;
         at = at + size;
         k += 1;
-        heads[hash] = k as u16;
+        lasts[hash] = k as u16;
     }
     if k < count {
         return refused_at(7, k as u16);

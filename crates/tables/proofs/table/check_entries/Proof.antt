@@ -15,22 +15,22 @@ use Rattle.tables.proofs.table.check_entries.Statement.{statement}
 use Rattle.tables.proofs.table.check_entries.Tie as tie
 
 abbrev Inv-bytes : tie.InvT-bytes
-Inv-bytes table count heads links starts k at hash size j e was i₀ i = (i < size) × (was + size ≤ length table) × Agree table was at i size
+Inv-bytes table count lasts links starts k at hash size j e was i₀ i = (i < size) × (was + size ≤ length table) × Agree table was at i size
 
 abbrev μ-bytes : tie.MeasureT-bytes
-μ-bytes table count heads links starts k at hash size j e was i₀ i = i
+μ-bytes table count lasts links starts k at hash size j e was i₀ i = i
 
 abbrev Inv-earlier : tie.InvT-earlier
-Inv-earlier table count heads links starts k at hash size j₀ j = Searching table count k at size hash heads links starts j
+Inv-earlier table count lasts links starts k at hash size j₀ j = Searching table count k at size hash lasts links starts j
 
 abbrev μ-earlier : tie.MeasureT-earlier
-μ-earlier table count heads links starts k at hash size j₀ j = j
+μ-earlier table count lasts links starts k at hash size j₀ j = j
 
 abbrev Inv-entries : tie.InvT-entries
-Inv-entries table count heads₀ links₀ starts₀ k₀ at₀ heads links starts k at = Walking table count k at × Chained table k heads links starts
+Inv-entries table count heads₀ links₀ starts₀ k₀ at₀ lasts links starts k at = Walking table count k at × Chained table k lasts links starts
 
 abbrev μ-entries : tie.MeasureT-entries
-μ-entries table count heads₀ links₀ starts₀ k₀ at₀ heads links starts k at = count - k
+μ-entries table count heads₀ links₀ starts₀ k₀ at₀ lasts links starts k at = count - k
 
 mul-j : tie.Need-mul-j Inv-bytes μ-bytes Inv-earlier μ-earlier Inv-entries μ-entries
 mul-j c = omega (arith, found-few _ _ _ (c .before .before .before .before .check-entry .ensures) (c .before .before .own .given .1))
