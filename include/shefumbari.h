@@ -72,7 +72,7 @@ void shefumbari_receive(const uint8_t *table, size_t table_len, const uint8_t *i
                         const uint8_t *list, size_t list_len, uint8_t *out, size_t out_len, uint32_t standing[4],
                         uint32_t answer[8]);
 
-/* Writes to out the panel as text: data is a table and its image, one behind the other. 1 too where data is over 65,536
+/* Writes to out the panel as text: data is a table followed by its image. 1 too where data is over 65,536
    bytes or ends inside its table. 65,536 bytes of out fit every text. */
 void shefumbari_listing(const uint8_t *data, size_t data_len, uint8_t *out, size_t out_len, uint32_t answer[8]);
 

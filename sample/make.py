@@ -1,5 +1,5 @@
 #!/usr/bin/env python3
-"""Writes from each station's text, NAME.txt, what stands beside it: NAME.bin, the table and its image one behind the other, and
+"""Writes from each station's text, NAME.txt, what stands beside it: NAME.bin, the table followed by its image, and
 NAME.listing, the text that the listing program has to write. The elements in the text are made by hand from the norm's annexes, and
 the listing is made from the text: neither is the program's. Other texts: make.py FILE.."""
 import glob

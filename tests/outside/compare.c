@@ -112,7 +112,7 @@ static void damage_forms(struct request *request)
     *(which == 0 ? &request->table : which == 1 ? &request->first : &request->second) = form;
 }
 
-/* Table and image one behind the other; now and then cut, lengthened, or as long as data may be and one more. */
+/* A table followed by its image; now and then cut, lengthened, or as long as data may be and one more. */
 static void join_data(struct request *request)
 {
     static struct form data;

@@ -40,7 +40,7 @@ pub fn read_fields(table: &[u8], image: &[u8], object: u16) -> Plain
     plain_of(read_state(table, image, object))
 }
 
-// The image with an object's state, handed in as numbers, and the position anew, at the front of the output.
+// The image with an object's new state, handed in as numbers, and the new position, at the front of the output.
 pub fn write_fields(
     table: &[u8],
     image: &[u8],

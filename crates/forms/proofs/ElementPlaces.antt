@@ -38,7 +38,7 @@ over-long at bs l h = simp (length-append, length-take, length-drop) (omega arit
 -- ---- the elements
 
 module _ (w : ℕ) where
-  -- all elements, with object i's anew
+  -- all elements, with a new one for object i
   pub words-over : {ks : List Kind} {ws : List ℕ} → Every admits ks ws → (i : ℕ) → i < length ks
       → over (widths (take i ks)) (bytes (widthOf (kindAt ks i)) w) (wordsBytes ks ws) ≡ wordsBytes ks (set ws i w)
   words-over nil i l = absurd (omega arith)

@@ -35,7 +35,7 @@ pub fn check_image(table: &[u8], image: &[u8]) -> Answer
     check_image_under(x, y, first_kinds(&known.kinds, count), image)
 }
 
-// The same, under what is known of the table.
+// Under an accepted table's X, Y and layout numbers, so that a call with several forms reads the table once.
 pub fn check_image_under(x: u8, y: u8, kinds: &[u8], image: &[u8]) -> Answer
     requires { ⌜ length (now kinds) ≤ 1024 ⌝ }
     ensures { λ r. ⌜ r ≡ told (readImage (planAs x y (now (kinds .entry))) (now (image .entry))) ⌝ }

@@ -37,7 +37,7 @@ pub fn check_list(table: &[u8], list: &[u8]) -> Answer
     check_list_under(x, y, first_kinds(&known.kinds, count), list)
 }
 
-// The same, under what is known of the table.
+// Under an accepted table's X, Y and layout numbers, so that a call with several forms reads the table once.
 pub fn check_list_under(x: u8, y: u8, kinds: &[u8], list: &[u8]) -> Answer
     requires { ⌜ length (now kinds) ≤ 1024 ⌝ }
     ensures { λ r. ⌜ r ≡ told (readList (planAs x y (now (kinds .entry))) (now (list .entry))) ⌝ }

@@ -185,7 +185,7 @@ pub extern "C" fn shefumbari_receive(
 
 // ---- the listing
 
-// The text of a table and its image one behind the other.
+// The text of a table followed by its image.
 #[no_mangle]
 pub extern "C" fn shefumbari_listing(input: &[u8], out: &mut [u8], answer: &mut [u32; 8])
     ensures { λ _. ⌜ LeavesSlots (listingCall (now (input .entry))) (now (out .entry)) (now (answer .exit)) (now (out .exit)) ⌝ }

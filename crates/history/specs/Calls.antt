@@ -85,7 +85,7 @@ checkState ks i state =
     element (kindAt ks i) (wordOf state) of i ⨾
     done (wordOf state)
 
--- the image with object i's word and the position anew
+-- the image with another word for object i, and another position
 abbrev pub placed : Image → ℕ → ℕ → ℕ → Image
 placed a i w position = record { version = a .version; position = position; words = set (a .words) i w }
 

@@ -20,7 +20,7 @@ use Rattle.history.proofs.VerdictLaws.{used}
 use Rattle.listing.specs.Listing.{readBoth, tableSize, readPanel, refusedLine, panelText, textOf, listingCall, printed, listingOf}
 use Rattle.listing.proofs.PanelLaws.{both-told}
 
--- ---- table and image, one behind the other
+-- ---- a table followed by its image
 
 table-fills : (t : List ℕ) {table : Table} → tableCall t ≡ done table → (4 ≤ length t) × (length t ≡ 4 + number (take 4 t))
 unfolding tableCall readTable
@@ -65,7 +65,7 @@ both-read : (t a : List ℕ) {table : Table} {image : Image} → tableCall t ≡
 unfolding tableCall imageCall readPlan readBoth printed
 both-read t a e f = let g = rw e at f in rw (e, g)
 
--- an accepted table and image, one behind the other
+-- an accepted table followed by an accepted image
 pub panel-printed : (t a : List ℕ) {table : Table} {image : Image} → length t + length a ≤ 65536 → tableCall t ≡ done table → imageCall t a ≡ done image
     → listingOf (t ++ a) ≡ panelText table image
 panel-printed t a few e f = let w = table-fills t e in listed-is t a (w .0) (w .1) few ∙ both-read t a e f

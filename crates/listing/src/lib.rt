@@ -1,4 +1,4 @@
-// The floor of the listing: from a table and an image, one behind the other, to their text in a lent buffer. It uses the checks of
+// The floor of the listing: from a table followed by its image to their text in a lent buffer. It uses the checks of
 // forms and the writers of text; it keeps nothing, and writes nothing but the text.
 mod both;
 mod lines;

@@ -47,7 +47,7 @@ pub fn read_state(table: &[u8], image: &[u8], object: u16) -> Reading
     read_under(x, y, first_kinds(&known.kinds, count), image, object)
 }
 
-// The same, under what is known of the table.
+// Under an accepted table's X, Y and layout numbers: the image, then the object's number.
 fn read_under(x: u8, y: u8, kinds: &[u8], image: &[u8], object: u16) -> Reading
     requires { ⌜ length (now kinds) ≤ 1024 ⌝ }
     ensures { λ r. ⌜ r ≡ readingOf (readStateUnder (planAs x y (now (kinds .entry))) (now (image .entry)) object) ⌝ }

@@ -18,7 +18,7 @@ ghost use Rattle.history.specs.Verdict.{told, Leaves};
 ghost use Rattle.history.specs.Calls.{checkState, writeStateUnder, writeStateCall};
 ghost use Rattle.tables.specs.Outlines.{kindsOf, planAs};
 
-// The image with an object's state and the position anew, at the front of the output.
+// The image with an object's new state and the new position, at the front of the output.
 pub fn write_state(
     table: &[u8],
     image: &[u8],
@@ -49,7 +49,7 @@ pub fn write_state(
     )
 }
 
-// The same, under what is known of the table.
+// Under an accepted table's X, Y and layout numbers: the image, then the state, then the room.
 fn write_under(
     x: u8,
     y: u8,

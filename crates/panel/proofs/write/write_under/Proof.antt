@@ -1,4 +1,4 @@
--- `panel::write::write_under` meets its contract: the image's refusal, then the state's, then the image with its element anew.
+-- `panel::write::write_under` meets its contract: the image's refusal, then the state's, then the image with its new element.
 -- Assumes nothing.
 use native.Mathlib.Omega.{arith}
 use Rattle.history.proofs.OutputLaws.{leaves-as, told-leaves}
