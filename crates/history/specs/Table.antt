@@ -112,7 +112,7 @@ readTable b =
     then (readObjects (f .version) (f .x) [] (number (take 2 (f .contents))) (drop 2 (f .contents))) λ os.
     done (record { version = f .version; x = f .x; y = f .y; objects = os })
 
--- ---- what a table may hold: bytes are accepted exactly where they are written of such (`table-form` of proofs/Demands)
+-- ---- what a table may hold: bytes are accepted exactly where they are written of such (`table-exactly` of proofs/Demands)
 
 pub record LegalObject (version x : ℕ) (o : Object) : Type 0 where
   pub type : carried x (o .type) ≡ true
