@@ -3,13 +3,13 @@
 use Prim.Native.Nat.{ℕ, zero, suc, _+_, _-_, _≤_, _<_}
 use native.Mathlib.Omega.{arith}
 use mathlib.Core.Path.{_≡_, refl, sym, ap, subst, _∙_}
-use mathlib.Core.Bool.{Bool, true, false, cond, not, _&&_, _||_}
+use mathlib.Core.Bool.{Bool, true, false, not, _&&_, _||_}
 use mathlib.Core.List.{List, [], _∷_, _++_}
 use mathlib.Core.Logic.{_⊎_, inl, inr}
 use lib.Dec.{eqb, leb, ltb}
 use lib.ListN.{length, take, drop, getD, replicate, length-append, length-drop, length-map, length-replicate}
 use lib.Seq.{drop-drop}
-use borrow.Author.Tests.{leb-true, ltb-true, ltb-false}
+use borrow.Author.Tests.{leb-true, leb-false, ltb-true, ltb-false}
 use Rattle.rows.specs.declared.Finding.{Finding}
 use Rattle.rows.specs.declared.Refusal.{Refusal}
 use Rattle.kinds.specs.Kinds.{widthOf, kindIn}
@@ -20,7 +20,7 @@ use Rattle.elements.proofs.Findings.{Refuses}
 use Rattle.elements.proofs.Laws.{state-kind}
 use Rattle.octets.specs.Octets.{number}
 use Rattle.history.specs.declared.Answer.{Answer}
-use Rattle.history.specs.Verdict.{Refused, naming, Verdict, refused, done, then, _unless_⨾_, Outcome, numbers, unnamed, told, settled}
+use Rattle.history.specs.Verdict.{Refused, naming, Verdict, refused, done, then, _unless_⨾_, numbers, unnamed, told, settled}
 use Rattle.history.specs.Form.{isWhole, readForm}
 use Rattle.history.specs.Table.{Object, Plan, versionGood, catalogueGood, labelLimit, labelGood, repeats, ObjectEntry, objectAt, checkObject, readObjects, readTable, planOf, kindAt, sameCatalogue}
 use Rattle.history.specs.Image.{Image, imageVersionGood, element, foundIn, _of_⨾_, widths, readWords, elementsFrom, readImage}
@@ -29,6 +29,7 @@ use Rattle.history.specs.declared.Change.the-variants.{Keep as keep, Swa
 use Rattle.history.specs.Changes.{Changes, listVersion, Entry, readNumber, readElements, checkEntry, readEntries, readList, fits, meets, lowest, applied, join}
 use Rattle.history.specs.Calls.{readPlan, tableCall, imageCall, listCall, differenceUnder, differenceCall, applyUnder, applyCall, joinUnder, joinCall, turnUnder, turnCall, readStateUnder, readStateCall, checkState, writeStateUnder, writeStateCall, labelCall}
 use Rattle.history.proofs.VerdictLaws.{held, used}
+use Rattle.history.proofs.OutputLaws.{succeeds, too-short, refusal-told}
 use Rattle.history.proofs.FormLaws.{form-contents}
 use Rattle.history.proofs.TableLaws.{table-is}
 use Rattle.history.proofs.ElementLaws.{was-accepted, refuses-as}
@@ -427,10 +428,9 @@ module _ {P : Refused → Type 0} where
   told-names (done a) h = (success, refl)
 
   pub settled-names : (v : Verdict (List ℕ)) (out : List ℕ) → Named P v → Tells P (settled v out .answer)
-  unfolding settled
-  settled-names (refused r) out h = refusal (h .names refl)
-  settled-names (done b) out h = go (leb (length b) (length out))
+  settled-names (refused r) out h = rw (refusal-told r out refl .0) (refusal (h .names refl))
+  settled-names (done b) out h = go (leb (length b) (length out)) refl
     where
-      go : (u : Bool) → Tells P (cond {A = Outcome} u (record { answer = unnamed 0 (length b); output = b ++ drop (length b) out }) (record { answer = unnamed 21 (length b); output = out }) .answer)
-      go true = success
-      go false = short
+      go : (u : Bool) → leb (length b) (length out) ≡ u → Tells P (settled (done b) out .answer)
+      go true e = rw (succeeds {b = b} out refl (leb-true _ _ e) .answer) success
+      go false e = rw (too-short {b = b} out refl (leb-false _ _ e) .0) short
