@@ -1,4 +1,4 @@
--- What stands where in the bytes of a form: its X and Y, and the parts behind them.
+-- Where each part of a form is in its bytes: X and Y, and the parts after them.
 use Prim.Native.Nat.{ℕ, _+_}
 use mathlib.Core.Bool.{Bool, _&&_}
 use mathlib.Core.List.{List}
@@ -7,7 +7,7 @@ use lib.ListN.{getD, take, drop}
 use Rattle.octets.specs.Octets.{number}
 use Rattle.history.specs.Image.{elementsFrom}
 
--- X and Y are x and y
+-- the form's X and Y are x and y
 unfoldable pub isUnder : ℕ → ℕ → List ℕ → Bool
 isUnder x y b = eqb (getD b 5 0) x && eqb (getD b 6 0) y
 
@@ -27,11 +27,11 @@ objectsPlace = 9
 
 -- ---- an image
 
--- where its elements begin, by the version byte
+-- where its elements begin, given its version byte
 unfoldable pub elementsPlace : ℕ → ℕ
 elementsPlace version = 7 + elementsFrom version
 
--- .. by its own
+-- where they begin in this image
 unfoldable pub imageHead : List ℕ → ℕ
 imageHead b = elementsPlace (getD b 4 0)
 
@@ -53,7 +53,7 @@ fromIn b = number (take 4 (drop 7 b))
 unfoldable pub toIn : List ℕ → ℕ
 toIn b = number (take 4 (drop 11 b))
 
--- how many entries it has
+-- how many entries it says it has
 unfoldable pub entryCountIn : List ℕ → ℕ
 entryCountIn b = number (take 2 (drop 15 b))
 

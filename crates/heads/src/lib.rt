@@ -1,5 +1,5 @@
-// What stands where in the bytes of a form. The parts behind X and Y are read and written here alone: no crate above has an offset of its
-// own for them. It checks no contents and keeps nothing.
+// Where each part of a form is in its bytes. Only this crate knows the offsets of the parts after X and Y. It checks no contents and keeps
+// nothing.
 mod image;
 mod list;
 mod table;

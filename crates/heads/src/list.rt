@@ -20,7 +20,7 @@ pub fn to_of(list: &[u8]) -> u32
     octets::get_at(list, 11, 4)
 }
 
-// How many entries it says it has.
+// How many entries it says it has. Only its check tells whether they are there.
 pub fn entry_count(list: &[u8]) -> usize
     requires { ⌜ entriesPlace ≤ length (now list) ⌝ }
     ensures { λ r. ⌜ r ≡ entryCountIn (now (list .entry)) ⌝ }
@@ -28,7 +28,7 @@ pub fn entry_count(list: &[u8]) -> usize
     octets::get_at(list, 15, 2) as usize
 }
 
-// Its entries.
+// Its entries: all that follows the head.
 pub fn entries_of(list: &[u8]) -> &[u8]
     requires { ⌜ entriesPlace ≤ length (now list) ⌝ }
     ensures { λ r. ⌜ now r ≡ entriesIn (now (list .entry)) ⌝ }

@@ -4,7 +4,7 @@ ghost use Prim.Native.Nat.{_≤_};
 ghost use lib.ListN.{length};
 ghost use Rattle.heads.specs.Heads.{countIn, objectsPlace};
 
-// The object count of a table that has one.
+// How many objects it says it has. Only its check tells whether they are there.
 pub fn object_count(table: &[u8]) -> usize
     requires { ⌜ objectsPlace ≤ length (now table) ⌝ }
     ensures { λ r. ⌜ r ≡ countIn (now (table .entry)) ⌝ }

@@ -12,7 +12,7 @@ pub fn entries_place() -> usize
     17
 }
 
-// Fills the part with a list up to its entries, which are `count` and take `size` bytes.
+// Fills the part with a list's head, for `count` entries of `size` bytes together.
 pub fn put_list_head(part: &mut [u8], x: u8, y: u8, from: u32, to: u32, count: u32, size: u32)
     requires { ⌜ (length (now part) ≡ entriesPlace) × (size ≤ 10240) ⌝ }
     ensures { λ _. ⌜ now (part .exit) ≡ listHead x y from to count size ⌝ }
@@ -23,7 +23,7 @@ pub fn put_list_head(part: &mut [u8], x: u8, y: u8, from: u32, to: u32, count: u
     octets::put(&mut part[15..17], count);
 }
 
-// Fills the part with a list's first seven bytes.
+// Fills the part with a list's first seven bytes: the length `after`, the version, X and Y.
 fn put_opening(part: &mut [u8], after: u32, x: u8, y: u8)
     requires { ⌜ length (now part) ≡ 7 ⌝ }
     ensures { λ _. ⌜ now (part .exit) ≡ opening after x y ⌝ }
@@ -34,7 +34,7 @@ fn put_opening(part: &mut [u8], after: u32, x: u8, y: u8)
     part[6] = y;
 }
 
-// Puts a position into an image.
+// Writes a position into an image; all else stays.
 pub fn put_position(image: &mut [u8], position: u32)
     requires { ⌜ imageHead (now image) ≤ length (now image) ⌝ }
     ensures { λ _. ⌜ now (image .exit) ≡ withElements (now (image .entry)) position (elementsIn (now (image .entry))) ⌝ }

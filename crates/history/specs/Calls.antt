@@ -18,7 +18,7 @@ use Rattle.history.specs.Changes.{Changes, readList, listBytes, differen
 unfoldable pub tableCall : List ℕ → Verdict Table
 tableCall T = readTable T
 
--- what the other forms go by, of an accepted table
+-- the plan of an accepted table, by which the other forms are read
 unfoldable pub readPlan : List ℕ → Verdict Plan
 readPlan T = then (readTable T) λ t. done (planOf t)
 
@@ -28,7 +28,7 @@ imageCall T A = then (readPlan T) λ p. readImage p A
 unfoldable pub listCall : List ℕ → List ℕ → Verdict Changes
 listCall T L = then (readPlan T) λ p. readList p L
 
--- ---- change lists: what the other forms give under a plan; the call reads the table first
+-- ---- change lists: `..Under` reads the other forms by a plan; `..Call` reads the table first
 
 unfoldable pub differenceUnder : Plan → List ℕ → List ℕ → Verdict (List ℕ)
 differenceUnder p A B =
@@ -67,7 +67,7 @@ turnCall T L = then (readPlan T) λ p. turnUnder p L
 
 -- ---- states
 
--- 13; object i's element as a state
+-- 13; then object i's element as a state
 unfoldable pub readStateUnder : Plan → List ℕ → ℕ → Verdict Element
 readStateUnder p A i =
     then (readImage p A) λ a.
@@ -85,7 +85,7 @@ checkState ks i state =
     element (kindAt ks i) (wordOf state) of i ⨾
     done (wordOf state)
 
--- the image with another word for object i, and another position
+-- the image with a new word for object i and a new position
 abbrev pub placed : Image → ℕ → ℕ → ℕ → Image
 placed a i w position = record { version = a .version; position = position; words = set (a .words) i w }
 
@@ -98,7 +98,7 @@ writeStateUnder p A i state position =
 unfoldable pub writeStateCall : List ℕ → List ℕ → ℕ → Element → ℕ → Verdict (List ℕ)
 writeStateCall T A i state position = then (readPlan T) λ p. writeStateUnder p A i state position
 
--- ---- "the label is handed back as the very bytes of the lent table": where it stands in them
+-- ---- "the label is handed back as the very bytes of the lent table": where it is in them
 
 pub record Place : Type 0 where
   pub offset : ℕ
@@ -108,7 +108,7 @@ pub record Place : Type 0 where
 abbrev pub labelPlace : Table → ℕ → Place
 labelPlace t i = record { offset = 9 + (length (objectsBytes (take i (t .objects))) + 2); size = length (object t i .label) }
 
--- 13
+-- 13; then the label's place
 unfoldable pub labelCall : List ℕ → ℕ → Verdict Place
 labelCall T i =
     then (readTable T) λ t.

@@ -1,5 +1,5 @@
 -- "Change list: 4-byte from position, 4-byte to position, 2-byte entry count; per entry a 2-byte object number, the old element, the new
--- element. Numbers ascend strictly; old differs from new." Its bytes, what it may hold, and what the four operations make of it.
+-- element. Numbers ascend strictly; old differs from new." Its bytes, what it may hold, and the four operations.
 use Prim.Native.Nat.{ℕ, zero, suc, _+_, _-_, _^_, _<_}
 use mathlib.Core.Bool.{not, Bool, true, cond, _&&_}
 use mathlib.Core.List.{List, [], _∷_, _++_, map, zipWith}
@@ -16,7 +16,7 @@ use Rattle.history.specs.Form.{formBytes, readForm}
 use Rattle.history.specs.Table.{Plan, kindAt, sameCatalogue}
 use Rattle.history.specs.Image.{element, _of_⨾_, Image, admits, Every}
 
--- two positions, and what the list says of each object in table order: the entries are the swaps, each with its object's number
+-- two positions, and what the list says of each object, in table order. The entries are the swaps, each with its object's number
 pub record Changes : Type 0 where
   pub from : ℕ
   pub to : ℕ
@@ -59,7 +59,7 @@ pub record Entry : Type 0 where
   pub new : ℕ
   pub rest : List ℕ
 
--- the entry of object i, whose elements stand at the front of b
+-- the entry of object i, whose two elements are at the front of b
 abbrev pub entryOf : ℕ → Kind → List ℕ → Entry
 entryOf i k b = record {
   object = i;
@@ -69,7 +69,7 @@ entryOf i k b = record {
   rest = drop (widthOf k) (drop (widthOf k) b);
 }
 
--- the number in front: 8 (cut), 13
+-- an entry's object number: 8 (cut), 13
 unfoldable pub readNumber : List Kind → List ℕ → Verdict ℕ
 readNumber ks b =
     refusal 8 unless leb 2 (length b) ⨾
@@ -84,7 +84,7 @@ readElements i k b =
     element k (entryOf i k b .new) of i ⨾
     done (entryOf i k b)
 
--- an entry whose number is to be at least low: number, 14, elements, 15
+-- an entry whose number must be at least low: number, 14, elements, 15
 unfoldable pub checkEntry : List Kind → ℕ → List ℕ → Verdict Entry
 checkEntry ks low b =
     then (readNumber ks b) λ i.
@@ -93,7 +93,7 @@ checkEntry ks low b =
     refusalAt 15 i unless not (eqb (e .old) (e .new)) ⨾
     done e
 
--- what n entries say of each object from low on; last 8
+-- what n entries say of each object from low on; at the end 8 (bytes left over)
 abbrev pub readEntries : List Kind → ℕ → ℕ → List ℕ → Verdict (List Change)
 readEntries ks low zero b = refusal 8 unless eqb (length b) 0 ⨾ done (replicate (length ks - low) keep)
 readEntries ks low (suc n) b =
@@ -121,7 +121,7 @@ pub record LegalList (p : Plan) (l : Changes) : Type 0 where
   pub to : l .to < 2 ^ 32
   pub each : Every lawful (p .kinds) (l .each)
 
--- accepted bytes, as of an image
+-- accepted bytes: what they are read as, and that writing it gives them back
 pub record AcceptedList (p : Plan) (L : List ℕ) : Type 0 where
   pub list : Changes
   pub legal : LegalList p list
@@ -133,7 +133,7 @@ pub record AcceptedList (p : Plan) (L : List ℕ) : Type 0 where
 
 -- ---- one object
 
--- an entry where the two differ
+-- an entry if the two differ
 abbrev pub differ : ℕ → ℕ → Change
 differ a b = cond (eqb a b) keep (swap a b)
 
@@ -147,7 +147,7 @@ abbrev pub after : Change → ℕ → ℕ
 after keep a = a
 after (swap old new) a = new
 
--- in both: the first's new is the second's old
+-- of an object in both, the first's new is the second's old
 abbrev pub meets : Change → Change → Bool
 meets keep d = true
 meets (swap old new) keep = true
@@ -159,14 +159,14 @@ joined keep d = d
 joined (swap old new) keep = swap old new
 joined (swap old new) (swap old′ new′) = differ old new′
 
--- swaps old with new
+-- old and new exchanged
 abbrev pub back : Change → Change
 back keep = keep
 back (swap old new) = swap new old
 
--- ---- all objects (lists of one length)
+-- ---- all objects (the lists are equally long)
 
--- refused at the lowest object, counted from i, at which the test fails
+-- refused if the test fails at some object; names the lowest such, counted from i
 abbrev pub lowest : {A B C : Type 0} → ℕ → (A → B → Bool) → ℕ → List A → List B → C → Verdict C
 lowest code test i [] ys c = done c
 lowest code test i (x ∷ xs) [] c = done c
@@ -182,7 +182,7 @@ difference a b = record { from = a .position; to = b .position; each = zipWith d
 abbrev pub resultOf : Changes → Image → Image
 resultOf l a = record { version = a .version; position = l .to; words = zipWith after (l .each) (a .words) }
 
--- 16 late, 17 gap, 18
+-- 16 (late), 17 (gap), 18 (old element)
 unfoldable pub applied : Changes → Image → Verdict Image
 applied l a =
     refusal 16 unless leb (a .position) (l .from) ⨾
@@ -193,7 +193,7 @@ applied l a =
 abbrev pub jointOf : Changes → Changes → Changes
 jointOf l m = record { from = l .from; to = m .to; each = zipWith joined (l .each) (m .each) }
 
--- 19, 20
+-- 19 (positions don't meet), 20 (elements don't meet)
 unfoldable pub join : Changes → Changes → Verdict Changes
 join l m =
     refusal 19 unless eqb (l .to) (m .from) ⨾

@@ -21,7 +21,7 @@ formBytes f = bytes 4 (3 + length (f .contents)) ++ (f .version ∷ f .x ∷ f .
 unfoldable pub isWhole : ℕ → List ℕ → Bool
 isWhole least b = leb 4 (length b) && (eqb (length b) (4 + number (take 4 b)) && leb least (number (take 4 b)))
 
--- 1; 2: version byte not good
+-- 1; 2 (version byte)
 unfoldable pub readForm : ℕ → (ℕ → Bool) → List ℕ → Verdict Form
 readForm least good b =
     refusal 1 unless isWhole least b ⨾

@@ -15,7 +15,7 @@ use Rattle.history.specs.Verdict.{Refused, naming, Verdict, refused, don
 use Rattle.history.specs.Form.{formBytes, readForm}
 use Rattle.history.specs.Table.{Plan, sameCatalogue}
 
--- a word for each object: its element's number
+-- a word is an object's element as a number
 pub record Image : Type 0 where
   pub version : ℕ
   pub position : ℕ
@@ -26,21 +26,21 @@ imageVersionGood v = eqb v 1
 
 -- ---- elements
 
--- what is found of an element: fields from bit 0 up (10, 11), then 12
+-- the check of an element: its fields from bit 0 up (10, 11), then 12
 unfoldable pub element : Kind → ℕ → Finding
 element k w = elementCheck k w
 
--- an element's refusal, of object i
+-- an element's refusal, naming object i
 abbrev pub foundIn : Refusal → ℕ → Refused
 foundIn f i = naming (f .code) i (f .bit)
 
--- what is found of an element refuses, naming its object and bit; else the rest decides
+-- an element that is refused refuses, naming its object and bit; else the rest decides
 infixr 5 _of_⨾_
 abbrev pub _of_⨾_ : {A : Type 0} → Finding → ℕ → Verdict A → Verdict A
 Finding.Accepted of i ⨾ rest = rest
 Finding.Refused f of i ⨾ rest = refused (foundIn f i)
 
--- all objects' width in bytes
+-- how many bytes all elements take
 abbrev pub widths : List Kind → ℕ
 widths [] = 0
 widths (k ∷ ks) = widthOf k + widths ks
@@ -57,7 +57,7 @@ imageBytes p a = formBytes (record { version = a .version; x = p .x; y = p .y; c
 
 -- ---- reading
 
--- the elements of the objects from i on
+-- the elements of the objects from i on, as words
 abbrev pub readWords : ℕ → List Kind → List ℕ → Verdict (List ℕ)
 readWords i [] b = done []
 readWords i (k ∷ ks) b =
@@ -65,11 +65,11 @@ readWords i (k ∷ ks) b =
     then (readWords (suc i) ks (drop (widthOf k) b)) λ ws.
     done (number (take (widthOf k) b) ∷ ws)
 
--- where the elements begin in the contents, by the version byte: after the position
+-- where the elements begin in the contents, for a version byte: after the position
 unfoldable pub elementsFrom : ℕ → ℕ
 elementsFrom version = 4
 
--- 1, 2, 9, 8, then elements
+-- 1, 2, 9, 8 (length), then the elements
 unfoldable pub readImage : Plan → List ℕ → Verdict Image
 readImage p b =
     then (readForm 7 imageVersionGood b) λ f.
@@ -88,7 +88,7 @@ isAccepted (Finding.Refused r) = false
 abbrev pub admits : Kind → ℕ → Bool
 admits k w = ltb w (256 ^ widthOf k) && isAccepted (element k w)
 
--- as long as one another, and the test holds at each place
+-- the lists are equally long, and the test holds at each place
 pub data Every {A B : Type 0} (test : A → B → Bool) : List A → List B → Type 0 where
   nil : Every test [] []
   and : {a : A} {b : B} {xs : List A} {ys : List B} → test a b ≡ true → Every test xs ys → Every test (a ∷ xs) (b ∷ ys)
@@ -98,7 +98,7 @@ pub record LegalImage (p : Plan) (a : Image) : Type 0 where
   pub position : a .position < 2 ^ 32
   pub words : Every admits (p .kinds) (a .words)
 
--- accepted bytes: what they are read as, and that they are what would be written for it
+-- accepted bytes: what they are read as, and that writing it gives them back
 pub record AcceptedImage (p : Plan) (A : List ℕ) : Type 0 where
   pub image : Image
   pub legal : LegalImage p image

@@ -15,11 +15,11 @@ fresh = record { applied = 0; late = 0; gap = 0; other = 0 }
 abbrev pub full : ℕ
 full = 4294967295
 
--- one more; a full tally stays
+-- a tally counted once more; a full one stays
 abbrev pub oneMore : ℕ → ℕ
 oneMore n = cond (ltb n full) (n + 1) n
 
--- the four, in their order
+-- the four tallies in the paper's order
 abbrev pub talliesOf : Standing → List ℕ
 talliesOf s = s .applied ∷ s .late ∷ s .gap ∷ s .other ∷ []
 
@@ -29,7 +29,7 @@ pub data Tally : Type 0 where
   Gap : Tally
   Other : Tally
 
--- by the answer's code: 0 applied, 16 late, 17 gap, all else other
+-- which tally counts an answer's code: 0 applied, 16 late, 17 gap, any other code other
 abbrev pub tallyOf : ℕ → Tally
 tallyOf code = cond (eqb code 0) Applied (cond (eqb code 16) Late (cond (eqb code 17) Gap Other))
 

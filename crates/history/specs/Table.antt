@@ -67,7 +67,7 @@ tableBytes t = formBytes (record { version = t .version; x = t .x; y = t .y; con
 abbrev pub sameObject : Object → Object → Bool
 sameObject o p = eqb (o .type) (p .type) && sameBytes (o .label) (p .label)
 
--- type and label as of an earlier object
+-- an earlier object has the same type and label
 abbrev pub repeats : Object → List Object → Bool
 repeats o [] = false
 repeats o (p ∷ ps) = sameObject p o || repeats o ps
@@ -85,7 +85,7 @@ objectAt b = record {
   rest = drop (getD b 1 0) (drop 2 b);
 }
 
--- an entry after the earlier objects: 8 (two bytes lacking), 5, 6 (length), 8 (label cut), 6 (bytes), 7
+-- the entry after the earlier objects: 8 (two bytes missing), 5, 6 (length), 8 (label cut), 6 (bytes), 7
 unfoldable pub checkObject : ℕ → ℕ → List Object → List ℕ → ObjectEntry → Verdict ObjectEntry
 checkObject version x earlier b e =
     refusal 8 unless leb 2 (length b) ⨾
@@ -96,7 +96,7 @@ checkObject version x earlier b e =
     refusalAt 7 (length earlier) unless not (repeats (e .object) earlier) ⨾
     done e
 
--- n entries after the earlier objects; last 8
+-- n entries after the earlier objects; at the end 8 (bytes left over)
 abbrev pub readObjects : ℕ → ℕ → List Object → ℕ → List ℕ → Verdict (List Object)
 readObjects version x earlier zero b = refusal 8 unless eqb (length b) 0 ⨾ done earlier
 readObjects version x earlier (suc n) b =
@@ -112,7 +112,7 @@ readTable b =
     then (readObjects (f .version) (f .x) [] (number (take 2 (f .contents))) (drop 2 (f .contents))) λ os.
     done (record { version = f .version; x = f .x; y = f .y; objects = os })
 
--- ---- what a table may hold: bytes are accepted exactly where they are written of such (`table-exactly` of proofs/Demands)
+-- ---- what a table may hold. Bytes are accepted exactly where they are such a table, written (`table-exactly` of proofs/Demands)
 
 pub record LegalObject (version x : ℕ) (o : Object) : Type 0 where
   pub type : carried x (o .type) ≡ true
@@ -128,7 +128,7 @@ pub record LegalTable (t : Table) : Type 0 where
   pub each : (i : ℕ) → i < length (t .objects) → LegalObject (t .version) (t .x) (object t i)
   pub distinct : (i j : ℕ) → i < j → j < length (t .objects) → object t i ≡ object t j → ⊥
 
--- ---- what the other forms go by: X and Y, and each object's kind
+-- ---- what the other forms are read by: X and Y, and each object's kind
 
 pub record Plan : Type 0 where
   pub x : ℕ
@@ -138,10 +138,10 @@ pub record Plan : Type 0 where
 unfoldable pub planOf : Table → Plan
 planOf t = record { x = t .x; y = t .y; kinds = map (λ (o : Object). kindOf (t .x) (o .type)) (t .objects) }
 
--- object i's kind (any, where there is no such object)
+-- object i's kind (an arbitrary one where there is no such object)
 abbrev pub kindAt : List Kind → ℕ → Kind
 kindAt ks i = getD ks i Kind.Signal
 
--- X.Y of an image or list is the table's
+-- the X.Y of an image or list is the table's
 abbrev pub sameCatalogue : Form → Plan → Bool
 sameCatalogue f p = eqb (f .x) (p .x) && eqb (f .y) (p .y)

@@ -8,7 +8,7 @@ use lib.Dec.{leb}
 use lib.ListN.{length, drop}
 use Rattle.history.specs.declared.Answer.{Answer}
 
--- what a refusal tells: its code, and the object and the bit that it names
+-- a refusal: its code, and the object and the bit that it names
 pub record Refused : Type 0 where
   pub code : ℕ
   pub object : ℕ
@@ -22,7 +22,7 @@ pub data Verdict (A : Type 0) : Type 0 where
   refused : Refused → Verdict A
   done : A → Verdict A
 
--- a value is put to use; a refusal stays
+-- goes on with the value; a refusal stays
 abbrev pub then : {A B : Type 0} → Verdict A → (A → Verdict B) → Verdict B
 then (refused r) next = refused r
 then (done a) next = next a
@@ -40,12 +40,12 @@ abbrev pub _unless_⨾_ : {A : Type 0} → Verdict A → Bool → Verdict A → 
 r unless true ⨾ rest = rest
 r unless false ⨾ rest = r
 
--- ---- the numbers given back, and the output at the end
+-- ---- the numbers that a call returns, and the output it leaves
 
 abbrev pub numbers : Refused → ℕ → Answer
 numbers r n = record { code = r .code; object = r .object; bit = r .bit; length = n }
 
--- where nothing is named
+-- the numbers when nothing is named
 abbrev pub unnamed : ℕ → ℕ → Answer
 unnamed code n = numbers (naming code 65535 255) n
 
@@ -58,7 +58,7 @@ pub record Outcome : Type 0 where
   pub answer : Answer
   pub output : List ℕ
 
--- a call that writes: 21 last, with the length needed
+-- a call that writes: at the end 21 (too little room), with the length needed
 unfoldable pub settled : Verdict (List ℕ) → List ℕ → Outcome
 settled (refused r) out = record { answer = numbers r 0; output = out }
 settled (done b) out =
@@ -66,6 +66,6 @@ settled (done b) out =
     (record { answer = unnamed 0 (length b); output = b ++ drop (length b) out })
     (record { answer = unnamed 21 (length b); output = out })
 
--- what a call that writes leaves: the numbers r, and m for the output that was out
+-- a call that writes returns the numbers r, and leaves m in the output that was out
 abbrev pub Leaves : Verdict (List ℕ) → List ℕ → Answer → List ℕ → Type 0
 Leaves v out r m = (r ≡ settled v out .answer) × (m ≡ settled v out .output)

@@ -1,6 +1,6 @@
-// The meaning of the product: definitions in specs/, laws in proofs/. The only code are the types that the definitions speak of.
+// The meaning of the product: definitions in specs/, laws in proofs/. The only code is the types that the definitions use.
 
-// The four numbers that every call gives back.
+// The four numbers that every call returns; `specs/Verdict.antt` says what they are.
 pub struct Answer {
     pub code: u8,
     pub object: u16,
@@ -8,7 +8,7 @@ pub struct Answer {
     pub length: u32,
 }
 
-// A receiver's four tallies.
+// A receiver's four tallies: lists applied, late (16), with a gap (17), and all other answers.
 pub struct Standing {
     pub applied: u32,
     pub late: u32,

@@ -1,4 +1,4 @@
--- Hashes of entries, by which repeats are looked for. A device of the code: no answer depends on them.
+-- Hashes of entries, by which repeats are found. A device of the code: no answer depends on them.
 use Prim.Native.Nat.{ℕ, _+_, _*_, _%_}
 use mathlib.Core.Bool.{Bool, true, false}
 use mathlib.Core.List.{List, [], _∷_}
@@ -6,7 +6,7 @@ use Rattle.history.specs.Verdict.{Verdict, refused, done, numbers}
 use Rattle.tables.specs.declared.labels.Label.{Label}
 use Rattle.tables.specs.declared.table.Found.{Found}
 
--- a hash, and the bytes behind it
+-- the hash h continued over more bytes
 abbrev pub hashFrom : ℕ → List ℕ → ℕ
 hashFrom h [] = h
 hashFrom h (b ∷ bs) = hashFrom ((h * 9 + b) % 1024) bs
@@ -15,12 +15,12 @@ hashFrom h (b ∷ bs) = hashFrom ((h * 9 + b) % 1024) bs
 unfoldable pub hashOf : ℕ → List ℕ → ℕ
 hashOf type label = hashFrom (type % 1024) label
 
--- a label's test as the code answers it
+-- a label's test as the code returns it
 unfoldable pub hashed : Bool → ℕ → Label
 hashed false hash = Label.Bad
 hashed true hash = Label.Good hash
 
--- an entry's check as the code answers it
+-- an entry's check as the code returns it
 unfoldable pub found : ℕ → Verdict ℕ → Found
 found hash (refused r) = Found.Refused (numbers r 0)
 found hash (done next) = Found.Entry hash

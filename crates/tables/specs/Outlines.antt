@@ -1,4 +1,4 @@
--- What the other forms go by, as the code hands it on: X, Y, the count, and each object's layout number.
+-- What the other forms are read by, as the code passes it: X, Y, the count, and each object's layout number.
 use Prim.Native.Nat.{ℕ, _≤_}
 use mathlib.Core.Path.{_≡_}
 use mathlib.Core.List.{List, [], map}
@@ -12,25 +12,25 @@ use Rattle.history.specs.Table.{Table, Plan, planOf}
 use Rattle.history.specs.Calls.{tableCall, readPlan}
 use Rattle.tables.specs.declared.answers.Outline.{Outline}
 
--- the kinds of layout numbers
+-- the kinds that layout numbers stand for
 unfoldable pub kindsOf : List ℕ → List Kind
 kindsOf ns = map kindNumbered ns
 
--- X, Y and layout numbers, as what the other forms go by
+-- the plan that X, Y and layout numbers stand for
 abbrev pub planAs : ℕ → ℕ → List ℕ → Plan
 planAs x y ns = record { x = x; y = y; kinds = kindsOf ns }
 
--- the layout numbers of a read table, in table order, in the first of 1,024 places
+-- the layout numbers of an accepted table, in table order, in the first of 1,024 places; zeros after them
 unfoldable pub layoutsIn : Verdict Table → List ℕ
 layoutsIn (refused r) = filled 1024 []
 layoutsIn (done t) = filled 1024 (map layoutNo (planOf t .kinds))
 
--- the answer; of a read table X, Y, count and layout numbers; else zeros
+-- the answer, and for an accepted table X, Y, count and layout numbers, else zeros
 unfoldable pub outlineOf : Verdict Table → Outline
 outlineOf (refused r) = record { answer = told {A = Table} (refused r); x = 0; y = 0; count = 0; kinds = filled 1024 [] }
 outlineOf (done t) = record { answer = told (done t); x = t .x; y = t .y; count = length (t .objects); kinds = layoutsIn (done t) }
 
--- the whole outcome, and what callers go by
+-- the whole outcome, and what callers rely on
 pub record Outlined (b : List ℕ) (r : Outline) : Type 0 where
   pub whole : r ≡ outlineOf (tableCall b)
   pub answer : r .answer ≡ told (tableCall b)

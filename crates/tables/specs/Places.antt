@@ -1,4 +1,4 @@
--- The table's entries by their places in the bytes, as a loop with a cursor walks them. A device of the proofs: the meaning is `history`'s.
+-- The table's entries by their places in the bytes, as a loop with a cursor walks them. A device of the proofs: the meaning is in `history`.
 use Prim.Native.Nat.{ℕ, zero, suc, _+_}
 use mathlib.Core.Bool.{_&&_}
 use mathlib.Core.List.{List, []}
@@ -15,7 +15,7 @@ unfoldable pub placeOf : List ℕ → ℕ → ℕ
 placeOf b zero = objectsPlace
 placeOf b (suc k) = placeOf b k + (2 + getD b (placeOf b k + 1) 0)
 
--- an entry but for repeats, from its place: 8 (two bytes lacking), 5, 6 (length), 8 (label cut), 6 (bytes); where the next begins
+-- the entry at a place, except for repeats: 8 (two bytes missing), 5, 6 (length), 8 (label cut), 6 (bytes); then where the next begins
 unfoldable pub checkObjectAt : List ℕ → ℕ → ℕ → Verdict ℕ
 checkObjectAt b at k =
     refusal 8 unless leb (at + 2) (length b) ⨾
@@ -29,6 +29,6 @@ checkObjectAt b at k =
 unfoldable pub hashAt : List ℕ → ℕ → ℕ
 hashAt b at = hashOf (getD b at 0) (take (getD b (at + 1) 0) (drop (at + 2) b))
 
--- the table's objects, so many as are counted
+-- the table's objects, as many as `count` says
 unfoldable pub objectsIn : List ℕ → ℕ → Verdict (List Object)
 objectsIn b count = readObjects (getD b 4 0) (getD b 5 0) [] count (drop objectsPlace b)

@@ -1,4 +1,4 @@
-// The numbers given back, made in one place for each kind of answer; and what the calls on a table give beside them.
+// The numbers that a call returns, one function for each kind of answer; and `Outline`, what the check of a table returns with them.
 use history::Answer;
 use rows::Refusal;
 ghost use mathlib.Core.Path.{_≡_};
@@ -24,7 +24,7 @@ pub fn refused_at(code: u8, object: u16) -> Answer
     }
 }
 
-// An element's refusal, passed on: it names the object and the bit that was found.
+// An element's refusal: it names the object, and the bit that the element's check found.
 pub fn refused_by(found: Refusal, object: u16) -> Answer
     ensures { λ r. ⌜ r ≡ numbers (foundIn found object) 0 ⌝ }
 {
@@ -43,7 +43,7 @@ pub fn accepted() -> Answer
     refused(0)
 }
 
-// Success: so many bytes are written.
+// Success: this many bytes are written.
 pub fn written(bytes: u32) -> Answer
     ensures { λ r. ⌜ r ≡ unnamed 0 bytes ⌝ }
 {
@@ -55,7 +55,7 @@ pub fn written(bytes: u32) -> Answer
     }
 }
 
-// 21: so many bytes are needed.
+// 21: the output is too short; this many bytes are needed.
 pub fn short(bytes: u32) -> Answer
     ensures { λ r. ⌜ r ≡ unnamed 21 bytes ⌝ }
 {
@@ -67,7 +67,7 @@ pub fn short(bytes: u32) -> Answer
     }
 }
 
-// What `outline` gives: the table's answer; of an accepted table X, Y, the count and each object's layout number; else zeros.
+// What `outline` returns: the table's answer, and for an accepted table X, Y, the count and each object's layout number, else zeros.
 pub struct Outline {
     pub answer: Answer,
     pub x: u8,

@@ -1,5 +1,5 @@
-// Labels: bytes 33 to 126; some byte is a colon, and the first colon has a byte before and after it. A good label gets the hash of its
-// entry's type and label in the same pass, by which repeats are looked for.
+// Labels: bytes 33 to 126; some byte is a colon, and the first colon has a byte before and after it. The same pass makes the hash of the
+// entry's type and label, by which repeats are found.
 use heads::byte_at;
 ghost use mathlib.Core.Path.{_≡_};
 ghost use Prim.Native.Nat.{_+_, _≤_, _<_};
@@ -13,7 +13,7 @@ pub enum Label {
     Good(usize),
 }
 
-// All bytes are 33 to 126. The hash goes on from that of what stands before.
+// Good if all bytes are 33 to 126. The hash continues from `first`.
 fn check_bytes(first: usize, label: &[u8]) -> Label
     requires { ⌜ first < 1024 ⌝ }
     ensures { λ r. ⌜ r ≡ hashed (printable (now (label .entry))) (hashFrom first (now (label .entry))) ⌝ }
@@ -62,7 +62,7 @@ fn check_label(first: usize, label: &[u8]) -> Label
     check_bytes(first, label)
 }
 
-// The label of an entry, as a part of its table.
+// Checks the label of the entry at `at`. The hash starts from the entry's type.
 pub fn check_label_at(table: &[u8], at: usize, size: usize) -> Label
     requires { ⌜ at + 2 + size ≤ length (now table) ⌝ }
     ensures { λ r. ⌜ r ≡ hashed (labelGood (take size (drop (at + 2) (now (table .entry))))) (hashOf (getD (now (table .entry)) at 0) (take size (drop (at + 2) (now (table .entry))))) ⌝ }

@@ -1,4 +1,4 @@
-// Where a label stands in the table's bytes.
+// Where a label is in the table's bytes.
 use super::answers::accepted;
 use super::answers::refused_at;
 use super::table::check_table;
@@ -15,7 +15,7 @@ ghost use Rattle.heads.specs.Heads.{countIn};
 ghost use Rattle.tables.specs.Places.{placeOf};
 ghost use Rattle.tables.specs.LabelPlaces.{LabelFound, noLabel};
 
-// A label request's answer; where it is accepted, the label's first byte and size; else zeros.
+// A label request's answer, and if it is accepted the offset of the label's first byte and its size, else zeros.
 pub struct LabelAt {
     pub answer: Answer,
     pub offset: usize,
@@ -53,7 +53,7 @@ fn no_label(answer: Answer) -> LabelAt
     }
 }
 
-// Where an object's entry begins, in an accepted table.
+// Where an object's entry begins in an accepted table. Entries differ in length, so it steps over those before.
 fn entry_place(table: &[u8], object: usize) -> usize
     requires { ⌜ (told (tableCall (now table)) .code ≡ 0) × (object ≤ countIn (now table)) ⌝ }
     ensures { λ r. ⌜ r ≡ placeOf (now (table .entry)) object ⌝ }

@@ -1,4 +1,4 @@
-// What the other forms go by: of an accepted table X, Y and each object's kind.
+// What the other forms are read by: X, Y and each object's kind, of an accepted table.
 use super::answers::Outline;
 use super::table::check_table;
 use super::table::entry_size;
@@ -14,7 +14,7 @@ ghost use Rattle.history.specs.Calls.{tableCall};
 ghost use Rattle.heads.specs.Heads.{countIn};
 ghost use Rattle.tables.specs.Outlines.{Outlined, layoutsIn};
 
-// The table's check, and what it tells of an accepted table.
+// Checks a table, and reads from an accepted one what the other forms are read by.
 pub fn outline(table: &[u8]) -> Outline
     ensures { λ r. ⌜ Outlined (now (table .entry)) r ⌝ }
 {
@@ -41,7 +41,7 @@ pub fn outline(table: &[u8]) -> Outline
     }
 }
 
-// The layout numbers of an accepted table's objects, in table order; zeros behind them.
+// The layout numbers of an accepted table's objects, in table order; zeros after them.
 fn kinds_of(table: &[u8], count: usize) -> [u8; 1024]
     requires { ⌜ (told (tableCall (now table)) .code ≡ 0) × (count ≡ countIn (now table)) ⌝ }
     ensures { λ r. ⌜ r ≡ layoutsIn (tableCall (now (table .entry))) ⌝ }
@@ -57,7 +57,7 @@ fn kinds_of(table: &[u8], count: usize) -> [u8; 1024]
     kinds
 }
 
-// The first layout numbers, so many as there are objects. They are lent from the outline's own array, so that it isn't copied.
+// The first layout numbers, as many as there are objects. They are lent from the outline's array, so that it isn't copied.
 pub fn first_kinds(kinds: &[u8], count: usize) -> &[u8]
     requires { ⌜ count ≤ length (now kinds) ⌝ }
     ensures { λ r. ⌜ now r ≡ take count (now (kinds .entry)) ⌝ }

@@ -45,11 +45,11 @@ pub fn check_table(table: &[u8]) -> Answer
     check_entries(table, count)
 }
 
-// Per entry its check, then 7; last 8. The search for an earlier object with the same type and label goes by the earlier entries of the
-// same hash, the last first, and is left at the first that repeats. Two entries are compared by their types, their lengths, and then their
-// labels from the last byte to the first: the labels of a station begin alike.
-// For each hash `lasts` has the last entry of it, for each entry `links` has the one of its hash before it and `starts` its place. An
-// entry stands there by one more than its number; 0 is none.
+// For each entry its check, then 7; at the end 8 (bytes left over). Only earlier entries of the same hash can have the same type and label,
+// so only these are searched, the last first, until one is the same. Two entries are compared by type, by length, and then by label from
+// the last byte to the first, since the labels of a station begin alike.
+// `lasts` has for each hash its last entry, `links` for each entry the one before it of the same hash: each as its number plus one, 0 for
+// none. `starts` has for each entry where it begins.
 fn check_entries(table: &[u8], count: usize) -> Answer
     requires { ⌜ (objectsPlace ≤ length (now table)) × (count ≤ 1024) ⌝ }
     ensures { λ r. ⌜ r ≡ told (objectsIn (now (table .entry)) count) ⌝ }
@@ -105,7 +105,7 @@ fn check_entries(table: &[u8], count: usize) -> Answer
     accepted()
 }
 
-// The bytes of an entry: its type, its label length and its label.
+// How many bytes an entry takes: its type, its label length and its label.
 pub fn entry_size(table: &[u8], at: usize) -> usize
     requires { ⌜ at + 2 ≤ length (now table) ⌝ }
     ensures { λ r. ⌜ (r ≡ 2 + getD (now (table .entry)) (at + 1) 0) × (r < 258) ⌝ }
@@ -113,13 +113,13 @@ pub fn entry_size(table: &[u8], at: usize) -> usize
     2 + byte_at(table, at + 1)
 }
 
-// What checking an entry gives: an answer that refuses, or the entry's hash.
+// What checking an entry gives: the answer if it is refused, else the entry's hash.
 enum Found {
     Refused(Answer),
     Entry(usize),
 }
 
-// An entry but for repeats: 8 (two bytes lacking), 5, 6 (length), 8 (label cut), 6 (bytes).
+// An entry, except for repeats: 8 (two bytes missing), 5, 6 (length), 8 (label cut), 6 (bytes).
 fn check_entry(table: &[u8], at: usize, object: u16) -> Found
     requires { ⌜ (objectsPlace ≤ length (now table)) × (at ≤ length (now table)) ⌝ }
     ensures { λ r. ⌜ r ≡ found (hashAt (now (table .entry)) at) (checkObjectAt (now (table .entry)) at object) ⌝ }
@@ -145,14 +145,14 @@ fn check_entry(table: &[u8], at: usize, object: u16) -> Found
     Found::Entry(hash)
 }
 
-// The version byte is one that is read.
+// The version byte of a table that can be read.
 fn is_version(version: u8) -> bool
     ensures { λ r. ⌜ r ≡ versionGood version ⌝ }
 {
     version == 1
 }
 
-// The catalogue version is one that is carried.
+// The catalogue versions that are carried: 1.0 and 3.0.
 pub fn is_catalogue(x: u8, y: u8) -> bool
     ensures { λ r. ⌜ r ≡ catalogueGood x y ⌝ }
 {
@@ -163,7 +163,7 @@ pub fn is_catalogue(x: u8, y: u8) -> bool
     }
 }
 
-// The longest label under a version.
+// The longest label that a version allows.
 fn label_limit(version: u8) -> usize
     ensures { λ r. ⌜ r ≡ labelLimit version ⌝ }
 {

@@ -9,17 +9,17 @@ use Rattle.history.specs.Verdict.{Verdict, refused, done}
 use Rattle.history.specs.Table.{Table}
 use Rattle.history.specs.Calls.{Place}
 
--- an accepted table's count; else 0
+-- how many objects an accepted table has; else 0
 unfoldable pub countOf : Verdict Table → ℕ
 countOf (refused r) = 0
 countOf (done t) = length (t .objects)
 
--- the label's place; of a refused request the empty one at the front
+-- the label's place; for a refused request the empty place at the front
 unfoldable pub givenPlace : Verdict Place → Place
 givenPlace (refused r) = record { offset = 0; size = 0 }
 givenPlace (done p) = p
 
--- r is the part of s at a place: in s's own block, that far on, with its bytes
+-- r is the part of s at a place: in the same block of memory, at the offset, with the bytes there
 pub record Part (s r : RefT (List ℕ)) (p : Place) : Type 0 where
   pub place : r .ptr ≡ (s .ptr .0, p .offset + s .ptr .1)
   pub bytes : now r ≡ take (p .size) (drop (p .offset) (now s))
