@@ -1,4 +1,4 @@
--- Each form's check in the code's order, by what stands in its bytes; and that its head is inside where it is accepted.
+-- Each form's check in the code's order, from the bytes; and an accepted form has its head inside.
 -- Assumes nothing.
 use Prim.Native.Nat.{ℕ, _+_, _≤_}
 use native.Mathlib.Omega.{arith}
@@ -25,7 +25,7 @@ unless-same : {A : Type 0} (t : Bool) (r : Verdict A) {u v : Verdict A} → (t �
 unless-same true r h = h refl
 unless-same false r h = refl
 
--- the length of what is left is that of the whole
+-- a test on the length of what is left is a test on the length of the whole
 eqb-left : (n m : ℕ) (b : List ℕ) → n ≤ length b → eqb (length (drop n b)) m ≡ eqb (length b) (n + m)
 eqb-left n m b h = go (eqb (length b) (n + m)) refl
   where
@@ -33,10 +33,11 @@ eqb-left n m b h = go (eqb (length b) (n + m)) refl
     go true e = let l : length b ≡ n + m = eqb-true _ _ e in eq-eqb (length (drop n b)) m (length-drop n b ∙ omega arith)
     go false e = ne-eqb (length (drop n b)) m (λ z. eqb-false (length b) (n + m) e (omega (arith, length-drop n b)))
 
--- 1, 2, 3, 4, then the objects
+-- the table that the bytes hold, with these objects
 abbrev pub tableWith : List ℕ → List Object → Table
 tableWith b os = record { version = getD b 4 0; x = getD b 5 0; y = getD b 6 0; objects = os }
 
+-- 1, 2, 3, 4, then the objects
 pub table-chain : (b : List ℕ) → readTable b
     ≡ (refusal 1 unless isWhole 5 b ⨾ refusal 2 unless versionGood (getD b 4 0) ⨾ refusal 3 unless catalogueGood (getD b 5 0) (getD b 6 0) ⨾
     refusal 4 unless leb (countIn b) 1024 ⨾ then (readObjects (getD b 4 0) (getD b 5 0) [] (countIn b) (drop objectsPlace b)) (λ os. done (tableWith b os)))
@@ -46,10 +47,11 @@ table-chain b = form-then 5 versionGood b _ ∙ rw (drop-drop 2 7 b)
 pub table-held : (b : List ℕ) {t : Table} → readTable b ≡ done t → objectsPlace ≤ length b
 table-held b e = table-inside b (held (isWhole 5 b) _ _ (sym (table-chain b) ∙ e) .0)
 
--- 1, 2, 9, 8, then the elements
+-- the image that the bytes hold, with these words
 abbrev pub imageWith : List ℕ → List ℕ → Image
 imageWith b ws = record { version = getD b 4 0; position = positionIn b; words = ws }
 
+-- 1, 2, 9, 8, then the elements
 pub image-chain : (p : Plan) (b : List ℕ) → readImage p b
     ≡ (refusal 1 unless isWhole 7 b ⨾ refusal 2 unless imageVersionGood (getD b 4 0) ⨾ refusal 9 unless isUnder (p .x) (p .y) b ⨾
     refusal 8 unless eqb (length b) (imageHead b + widths (p .kinds)) ⨾ then (readWords 0 (p .kinds) (elementsIn b)) (λ ws. done (imageWith b ws)))
@@ -72,10 +74,11 @@ image-held p b e =
     let p₄ = held (eqb (length b) (imageHead b + widths (p .kinds))) _ _ (p₃ .1) in
     omega (arith, eqb-true (length b) (imageHead b + widths (p .kinds)) (p₄ .0))
 
--- 1, 2, 9, then the entries
+-- the list that the bytes hold, with these changes
 abbrev pub listWith : List ℕ → List Change → Changes
 listWith b cs = record { from = fromIn b; to = toIn b; each = cs }
 
+-- 1, 2, 9, then the entries
 pub list-chain : (p : Plan) (b : List ℕ) → readList p b
     ≡ (refusal 1 unless isWhole 13 b ⨾ refusal 2 unless eqb listVersion (getD b 4 0) ⨾ refusal 9 unless isUnder (p .x) (p .y) b ⨾
     then (readEntries (p .kinds) 0 (entryCountIn b) (entriesIn b)) (λ cs. done (listWith b cs)))

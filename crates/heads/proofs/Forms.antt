@@ -1,4 +1,4 @@
--- What the three forms share, by the tests that the code makes: whole, its version, and under X and Y.
+-- What the three forms share, from the tests that the code makes: it is whole, its version, its X and Y.
 -- Assumes nothing.
 use Prim.Native.Nat.{ℕ, _+_, _-_, _≤_}
 use native.Mathlib.Omega.{arith}
@@ -18,12 +18,12 @@ pub table-inside : (b : List ℕ) → isWhole 5 b ≡ true → objectsPlace ≤ 
 unfolding objectsPlace
 table-inside b h = whole 5 b h .long
 
--- how long a form is that passed the first test
+-- how long a form is that passed the test of code 1
 module _ {t : Bool} where
   pub long-enough : (least : ℕ) (b : List ℕ) → t ≡ isWhole least b → not t ≡ false → (n : ℕ) → n ≤ 4 + least → n ≤ length b
   long-enough least b e h n l = omega (arith, whole least b (sym e ∙ not-false t h) .long)
 
-  -- the count of a whole table is inside, and so are the positions and the count of a whole list
+  -- the head of a whole table is inside, and so is the head of a whole list
   pub table-room : (b : List ℕ) → t ≡ isWhole 5 b → not t ≡ false → objectsPlace ≤ length b
   table-room b e h = table-inside b (sym e ∙ not-false t h)
 
@@ -46,7 +46,7 @@ to-end k b = take-all (length b - k) (drop k b) (omega (arith, length-drop k b))
 
 -- ---- the form by its tests
 
--- what stands in a form's bytes
+-- the form that the bytes hold
 abbrev pub formIn : List ℕ → Form
 formIn b = record { version = getD b 4 0; x = getD b 5 0; y = getD b 6 0; contents = drop 7 b }
 

@@ -1,4 +1,4 @@
--- Where the parts of a table, an image and a list stand in their bytes.
+-- Where the parts of a table, an image and a list are in their bytes.
 -- Assumes nothing.
 use Prim.Native.Nat.{ℕ, _+_, _-_, _≤_}
 use native.Mathlib.Omega.{arith}
@@ -48,7 +48,7 @@ module _ {p : Plan} {A : List ℕ} (a : AcceptedImage p A) where
   pub image-length : length A ≡ imageHead A + widths (p .kinds)
   image-length = rw (a .same) (written-length (a .legal))
 
-  -- the position is inside
+  -- the head is inside
   pub image-inside : imageHead A ≤ length A
   image-inside = omega (arith, image-length)
 
@@ -95,6 +95,6 @@ module _ {p : Plan} {L : List ℕ} (l : AcceptedList p L) where
   pub entries-in : entriesIn L ≡ entriesBytes 0 (p .kinds) (l .list .each)
   entries-in = ap entriesIn (l .same) ∙ list-entries p (l .list)
 
-  -- the positions and the count are inside
+  -- the head is inside
   pub list-inside : entriesPlace ≤ length L
   list-inside = rw (l .same) (list-long p (l .list))

@@ -1,4 +1,4 @@
--- The three tests of code 1, from the code's tests.
+-- `isWhole`, the test of code 1, from the three tests that the code makes.
 -- Assumes nothing.
 use Prim.Native.Nat.{ℕ, _+_, _≤_, _<_}
 use mathlib.Core.Path.{_≡_}

@@ -1,4 +1,4 @@
--- What is written, part by part, and how long it is: a list up to its entries; an image with its position and its elements.
+-- What is written, part by part, and how long it is: a list's head; an image's position and its elements.
 -- Assumes nothing.
 use Prim.Native.Nat.{ℕ, _+_, _-_, _≤_}
 use native.Mathlib.Omega.{arith}
@@ -66,7 +66,7 @@ list-split x y ks from to cs =
 
 -- ---- an image
 
--- the position through its part
+-- writing the position through its part of the bytes
 pub position-put : (b : List ℕ) → imageHead b ≤ length b → (position : ℕ) {ps : List ℕ} → ps ≡ bytes (length (midOf 7 4 b)) position
     → putMid 7 4 b ps ≡ withElements b position (elementsIn b)
 unfolding withElements elementsIn imageHead elementsPlace elementsFrom
@@ -74,7 +74,7 @@ position-put b h position e =
     let four : length (midOf 7 4 b) ≡ 4 = mid-len 7 11 b (omega arith) in
     ap₂ (λ (ps r : List ℕ). take 7 b ++ (ps ++ r)) (e ∙ ap (λ (n : ℕ). bytes n position) four) (drop-drop 4 7 b)
 
--- the image b up to its elements, and then the elements es
+-- the image b with the elements es in place of its own
 module _ (b es : List ℕ) (h : imageHead b ≤ length b) where
   abbrev renewed : List ℕ
   renewed = take (imageHead b) b ++ es
@@ -90,7 +90,7 @@ module _ (b es : List ℕ) (h : imageHead b ≤ length b) where
   pub renewed-inside : imageHead renewed ≤ length renewed
   renewed-inside = omega (arith, renewed-head, length-append (take (imageHead b) b) es, front-long)
 
-  -- .. with its position
+  -- .. and then a position written into it
   pub renewed-with : (position : ℕ) → withElements renewed position (elementsIn renewed) ≡ withElements b position es
   unfolding withElements elementsIn
   renewed-with position =
@@ -114,7 +114,7 @@ image-front p a =
     let long : 3 + length (bytes 4 (a .position) ++ wordsBytes (p .kinds) (a .words)) ≡ n = simp (length-append, length-bytes) (omega arith) in
     rw long (front n (a .version) (p .x) (p .y) (bytes 4 (a .position) ++ wordsBytes (p .kinds) (a .words)))
 
--- an accepted image with another position and as many bytes of elements
+-- putting another position and other words into an accepted image's bytes gives the new image, written
 pub image-again : {p : Plan} {A : List ℕ} (a : AcceptedImage p A) (to : ℕ) (ws : List ℕ) → length (wordsBytes (p .kinds) ws) ≡ widths (p .kinds)
     → withElements A to (wordsBytes (p .kinds) ws) ≡ imageBytes p (record { version = a .image .version; position = to; words = ws })
 unfolding withElements imageBytes formBytes

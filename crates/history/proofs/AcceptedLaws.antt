@@ -36,7 +36,7 @@ list-of p L h f e =
     (record { list = q .0; legal = i .0; reads = q .1; same = i .1 }, q .2)
 
 module _ (T : List ℕ) where
-  -- the table of a call that is not refused
+  -- a call that is not refused has accepted its table ..
   pub difference-under : (A B : List ℕ) {L : List ℕ} → differenceCall T A B ≡ done L → Under T
   unfolding differenceCall
   difference-under A B e = table-of T _ e .0

@@ -16,7 +16,7 @@ use Rattle.history.proofs.ListLaws.{list-is, list-reads}
 use Rattle.history.proofs.TableLaws.{plan-fair}
 
 module _ (T : List ℕ) {p : Plan} (t : readPlan T ≡ done p) where
-  -- a call's acceptance, and what it tells
+  -- what the check of an image or a list accepts is an accepted form, and the other way round
   pub accepted-image : (A : List ℕ) {a : Image} → Bytes A → imageCall T A ≡ done a → AcceptedImage p A
   unfolding imageCall
   accepted-image A {a} h e =
@@ -92,7 +92,7 @@ module _ (T : List ℕ) {p : Plan} (t : readPlan T ≡ done p) where
 
   -- ---- demand 3
 
-  -- the list from A to B turns A into B, of one form
+  -- the list from A to B turns A into B, if both have the same version
   pub difference-applies : {A B L : List ℕ} (a : AcceptedImage p A) (b : AcceptedImage p B) → a .image .version ≡ b .image .version → differenceCall T A B ≡ done L → applyCall T A L ≡ done B
   difference-applies {A} {B} {L} a b v e =
       let L-is : L ≡ listBytes p (difference (a .image) (b .image)) = cc (difference-is a b) in

@@ -1,6 +1,6 @@
--- What catalogues refuse, over the calls: 3 exactly where a table's is not carried; 9 exactly where a form's is not the table's; 22 exactly where
--- a state is not of its object's kind, and of a state that was read from an object of the same type, exactly where it is a type 1 state
--- of another catalogue.
+-- What is refused because of catalogues, over the calls: 3 exactly where a table's catalogue is not carried; 9 exactly where a form's is not
+-- the table's; 22 exactly where a state is not of its object's kind. For a state that was read from an object of the same type, that is
+-- exactly where the type is 1 and the catalogues differ.
 -- Assumes nothing.
 use Prim.Native.Nat.{ℕ, zero, suc, _+_, _<_, _≤_}
 use native.Mathlib.Omega.{arith}
@@ -48,7 +48,7 @@ catalogue-is x y e = (
   eqb-true y 0 (right (eqb x 1 || eqb x 3) (eqb y 0) e),
 )
 
--- what follows the catalogue is not refused with 3
+-- nothing after the test of the catalogue is refused with 3
 not-three : (f : Form) (g : List Object → Table) → Named (λ r. r .code ≡ 3 → ⊥)
     (refusal 4 unless leb (number (take 2 (f .contents))) 1024 ⨾ then (readObjects (f .version) (f .x) [] (number (take 2 (f .contents))) (drop 2 (f .contents))) λ os. done (g os))
 not-three f g =
@@ -66,13 +66,13 @@ catalogue-exactly T {f} e = (
 
 -- ---- a table's plan
 
--- an object's kind goes by its type and the table's X
+-- an object's kind depends on its type and the table's X
 kind-of-object : (x : ℕ) (os : List Object) (i : ℕ) (o : Object) → i < length os → kindAt (map (λ (o : Object). kindOf x (o .type)) os) i ≡ kindOf x (getD os i o .type)
 kind-of-object x [] i o l = absurd (omega arith)
 kind-of-object x (p ∷ os) zero o l = refl
 kind-of-object x (p ∷ os) (suc i) o l = kind-of-object x os i o (omega arith)
 
--- what the plan of an accepted table has of it
+-- what the plan of an accepted table takes from it
 record Planned (T : List ℕ) (t : Table) : Type 0 where
   reads : readPlan T ≡ done (planOf t)
   x : planOf t .x ≡ t .x
@@ -145,7 +145,7 @@ module _ (T : List ℕ) {t : Table} (rt : tableCall T ≡ done t) where
       n : ℕ
       n = number (take 2 (drop 8 (f .contents)))
 
-      -- an entry's other codes are 8, 13, 14 and 15; which numbers were handed in doesn't matter
+      -- an entry's other codes are 8, 13, 14 and 15; which numbers the call was given doesn't matter
       rest : Named Not9 {A = Changes} (then (readEntries (p .kinds) 0 n (drop 10 (f .contents))) λ cs. done (record { from = number (take 4 (f .contents)); to = number (take 4 (drop 4 (f .contents))); each = cs }))
       rest = named-then (readEntries (p .kinds) 0 n (drop 10 (f .contents))) _
           (entries-named (p .kinds) (λ i. i ≡ i) (λ c. omega arith) (λ i g l c. omega arith) (λ code i h g l c. false≢true (sym (ap (oneOf itsNumbers) c) ∙ h)) (field-not-9 (p .kinds)) 0 n (drop 10 (f .contents)) λ i s. refl)
@@ -166,7 +166,7 @@ module _ (T A : List ℕ) {p : Plan} {a : Image} (t : readPlan T ≡ done p) (ea
     (λ n. rw (t, rw t at ea, lt-ltb i (length (p .kinds)) l, refuted (sameKind (kindIn e) (kindAt (p .kinds) i)) (λ q. n (same-kind (kindIn e) (kindAt (p .kinds) i) q)))),
   )
 
--- two kinds of one type
+-- a type has different kinds under x and y exactly where it is 1 and x and y differ
 kinds-differ : (x y type : ℕ) → carried x type ≡ true → carried y type ≡ true → (kindOf x type ≡ kindOf y type → ⊥) ↔ ((type ≡ 1) × (x ≡ y → ⊥))
 kinds-differ x y type cx cy = (
   (λ n. apart (eqb x y) (eqb type 1) refl refl (sym (one-kind x y type cx cy) ∙ refuted (sameKind (kindOf x type) (kindOf y type)) (λ q. n (same-kind (kindOf x type) (kindOf y type) q)))),
@@ -181,7 +181,7 @@ kinds-differ x y type cx cy = (
     differ : type ≡ 1 → (x ≡ y → ⊥) → sameKind (kindOf x type) (kindOf y type) ≡ false
     differ p n = one-kind x y type cx cy ∙ rw (ne-eqb x y n, eq-eqb type 1 p)
 
--- a state that is read is of the kind that its object's type has under the table's X
+-- a state that is read has the kind of its object's type under the table's X
 pub read-by-type : (T A : List ℕ) (i : ℕ) {t : Table} {e : Element} → tableCall T ≡ done t → readStateCall T A i ≡ done e
     → (i < length (t .objects)) × (kindIn e ≡ kindOf (t .x) (object t i .type))
 read-by-type T A i {t} rt re =
@@ -190,7 +190,7 @@ read-by-type T A i {t} rt re =
     let inside : i < length (t .objects) = omega (arith, rw (s .reads) at (r .1), s .count) in
     (inside, (rw (s .reads) at (r .2)) ∙ s .kind i inside)
 
--- a state of the object's type under any X, handed in: 22 exactly where the type is 1 and the X is not the table's; with data or without
+-- a state of the object's type under any X, with data or without, is refused with 22 exactly where the type is 1 and the X is not the table's
 pub handed-across : (U B : List ℕ) (x j : ℕ) (e : Element) (position : ℕ) {u : Table} {b : Image} → tableCall U ≡ done u → imageCall U B ≡ done b → j < length (u .objects)
     → carried x (object u j .type) ≡ true → kindIn e ≡ kindOf x (object u j .type)
     → (writeStateCall U B j e position ≡ refusalAt 22 j) ↔ ((object u j .type ≡ 1) × (x ≡ u .x → ⊥))
@@ -199,7 +199,7 @@ handed-across U B x j e position {u} ru rb l held mine =
     let exactly = kind-exactly U B (w .reads) rb j e position (omega (arith, w .count)) in
     Iff·trans (rw (mine, w .kind j l) at exactly) (kinds-differ x (u .x) (object u j .type) held (w .type j l))
 
--- .. so of a state that is read from an object of the same type under any table
+-- .. so too a state that was read from an object of the same type under any table
 pub across-catalogues : (T A U B : List ℕ) (i j position : ℕ) {t u : Table} {b : Image} {e : Element}
     → tableCall T ≡ done t → readStateCall T A i ≡ done e → tableCall U ≡ done u → imageCall U B ≡ done b → j < length (u .objects) → object t i .type ≡ object u j .type
     → (writeStateCall U B j e position ≡ refusalAt 22 j) ↔ ((object u j .type ≡ 1) × (t .x ≡ u .x → ⊥))

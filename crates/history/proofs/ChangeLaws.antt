@@ -19,7 +19,7 @@ differ-same a = simp (eq-eqb a a refl)
 pub differ-other : (a b : ℕ) → (a ≡ b → ⊥) → differ a b ≡ swap a b
 differ-other a b h = simp (ne-eqb a b h)
 
--- a fact about two numbers, for equal ones and for different ones
+-- to show a fact of b: show it of a, and of b where they differ
 by-cases : (P : ℕ → Type 0) (a b : ℕ) → P a → ((a ≡ b → ⊥) → P b) → P b
 by-cases P a b p q = go (ℕ-discrete a b)
   where
@@ -46,7 +46,7 @@ joined-differ a b c =
 pub back-differ : (a b : ℕ) → back (differ a b) ≡ differ b a
 back-differ a b = by-cases (λ b. back (differ a b) ≡ differ b a) a b (rw (differ-same a)) (λ h. rw (differ-other a b h, differ-other b a (λ e. h (sym e))))
 
--- what a lawful change of an object holds
+-- what a lawful swap tells
 pub record Lawful (k : Kind) (a b : ℕ) : Type 0 where
   pub old : admits k a ≡ true
   pub new : admits k b ≡ true

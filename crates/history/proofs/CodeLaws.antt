@@ -21,7 +21,7 @@ use Rattle.history.proofs.VerdictLaws.{left, right}
 use Rattle.history.proofs.OutputLaws.{Ran, succeeds, too-short}
 use Rattle.history.proofs.NameLaws.{nothings, objects, itsNumbers, oneOf, Names, nothing, an-object, its-number, no-object, its-field, Named, NoNumber, image-named, list-named, applied-named, state-named, table-call-named, image-call-named, list-call-named, difference-call-named, apply-call-named, join-call-named, turn-call-named, read-call-named, write-call-named, label-call-named}
 
--- the paper's codes but for 21
+-- the paper's codes except 21
 abbrev pub codes : List ℕ
 codes = 1 ∷ 2 ∷ 3 ∷ 4 ∷ 5 ∷ 6 ∷ 7 ∷ 8 ∷ 9 ∷ 10 ∷ 11 ∷ 12 ∷ 13 ∷ 14 ∷ 15 ∷ 16 ∷ 17 ∷ 18 ∷ 19 ∷ 20 ∷ 22 ∷ []
 
@@ -32,7 +32,7 @@ abbrev pub Coded : {A : Type 0} → Verdict A → Type 0
 Coded (refused r) = IsCode (r .code)
 Coded (done a) = Unit {0}
 
--- ---- what names as the paper says has one of its codes
+-- ---- a refusal that names what the paper says has one of its codes
 
 abbrev pub all : List ℕ → Bool
 all [] = true
@@ -118,7 +118,7 @@ module _ (t : List ℕ) where
 pub not-zero : {A : Type 0} {code : ℕ} → IsCode code → code ≡ 0 → A
 not-zero h e = absurd (false≢true (sym (ap (oneOf codes) e) ∙ h))
 
--- of a call that writes: there was room for what it found
+-- a call that writes: it was done, and there was room for the result ..
 pub zero-succeeds : (v : Verdict (List ℕ)) (out : List ℕ) → Coded v → settled v out .answer .code ≡ 0 → (b : List ℕ) × (v ≡ done b) × (length b ≤ length out)
 unfolding settled
 zero-succeeds (refused r) out h e = not-zero h e
@@ -128,7 +128,7 @@ zero-succeeds (done b) out h e = (b, refl, go (leb (length b) (length out)) refl
     go true q = leb-true _ _ q
     go false q = absurd (omega (arith, ap (λ (a : Answer). a .code) (too-short {v = done b} out refl (leb-false _ _ q) .0)))
 
--- .. and the bytes stand in front, the rest as it was
+-- .. whose bytes are in front; the rest is as it was
 pub record Delivered (v : Verdict (List ℕ)) (out : List ℕ) (r : Answer) (m : List ℕ) : Type 0 where
   pub bytes : v ≡ done (take (r .length) m)
   pub rest : drop (r .length) m ≡ drop (r .length) out
@@ -143,7 +143,7 @@ delivered {v} {out} {r} {m} c o z =
       rest = ap₂ drop long (o .leaves .1) ∙ s .rest ∙ ap (λ (n : ℕ). drop n out) (sym long);
     }
 
--- of any other
+-- a call that writes nothing
 pub zero-told : {A : Type 0} (v : Verdict A) → Coded v → told v .code ≡ 0 → (a : A) × (v ≡ done a)
 unfolding told
 zero-told (refused r) h e = not-zero h e

@@ -28,18 +28,18 @@ use Rattle.history.proofs.AcceptedLaws.{difference-under, apply-under, 
 use Rattle.history.proofs.SizeLaws.{list-short, join-short, OneJoin, joins-associate}
 use Rattle.history.proofs.StateLaws.{write-current, write-stale, write-read, write-other, read-write, read-is, wrote, written-image, statesInto, AllBelow, all-into, states-written, states-at}
 
--- ---- the forms: accepted exactly where they are written of something legal, which they are then read as
+-- ---- the forms: bytes are accepted exactly where they are something legal, written; they are then read as that
 
 pub table-exactly : (T : List ℕ) → Bytes T → (t : Table) → (tableCall T ≡ done t) ↔ (LegalTable t × (T ≡ tableBytes t))
 unfolding tableCall
 table-exactly T h t = table-form T h t
 
--- 5 exactly where the objects before are those of a legal table and the next is of a type that its catalogue doesn't carry; the next is named
+-- 5 exactly where the objects before are those of a legal table and the next has a type that its catalogue doesn't carry; the next is named
 pub type-exactly : (T : List ℕ) → Bytes T → (k bit : ℕ) → (tableCall T ≡ refused (naming 5 k bit)) ↔ (FirstNotCarried T k × (bit ≡ 255))
 unfolding tableCall
 type-exactly T h k bit = table-others T h k bit
 
--- 7 exactly where the objects before are those of a legal table and the next is as one of them; the next is named
+-- 7 exactly where the objects before are those of a legal table and the next is one of them again; the next is named
 pub repeat-exactly : (T : List ℕ) → Bytes T → (k bit : ℕ) → (tableCall T ≡ refused (naming 7 k bit)) ↔ (FirstRepeat T k × (bit ≡ 255))
 unfolding tableCall
 repeat-exactly T h k bit = table-repeats T h k bit
@@ -122,7 +122,7 @@ three-lists T A L M N {B} {C} ha hl hm hn x y z =
     let c = applied-image T t b m y .0 in
     joins-associate T t (f .0) (f .1) m (list-taken T t C N c hn z) x y z
 
--- what is given is accepted: the result, the join, the list turned back
+-- what the calls write is accepted: the result, the join, the list turned back
 pub applied-accepted : (T A L : List ℕ) {B : List ℕ} → Bytes A → Bytes L → applyCall T A L ≡ done B → (b : Image) × (imageCall T B ≡ done b)
 applied-accepted T A L ha hl e =
     let t = apply-under T A L e .reads in
@@ -152,7 +152,7 @@ join-not-longer T L M hl hm e =
     let f = two-lists T t L M hl hm e in
     join-short T t (f .0) (f .1) e
 
--- a difference is never longer than four images
+-- a difference is never longer than four times the image
 pub difference-not-longer : (T A B : List ℕ) {L : List ℕ} → Bytes A → Bytes B → differenceCall T A B ≡ done L → length L ≤ 4 * length A
 difference-not-longer T A B ha hb e =
     let t = difference-under T A B e .reads in
@@ -161,7 +161,7 @@ difference-not-longer T A B ha hb e =
 
 -- ---- what is refused, and what a refusal names
 
--- of accepted forms, what the operation refuses
+-- if its forms are accepted, a call refuses what the operation refuses
 apply-refused : (T A L : List ℕ) {a : Image} {l : Changes} {r : Refused} → imageCall T A ≡ done a → listCall T L ≡ done l
     → (applyCall T A L ≡ refused r) ↔ (applied l a ≡ refused r)
 unfolding imageCall listCall applyCall applyUnder
@@ -176,7 +176,7 @@ join-refused T L M {l} {m} el em =
     let t = list-under T L el .reads in
     ((λ e. passed-up (join l m) _ (rw (t, rw t at el, rw t at em) at e)), (λ e. rw (t, rw t at el, rw t at em, e)))
 
--- 16 exactly where the list starts below the image's position, 17 where above it
+-- 16 exactly where the list starts below the image's position, 17 exactly where above it
 pub late-exactly : (T A L : List ℕ) {a : Image} {l : Changes} → imageCall T A ≡ done a → listCall T L ≡ done l → (applyCall T A L ≡ refusal 16) ↔ (l .from < a .position)
 late-exactly T A L {a} {l} ea el = Iff·trans (apply-refused T A L ea el) (late l a)
 
@@ -199,7 +199,7 @@ names-lowest-meeting T L M {l} {m} el em e = names-meeting l m (join-refused T L
 
 -- ---- demand 2, on images
 
--- a state of the object's kind is written unless DAT is 0 and another bit 1 ..
+-- a state of the object's kind is written, unless DAT is 0 and another bit is 1 ..
 pub current-written : (T A : List ℕ) (i : ℕ) (e : Element) (position : ℕ) {p : Plan} {a : Image} → Bytes A → readPlan T ≡ done p → imageCall T A ≡ done a
     → i < length (p .kinds) → kindIn e ≡ kindAt (p .kinds) i → (Stale (kindIn e) (wordOf e) → ⊥)
     → writeStateCall T A i e position ≡ done (imageBytes p (placed a i (wordOf e) position))
@@ -208,27 +208,27 @@ current-written T A i e position {p} {a} ha t ea l s n =
     let same : x .image ≡ a = cc (image-accepted T t x) in
     rw (← same) (write-current T t x i e position l s n)
 
--- .. and then refused with 12
+-- .. and then it is refused with 12
 pub stale-refused : (T A : List ℕ) (i : ℕ) (e : Element) (position : ℕ) {p : Plan} {a : Image} → Bytes A → readPlan T ≡ done p → imageCall T A ≡ done a
     → i < length (p .kinds) → kindIn e ≡ kindAt (p .kinds) i → Stale (kindIn e) (wordOf e)
     → writeStateCall T A i e position ≡ refused (naming 12 i 0)
 stale-refused T A i e position ha t ea l s h = write-stale T t (accepted-image T t A ha ea) i e position l s h
 
--- a state written is read
+-- a state that was written is read back
 pub write-then-read : (T A : List ℕ) (i : ℕ) (e : Element) (position : ℕ) {B : List ℕ} → Bytes A → position < 2 ^ 32
     → writeStateCall T A i e position ≡ done B → readStateCall T B i ≡ done e
 write-then-read T A i e position ha s q =
     let t = write-under T A i e position q .reads in
     write-read T t (written-in T t A i e position ha q) i e position s q
 
--- the others stay, refusals too
+-- reading any other object gives what it gave before, also a refusal
 pub others-stay : (T A : List ℕ) (i : ℕ) (e : Element) (position : ℕ) {B : List ℕ} → Bytes A → position < 2 ^ 32
     → writeStateCall T A i e position ≡ done B → (j : ℕ) → (j ≡ i → ⊥) → readStateCall T B j ≡ readStateCall T A j
 others-stay T A i e position ha s q =
     let t = write-under T A i e position q .reads in
     write-other T t (written-in T t A i e position ha q) i e position s q
 
--- what was read, written at the image's own position, gives the image
+-- a state that was read, written again at the image's own position, gives the image
 pub read-then-write : (T A : List ℕ) (i : ℕ) {a : Image} {e : Element} → Bytes A → imageCall T A ≡ done a → readStateCall T A i ≡ done e
     → writeStateCall T A i e (a .position) ≡ done A
 read-then-write T A i {a} {e} ha ea q =
@@ -237,7 +237,7 @@ read-then-write T A i {a} {e} ha ea q =
     let same : a ≡ x .image = cc (image-accepted T t x) in
     ap (λ (b : Image). writeStateCall T A i e (b .position)) same ∙ read-write T t x i e q
 
--- the states of A, read and written one by one into any accepted image, at any positions and the last at A's, give A
+-- the states of A, read and written one by one into any accepted image, the last at A's position and the others at any, give A
 pub states-make-image : (T A Z positions : List ℕ) {p : Plan} {a z : Image} → Bytes A → Bytes Z → readPlan T ≡ done p → imageCall T A ≡ done a → imageCall T Z ≡ done z
     → AllBelow (2 ^ 32) positions → suc (length positions) ≡ length (p .kinds)
     → statesInto T A 0 (positions ++ (a .position ∷ [])) Z ≡ done A
@@ -247,7 +247,7 @@ states-make-image T A Z positions {p} {a} ha hz t ea ez h n =
     ap (λ (b : Image). statesInto T A 0 (positions ++ (b .position ∷ [])) Z) same
     ∙ all-into T t x (accepted-image T t Z hz ez) 0 positions h (zero-add _ ∙ n) refl
 
--- the states of all objects, as the calls read them, written as an image give the image
+-- the states of all objects, as the calls read them, make up the image again
 pub image-of-states : (T A : List ℕ) {p : Plan} {a : Image} → Bytes A → readPlan T ≡ done p → imageCall T A ≡ done a
     → (imageBytes p (record { version = a .version; position = a .position; words = map wordOf (zipWith stateOf (p .kinds) (a .words)) }) ≡ A)
     × ((i : ℕ) (d : Element) → i < length (p .kinds) → readStateCall T A i ≡ done (getD (zipWith stateOf (p .kinds) (a .words)) i d))

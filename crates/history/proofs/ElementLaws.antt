@@ -1,4 +1,4 @@
--- What is found of an element and of a state, in history's words.
+-- What the crate `elements` shows of elements and states, in the words of `history`.
 -- Assumes nothing.
 use Prim.Native.Nat.{ℕ, zero, suc, _+_, _*_, _^_, _≤_, _<_}
 use native.Mathlib.Omega.{arith}
@@ -54,19 +54,19 @@ accepted : (v : Finding) → isAccepted v ≡ true → v ≡ Finding.Accepted
 accepted Finding.Accepted e = refl
 accepted (Finding.Refused r) e = absurd (let z : _≡_ {A = ℕ} 0 1 = cc in omega arith)
 
--- the number of the state that a number is read as
+-- a number read as a state and turned back is the same number
 pub word-again : (k : Kind) (w : ℕ) → admits k w ≡ true → wordOf (stateOf k w) ≡ w
 unfolding element
 word-again k w h =
     let fits : w < 2 ^ (8 * widthOf k) = rw (pow-256 (widthOf k)) at (admits-fits k w h) in
     word-state-word k w fits (accepted (elementCheck k w) (admits-accepted k w h))
 
--- the fields of an element are read as its state
+-- reading an element's fields gives its state
 pub admits-read : (k : Kind) (w : ℕ) → admits k w ≡ true → stateRead k w ≡ stateOf k w
 unfolding element
 admits-read k w h = accepted-state k w (accepted (elementCheck k w) (admits-accepted k w h))
 
--- the state of a state's number
+-- a state turned into a number and read again is the same state
 pub state-again : (k : Kind) (e : Element) → kindIn e ≡ k → stateOf k (wordOf e) ≡ e
 state-again k e s = ap (λ (j : Kind). stateOf j (wordOf e)) (sym s) ∙ state-word-state e
 
@@ -82,7 +82,7 @@ zero-admitted k =
     let small : 0 < 256 ^ widthOf k = rw (pow-256 (widthOf k)) (pow-pos (8 * widthOf k)) in
     all (lt-ltb _ _ small) (ap isAccepted (zero-found k))
 
--- kinds are the same where they are told to be
+-- `sameKind` holds exactly for equal kinds
 pub same-kind : (j k : Kind) → sameKind j k ≡ true → j ≡ k
 same-kind j k e = kind-same j k (eqb-true _ _ e)
 
@@ -91,7 +91,7 @@ is-same-kind j k e = eq-eqb (layoutNo j) (layoutNo k) (ap layoutNo e)
 
 -- ---- codes
 
--- a state is accepted unless bit 0, DAT, is 0 and another bit is 1, and then it is 12: no other code is left
+-- a state is accepted, unless bit 0, DAT, is 0 and another bit is 1; then the code is 12. No other code is possible
 module _ (k : Kind) (e : Element) (s : kindIn e ≡ k) where
   pub state-current : (Stale (kindIn e) (wordOf e) → ⊥) → element k (wordOf e) ≡ Finding.Accepted
   unfolding element
@@ -101,7 +101,7 @@ module _ (k : Kind) (e : Element) (s : kindIn e ≡ k) where
   unfolding element
   state-twelve h = rw (← s) (state-stale e h)
 
--- what a refused element of a kind is told with
+-- the code and bit of a refused element are ones that its kind can give
 pub refuses-as : (k : Kind) (w : ℕ) {x : Refusal} → element k w ≡ Finding.Refused x → Refuses k (x .code) (x .bit)
 unfolding element
 refuses-as k w e = element-refuses k w e

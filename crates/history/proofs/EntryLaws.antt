@@ -1,5 +1,5 @@
--- A table of which entry k is refused begins with k legal objects, no two of them the same. 5 is given exactly where it goes on with an entry
--- of a type that its catalogue doesn't carry, 7 exactly where it goes on with one of these objects again.
+-- A table whose entry k is refused with 5, 6 or 7 begins with k legal objects, no two of them the same. 5 is given exactly where an entry
+-- follows whose type its catalogue doesn't carry, 7 exactly where one of these objects follows again.
 -- Assumes nothing.
 use Prim.Native.Nat.{ℕ, zero, suc, _+_, _-_, _^_, _≤_, _<_}
 use native.Mathlib.Omega.{arith}
@@ -21,7 +21,7 @@ use Rattle.history.proofs.FormLaws.{form-whole, form-version, form-othe
 use Rattle.history.proofs.TableLaws.{repeats-one, repeats-each, LegalFrom, legal-each, legal-distinct, legal-from, tested, object-is, object-checked, object-other, objects-pass}
 
 module _ (version x : ℕ) where
-  -- the first entry that is refused: those before it are legal
+  -- the first entry that is refused; those before it are legal
   record Stops (earlier : List Object) (n : ℕ) (b : List ℕ) (r : Refused) : Type 0 where
     more : List Object
     legal : LegalFrom version x earlier more
@@ -47,14 +47,14 @@ module _ (version x : ℕ) where
         here = rw (append-assoc earlier (o ∷ []) (r .more)) at (r .here);
       }
 
-  -- (8 is given too where bytes are left over)
+  -- for codes below 8: 8 is also given where bytes are left over and no entry is refused
   stops : (earlier : List Object) (n : ℕ) (b : List ℕ) {r : Refused} → r .code < 8 → readObjects version x earlier n b ≡ refused r → Stops earlier n b r
   stops earlier zero b l e = absurd (let p = past (eqb (length b) 0) _ _ (λ z. omega arith) e in let z : _≡_ {A = ℕ} 0 1 = cc (p .1) in omega arith)
   stops earlier (suc n) b l e =
       ⊎-elim (stops-here earlier n b) (λ p. stops-later earlier n b (p .1) (stops (earlier ++ (p .0 .object ∷ [])) n (p .0 .rest) l (p .2)))
       (either-refused (checkObject version x earlier b (objectAt b)) _ e)
 
--- a table of count objects that begins with the k objects of a legal one, of which no two are the same, and goes on in the way that is asked for
+-- a table that says it has more than k objects, begins with the k objects of a legal table, and goes on as `GoesOn` says
 pub record FirstAt (GoesOn : Table → List ℕ → Type 0) (b : List ℕ) (k : ℕ) : Type 0 where
   pub before : Table
   pub legal : LegalTable before
@@ -72,12 +72,12 @@ pub record FirstAt (GoesOn : Table → List ℕ → Type 0) (b : List ℕ) (k : 
     contents = bytes 2 count ++ (objectsBytes (before .objects) ++ rest);
   })
 
--- the entry behind a legal table's objects is refused with the code exactly where the bytes go on so; it is named, and no bit
+-- the entry after a legal table's objects is refused with the code exactly where the bytes go on this way; it is named, and no bit
 abbrev RefusedWith : ℕ → (Table → List ℕ → Type 0) → Type 0
 RefusedWith code GoesOn = (t : Table) → LegalTable t → (rest : List ℕ) (k bit : ℕ)
     → (checkObject (t .version) (t .x) (t .objects) rest (objectAt rest) ≡ refused (naming code k bit)) ↔ (GoesOn t rest × (length (t .objects) ≡ k) × (bit ≡ 255))
 
--- so is the table, if the code is one of entries alone: 5, 6, 7
+-- then so is the table, if only entries give the code: 5, 6, 7
 module _ (code : ℕ) (GoesOn : Table → List ℕ → Type 0) (late : 4 < code) (early : code < 8) (exactly : RefusedWith code GoesOn) where
   first-contents : (b : List ℕ) (f : Form) {k bit : ℕ} → Bytes b → readForm 5 versionGood b ≡ done f → catalogueGood (f .x) (f .y) ≡ true → number (take 2 (f .contents)) ≤ 1024
       → Stops (f .version) (f .x) [] (number (take 2 (f .contents))) (drop 2 (f .contents)) (naming code k bit) → FirstAt GoesOn b k × (bit ≡ 255)
@@ -152,7 +152,7 @@ module _ (code : ℕ) (GoesOn : Table → List ℕ → Type 0) (late : 4 < code)
 
 -- ---- 5
 
--- the two first bytes of an entry are there, and its type is not carried under the table's X
+-- the first two bytes of an entry are there, and its type is not carried under the table's X
 pub record NotCarried (t : Table) (rest : List ℕ) : Type 0 where
   pub two : 2 ≤ length rest
   pub type : carried (t .x) (getD rest 0 0) ≡ false
@@ -162,7 +162,7 @@ other-exactly t legal rest k bit =
     let e = object-other (t .version) (t .x) (t .objects) rest k bit in
     ((λ q. let w = e .0 q in (record { two = w .0; type = w .1 }, w .2, w .3)), (λ w. e .1 (w .0 .two, w .0 .type, w .1, w .2)))
 
--- a table that begins with the objects of a legal one, and goes on with an entry of a type that its catalogue doesn't carry, whatever follows
+-- a table that begins with the objects of a legal one, followed by an entry whose type its catalogue doesn't carry, and by anything
 abbrev pub FirstNotCarried : List ℕ → ℕ → Type 0
 FirstNotCarried = FirstAt NotCarried
 
@@ -172,7 +172,7 @@ table-others = first-exactly 5 NotCarried (omega arith) (omega arith) other-exac
 
 -- ---- 7
 
--- the bytes of one of the table's objects are there again
+-- the bytes of one of the table's objects follow again
 pub record Again (t : Table) (rest : List ℕ) : Type 0 where
   pub again : ℕ
   pub earlier : again < length (t .objects)
@@ -194,7 +194,7 @@ again-exactly t legal rest k bit = (
       rw (a .same, object-checked (t .version) (t .x) (t .objects) (object t (a .again)) (a .after) legal-again, repeats-each (t .objects) (a .again) (a .earlier), w .1, w .2)),
 )
 
--- a table that begins with the objects of a legal one, of which no two are the same, and goes on with one of them again, whatever follows
+-- a table that begins with the objects of a legal one, no two the same, followed by one of them again, and by anything
 abbrev pub FirstRepeat : List ℕ → ℕ → Type 0
 FirstRepeat = FirstAt Again
 

@@ -1,5 +1,5 @@
--- The paper's table, images and lists, as bytes: the calls give what it prints, each code is given where it should be and names what it should,
--- of two faults the first is named, what the forms' limits are, and its trap about joins; and the calls under catalogue 3.0.
+-- The paper's table, images and lists, as bytes. The calls give what it prints; each code is given where it should be and names what it
+-- should; of two faults the first is named; the limits of the forms; the trap about joins; and the calls under catalogue 3.0.
 -- Assumes nothing.
 use Prim.Native.Nat.{ℕ}
 use mathlib.Core.Path.{_≡_, refl}
@@ -51,18 +51,18 @@ BC = 0 ∷ 0 ∷ 0 ∷ 0x17 ∷ 1 ∷ 1 ∷ 0 ∷ 0 ∷ 0 ∷ 0 ∷ 8 ∷ 0 ∷ 
 abbrev AC : List ℕ
 AC = 0 ∷ 0 ∷ 0 ∷ 0x11 ∷ 1 ∷ 1 ∷ 0 ∷ 0 ∷ 0 ∷ 0 ∷ 7 ∷ 0 ∷ 0 ∷ 0 ∷ 9 ∷ 0 ∷ 1 ∷ 0 ∷ 1 ∷ 0x03 ∷ 0x05 ∷ []
 
--- as A, but for object 0's element; and with object 1's new one
+-- X is A with another element of object 0; Y is X after AC
 abbrev X : List ℕ
 X = 0 ∷ 0 ∷ 0 ∷ 0x0A ∷ 1 ∷ 1 ∷ 0 ∷ 0 ∷ 0 ∷ 0 ∷ 7 ∷ 0 ∷ 0x11 ∷ 0x03 ∷ []
 
 abbrev Y : List ℕ
 Y = 0 ∷ 0 ∷ 0 ∷ 0x0A ∷ 1 ∷ 1 ∷ 0 ∷ 0 ∷ 0 ∷ 0 ∷ 9 ∷ 0 ∷ 0x11 ∷ 0x05 ∷ []
 
--- two objects of one type and label
+-- two objects with the same type and label
 abbrev twice : List ℕ
 twice = 0 ∷ 0 ∷ 0 ∷ 0x0F ∷ 1 ∷ 1 ∷ 0 ∷ 0 ∷ 2 ∷ 2 ∷ 3 ∷ 0x41 ∷ 0x3A ∷ 0x42 ∷ 2 ∷ 3 ∷ 0x41 ∷ 0x3A ∷ 0x42 ∷ []
 
--- three of which the last is as the first
+-- three objects, the last equal to the first
 abbrev thrice : List ℕ
 thrice = 0 ∷ 0 ∷ 0 ∷ 0x14 ∷ 1 ∷ 1 ∷ 0 ∷ 0 ∷ 3 ∷ 2 ∷ 3 ∷ 0x41 ∷ 0x3A ∷ 0x42 ∷ 2 ∷ 3 ∷ 0x41 ∷ 0x3A ∷ 0x43 ∷ 2 ∷ 3 ∷ 0x41 ∷ 0x3A ∷ 0x42 ∷ []
 
@@ -122,7 +122,7 @@ pub each-code : (tableCall (take 3 T) ≡ refused (naming 1 65535 255))
 unfolding table layouts datRule elementCheck stateOf wordOf bytes settled formBytes isWhole readForm versionGood catalogueGood labelLimit carried kindOf labelGood checkObject readTable planOf imageVersionGood element imageBytes elementsFrom readImage listVersion listBytes readNumber readElements checkEntry readList difference applied join turned readPlan tableCall imageCall listCall differenceUnder differenceCall applyUnder applyCall joinUnder joinCall turnUnder turnCall readStateUnder readStateCall checkState writeStateUnder writeStateCall zipWith
 each-code = (refl, refl, refl, refl, refl, refl, refl, refl, refl, refl, refl, refl, refl, refl, refl, refl, refl, refl, refl, refl, refl, refl, refl, refl, refl, refl, refl)
 
--- what is named: the object's own number, wherever it stands
+-- what is named: the number of the object at fault, or for 13 the number that is no object's
 pub names-each : (tableCall (set T 17 10) ≡ refused (naming 5 1 255))
     × (tableCall (set T 18 33) ≡ refused (naming 6 1 255))
     × (tableCall thrice ≡ refused (naming 7 2 255))
@@ -144,7 +144,7 @@ pub names-each : (tableCall (set T 17 10) ≡ refused (naming 5 1 255))
 unfolding table layouts datRule elementCheck stateOf wordOf bytes settled formBytes isWhole readForm versionGood catalogueGood labelLimit carried kindOf labelGood checkObject readTable planOf imageVersionGood element imageBytes elementsFrom readImage listVersion listBytes readNumber readElements checkEntry readList difference applied join turned readPlan tableCall imageCall listCall differenceUnder differenceCall applyUnder applyCall joinUnder joinCall turnUnder turnCall readStateUnder readStateCall checkState writeStateUnder writeStateCall zipWith labelCall
 names-each = (refl, refl, refl, refl, refl, refl, refl, refl, refl, refl, refl, refl, refl, refl, refl, refl, refl, refl)
 
--- 8, by where bytes are lacking or left over
+-- 8, wherever bytes are missing or left over; but a whole number past the objects is 13
 pub eights : (tableCall (0 ∷ 0 ∷ 0 ∷ 6 ∷ 1 ∷ 1 ∷ 0 ∷ 0 ∷ 1 ∷ 2 ∷ []) ≡ refused (naming 8 65535 255))
     × (tableCall (0 ∷ 0 ∷ 0 ∷ 8 ∷ 1 ∷ 1 ∷ 0 ∷ 0 ∷ 1 ∷ 2 ∷ 3 ∷ 0x41 ∷ []) ≡ refused (naming 8 65535 255))
     × (tableCall (set T 8 1) ≡ refused (naming 8 65535 255))
@@ -155,7 +155,7 @@ pub eights : (tableCall (0 ∷ 0 ∷ 0 ∷ 6 ∷ 1 ∷ 1 ∷ 0 ∷ 0 ∷ 1 ∷ 2
 unfolding table layouts datRule elementCheck stateOf wordOf bytes settled formBytes isWhole readForm versionGood catalogueGood labelLimit carried kindOf labelGood checkObject readTable planOf imageVersionGood element imageBytes elementsFrom readImage listVersion listBytes readNumber readElements checkEntry readList difference applied join turned readPlan tableCall imageCall listCall differenceUnder differenceCall applyUnder applyCall joinUnder joinCall turnUnder turnCall readStateUnder readStateCall checkState writeStateUnder writeStateCall zipWith
 eights = (refl, refl, refl, refl, refl, refl, refl)
 
--- two faults at once: the order of the paper
+-- of two faults the first in the paper's order is named
 pub first-named : (tableCall (set (set T 4 2) 6 1) ≡ refused (naming 2 65535 255))
     × (tableCall (set (set T 6 1) 7 4) ≡ refused (naming 3 65535 255))
     × (tableCall (set (set T 9 10) 10 33) ≡ refused (naming 5 0 255))
@@ -198,7 +198,7 @@ pub orders : (tableCall (set (T ++ (0 ∷ [])) 4 2) ≡ refused (naming 1 65535 
 unfolding table layouts datRule elementCheck stateOf wordOf bytes settled formBytes isWhole readForm versionGood catalogueGood labelLimit carried kindOf labelGood checkObject readTable planOf imageVersionGood element imageBytes elementsFrom readImage listVersion listBytes readNumber readElements checkEntry readList difference applied join turned readPlan tableCall imageCall listCall differenceUnder differenceCall applyUnder applyCall joinUnder joinCall turnUnder turnCall readStateUnder readStateCall checkState writeStateUnder writeStateCall zipWith
 orders = (refl, refl, refl, refl, refl, refl, refl, refl, refl, refl, refl, refl, refl, refl, refl, refl)
 
--- at the edges: the least lengths, 5, 7 and 13; an entry of two bytes and no more; labels of 1 and 32 bytes that are cut; one byte lacking
+-- at the edges: the least lengths, 5, 7 and 13; an entry of two bytes and no more; labels of 1 and 32 bytes that are cut; one byte missing
 pub edges : (tableCall (0 ∷ 0 ∷ 0 ∷ 4 ∷ 1 ∷ 1 ∷ 0 ∷ 0 ∷ []) ≡ refused (naming 1 65535 255))
     × (tableCall (0 ∷ 0 ∷ 0 ∷ 5 ∷ 1 ∷ 1 ∷ 0 ∷ 0 ∷ 0 ∷ []) ≡ done (record { version = 1; x = 1; y = 0; objects = [] }))
     × (imageCall T (0 ∷ 0 ∷ 0 ∷ 6 ∷ 1 ∷ 1 ∷ 0 ∷ 0 ∷ 0 ∷ 0 ∷ []) ≡ refused (naming 1 65535 255))
@@ -214,7 +214,7 @@ pub edges : (tableCall (0 ∷ 0 ∷ 0 ∷ 4 ∷ 1 ∷ 1 ∷ 0 ∷ 0 ∷ []) ≡ 
 unfolding table layouts datRule elementCheck stateOf wordOf bytes settled formBytes isWhole readForm versionGood catalogueGood labelLimit carried kindOf labelGood checkObject readTable planOf imageVersionGood element imageBytes elementsFrom readImage listVersion listBytes readNumber readElements checkEntry readList difference applied join turned readPlan tableCall imageCall listCall differenceUnder differenceCall applyUnder applyCall joinUnder joinCall turnUnder turnCall readStateUnder readStateCall checkState writeStateUnder writeStateCall zipWith
 edges = (refl, refl, refl, refl, refl, refl, refl, refl, refl, refl, refl, refl)
 
--- in a call: the table before all else, a form before what is asked of it, the gap before the values
+-- order in a call: the table before all else, each form before what is asked of it, a gap before the values
 pub call-orders : (listCall (set T 6 1) (take 3 AB) ≡ refused (naming 3 65535 255))
     × (differenceCall (set T 6 1) (take 3 A) B ≡ refused (naming 3 65535 255))
     × (applyCall (set T 6 1) (take 3 A) AB ≡ refused (naming 3 65535 255))
@@ -230,7 +230,7 @@ pub call-orders : (listCall (set T 6 1) (take 3 AB) ≡ refused (naming 3 65535 
 unfolding table layouts datRule elementCheck stateOf wordOf bytes settled formBytes isWhole readForm versionGood catalogueGood labelLimit carried kindOf labelGood checkObject readTable planOf imageVersionGood element imageBytes elementsFrom readImage listVersion listBytes readNumber readElements checkEntry readList difference applied join turned readPlan tableCall imageCall listCall differenceUnder differenceCall applyUnder applyCall joinUnder joinCall turnUnder turnCall readStateUnder readStateCall checkState writeStateUnder writeStateCall zipWith labelCall
 call-orders = (refl, refl, refl, refl, refl, refl, refl, refl, refl, refl, refl, refl)
 
--- what the forms may hold: labels of 33 to 126 with a colon inside, 32 bytes, version 1, catalogues 1.0 and 3.0
+-- what the forms may hold: label bytes 33 to 126 with a colon inside, at most 32; version 1; catalogues 1.0 and 3.0
 pub limits : (map firstColon ((65 ∷ 58 ∷ 58 ∷ []) ∷ (65 ∷ 66 ∷ []) ∷ []) ≡ 1 ∷ 2 ∷ [])
     × (map labelGood ((33 ∷ 58 ∷ 126 ∷ []) ∷ (32 ∷ 58 ∷ 65 ∷ []) ∷ (65 ∷ 58 ∷ 127 ∷ []) ∷ (58 ∷ 65 ∷ []) ∷ (65 ∷ 58 ∷ []) ∷ (65 ∷ 66 ∷ 67 ∷ []) ∷ (65 ∷ 58 ∷ 58 ∷ []) ∷ []) ≡ true ∷ false ∷ false ∷ false ∷ false ∷ false ∷ true ∷ [])
     × (labelLimit 1 ≡ 32)
@@ -247,10 +247,11 @@ pub trap : (joinCall T AB BC ≡ done AC) × (applyCall T X AB ≡ refused (nami
 unfolding table layouts datRule elementCheck stateOf wordOf bytes formBytes isWhole readForm versionGood catalogueGood labelLimit carried kindOf labelGood checkObject readTable planOf imageVersionGood element imageBytes elementsFrom readImage listVersion listBytes readNumber readElements checkEntry readList applied join readPlan applyUnder applyCall joinUnder joinCall zipWith
 trap = (refl, refl, refl)
 
--- a tally for each call: applied, late (with no room too), gap, and others, 21 among them; a full one stays
+-- the applied tally is full
 abbrev brim : Standing
 brim = record { applied = 4294967295; late = 1; gap = 2; other = 3 }
 
+-- each call moves one tally: applied, late (even with no room), gap, or other, for 18 and 21; a full one stays
 pub received-each : (receiveCall T A AB (A ++ (5 ∷ [])) fresh ≡ record { answer = unnamed 0 14; output = B ++ (5 ∷ []); standing = record { applied = 1; late = 0; gap = 0; other = 0 } })
     × (receiveCall T C AB [] fresh ≡ record { answer = unnamed 16 0; output = []; standing = record { applied = 0; late = 1; gap = 0; other = 0 } })
     × (receiveCall T A BC B fresh ≡ record { answer = unnamed 17 0; output = B; standing = record { applied = 0; late = 0; gap = 1; other = 0 } })
@@ -262,7 +263,7 @@ unfolding table layouts datRule elementCheck stateOf wordOf bytes settled formBy
 received-each = (refl, refl, refl, refl, refl, refl, refl)
 
 -- ---- catalogue 3.0: a signal and a changer signal. The signal's EAR is active; then it is green, its F flashes green and its router is in
--- automatic block; then it is as at first
+-- automatic block; then it is as it was at first, and the changer signal has changed
 
 abbrev pub T3 : List ℕ
 T3 = 0 ∷ 0 ∷ 0 ∷ 0x13 ∷ 1 ∷ 3 ∷ 0 ∷ 0 ∷ 2 ∷ 1 ∷ 5 ∷ 0x41 ∷ 0x41 ∷ 0x3A ∷ 0x53 ∷ 0x31 ∷ 2 ∷ 5 ∷ 0x41 ∷ 0x41 ∷ 0x3A ∷ 0x49 ∷ 0x31 ∷ []
@@ -288,14 +289,14 @@ BC3 = 0 ∷ 0 ∷ 0 ∷ 0x1B ∷ 1 ∷ 3 ∷ 0 ∷ 0 ∷ 0 ∷ 0 ∷ 8 ∷ 0 ∷
 abbrev AC3 : List ℕ
 AC3 = 0 ∷ 0 ∷ 0 ∷ 0x11 ∷ 1 ∷ 3 ∷ 0 ∷ 0 ∷ 0 ∷ 0 ∷ 7 ∷ 0 ∷ 0 ∷ 0 ∷ 9 ∷ 0 ∷ 1 ∷ 0 ∷ 1 ∷ 0x03 ∷ 0x05 ∷ []
 
--- the same objects under 1.0, the signal with data and nothing else
+-- the same objects under 1.0; of the signal's bits only DAT is 1
 abbrev T1 : List ℕ
 T1 = set T3 5 1
 
 abbrev A1 : List ℕ
 A1 = set (set A3 5 1) 14 0x01
 
--- with data, and without
+-- a green signal of 3.0 and one of 1.0, with data or without
 abbrev routed : Bool → SignalV3
 routed current = record { current = current; kind = SignalKind.Unknown; «high_speed_auto_route» = true; aspect = SignalAspect.Green; «red_fitted» = false; «red_blown» = false; «white_fitted» = false; «white_blown» = false; «vertical_white_fitted» = false; «vertical_white_blown» = false; «horizontal_white_fitted» = false; «horizontal_white_blown» = false; «blue_fitted» = false; «blue_blown» = false; «yellow_fitted» = false; «yellow_blown» = false; «green_fitted» = false; «green_blown» = false; «special_command_pending» = false; «command_blocked» = false; «mixed_gauge» = MixedGaugeIndication.NoThirdRail; «automatic_succession» = false; «auto_route» = AutoRoute.GreenFlashing; router = RouterIndication.AutomaticBlock }
 
@@ -319,8 +320,8 @@ pub new-catalogue : (tableCall T3 ≡ done (record { version = 1; x = 3; y = 0; 
 unfolding table layouts datRule elementCheck stateOf wordOf bytes settled formBytes isWhole readForm versionGood catalogueGood labelLimit carried kindOf labelGood checkObject readTable planOf imageVersionGood element imageBytes elementsFrom readImage listVersion listBytes readNumber readElements checkEntry readList difference applied join turned readPlan tableCall imageCall listCall differenceUnder differenceCall applyUnder applyCall joinUnder joinCall turnUnder turnCall readStateUnder readStateCall checkState writeStateUnder writeStateCall zipWith
 new-catalogue = (refl, refl, refl, refl, refl, refl, refl, refl, refl, refl, refl, refl, refl, refl)
 
--- 3: neither 1.0 nor 3.0; 5: types 8, 9, 22 and 23, and the object; 9: an image and a list of the other catalogue; 11 and 10: GRP_ARS 3, and bit 31
--- under 1.0; 22, before 12: a signal of one catalogue under the other
+-- 3: neither 1.0 nor 3.0; 5: types 8, 9, 22 and 23, naming the object; 9: an image or a list of another catalogue; 11: GRP_ARS 3; 10 and 11:
+-- bits 31 and 3 of a 3.0 signal, under 1.0; 12: no data, and EAR active; 22, before 12: a signal of one catalogue under the other
 pub new-refusals : (tableCall (set T3 5 2) ≡ refused (naming 3 65535 255))
     × (tableCall (set T3 5 0) ≡ refused (naming 3 65535 255))
     × (tableCall (set T3 6 1) ≡ refused (naming 3 65535 255))

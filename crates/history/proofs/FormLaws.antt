@@ -1,4 +1,4 @@
--- A form is read exactly where it is written, and as what was written.
+-- Bytes are read as a form exactly where they are that form, written.
 -- Assumes nothing.
 use Prim.Native.Nat.{ℕ, _+_, _^_, _≤_, _<_}
 use native.Mathlib.Omega.{arith}
@@ -22,7 +22,7 @@ pub record Formed (least : ℕ) (good : ℕ → Bool) (b : List ℕ) (f : Form) 
   pub inside : Bytes (f .contents)
   pub small : (f .version < 256) × (f .x < 256) × (f .y < 256)
 
--- what a whole form says
+-- what `isWhole` tells
 pub record Whole (least : ℕ) (b : List ℕ) : Type 0 where
   pub length-is : length b ≡ 4 + number (take 4 b)
   pub enough : least ≤ number (take 4 b)
@@ -73,7 +73,7 @@ pub form-contents : (least : ℕ) (good : ℕ → Bool) (b : List ℕ) {f : Form
 unfolding readForm
 form-contents least good b e = cc (held (good (getD b 4 0)) _ _ (held (isWhole least b) _ _ e .1) .1)
 
--- no form is refused with a code above 2
+-- reading a form gives no code above 2
 pub form-other : (least : ℕ) (good : ℕ → Bool) (b : List ℕ) {r : Refused} → 2 < r .code → readForm least good b ≡ refused r → ⊥
 unfolding readForm
 form-other least good b l e =

@@ -1,4 +1,4 @@
--- Two lists join exactly where some image takes both; a join turned back.
+-- Two lists join exactly where some image takes first one and then the other; a join turned back.
 -- Assumes nothing.
 use Prim.Native.Nat.{ℕ, suc}
 use native.Mathlib.Omega.{arith}
@@ -21,7 +21,7 @@ use Rattle.history.proofs.OperationLaws.{taking, joins, join-taken}
 
 -- ---- an image that takes both
 
--- the image without data: a legal image under any plan
+-- elements without data for all objects: `silent`, an image of these, is legal under any plan
 abbrev zeros : List Kind → List ℕ
 zeros [] = []
 zeros (k ∷ ks) = 0 ∷ zeros ks
@@ -37,12 +37,12 @@ silent-legal : (p : Plan) → LegalImage p (silent p)
 unfolding imageVersionGood
 silent-legal p = record { version = refl; position = omega arith; words = zeros-admitted (p .kinds) }
 
--- the element that a change starts from: its old one, or any
+-- the element that a change starts from: its old one, or a where it keeps
 abbrev pub before : Change → ℕ → ℕ
 before keep a = a
 before (swap old new) a = old
 
--- .. and two lists in turn: of an object in neither, z's
+-- the image that two lists in turn start from; an object in neither has z's element
 unfoldable pub start : Changes → Changes → Image → Image
 start l m z = record { version = z .version; position = l .from; words = zipWith before (l .each) (zipWith before (m .each) (z .words)) }
 
@@ -112,7 +112,7 @@ module _ {p : Plan} where
     (λ h. (difference (h .image) (h .last), join-taken hl hm (h .legal) (h .first) (h .second))),
   )
 
-  -- where they are refused, none does
+  -- where the join is refused, no image does
   pub no-history : {l m : Changes} {r : Refused} → LegalList p l → LegalList p m → join l m ≡ refused r
       → {a b c : Image} → LegalImage p a → applied l a ≡ done b → applied m b ≡ done c → ⊥
   no-history hl hm e ha f g = let z : _≡_ {A = ℕ} 0 1 = cc (join-taken hl hm ha f g) in omega arith
@@ -157,7 +157,7 @@ lowest-back i [] (d ∷ ds) k = refl
 lowest-back i (c ∷ cs) [] k = refl
 lowest-back i (c ∷ cs) (d ∷ ds) k = rw (then-unless, meets-back c d, lowest-back (suc i) cs ds k)
 
--- a join turned back is the two turned back and joined in the opposite order; so too a refusal, which names the same object
+-- a join turned back is the two turned back and joined in the opposite order; if refused, both are, and name the same object
 pub join-turned : (l m : Changes) → join (turned m) (turned l) ≡ then (join l m) (λ k. done (turned k))
 unfolding join turned
 join-turned l m =

@@ -1,4 +1,4 @@
--- An image is accepted exactly where it is the form of a legal one, and is read as that.
+-- Bytes are accepted as an image exactly where they are a legal image, written; they are read as that image.
 -- Assumes nothing.
 use Prim.Native.Nat.{ℕ, suc, _+_, _*_, _≤_}
 use native.Mathlib.Omega.{arith}
@@ -64,7 +64,7 @@ widths-few (k ∷ ks) = omega (arith, width-few k, widths-few ks)
 
 -- ---- the form
 
--- under the plan's catalogue version
+-- a form that passes has the plan's X and Y
 pub same-catalogue : (f : Form) (p : Plan) → sameCatalogue f p ≡ true → (f .x ≡ p .x) × (f .y ≡ p .y)
 same-catalogue f p e = (eqb-true _ _ (left (eqb (f .x) (p .x)) _ e), eqb-true _ _ (right (eqb (f .x) (p .x)) _ e))
 
@@ -97,7 +97,7 @@ image-is p b {a} h e =
     let x = same-catalogue f p (q₁ .0) in
     contents-are p f b (form-is 7 imageVersionGood b (omega arith) h (q .1)) (x .0) (x .1) (eqb-true _ _ (q₂ .0)) (q₃ .0) (q₃ .1) a (cc (q₃ .2))
 
--- few enough for any form
+-- at most 1,024 objects, so the length of every form fits its four bytes
 pub record Fair (p : Plan) : Type 0 where
   pub count : length (p .kinds) ≤ 1024
 
@@ -118,7 +118,7 @@ image-reads {p} {a} f h =
       read-bytes 4 (a .position) b (h .position),
     )
 
--- accepted exactly where it is the form of a legal image, which it is then read as
+-- accepted exactly where they are a legal image, written, which they are then read as
 pub image-form : (p : Plan) → Fair p → (b : List ℕ) → Bytes b → (a : Image) → (readImage p b ≡ done a) ↔ (LegalImage p a × (b ≡ imageBytes p a))
 image-form p f b h a = (image-is p b h, (λ w. ap (readImage p) (w .1) ∙ image-reads f (w .0)))
 

@@ -17,7 +17,7 @@ use Rattle.history.specs.Calls.{Place, labelPlace, labelCall}
 use Rattle.history.proofs.VerdictLaws.{left, right, held, used}
 use Rattle.history.proofs.TableLaws.{table-is}
 
--- the entries from object i on
+-- what is left after the first i entries is object i's entry, then the rest
 entries-from : (os : List Object) (i : ℕ) → i < length os
     → drop (length (objectsBytes (take i os))) (objectsBytes os) ≡ objectBytes (getD os i (record { type = 0; label = [] })) ++ objectsBytes (drop (suc i) os)
 entries-from [] i h = absurd (omega arith)
@@ -41,7 +41,7 @@ label-at t i h =
     sym (drop-drop (n + 2) 9 (tableBytes t)) ∙ ap (drop (n + 2)) (after-nine t) ∙ sym (drop-drop 2 n (objectsBytes (t .objects))) ∙ ap (drop 2) (entries-from (t .objects) i h) in
     ap (take (length l)) there ∙ take-append-seam l rest
 
--- what a label request that is not refused gives: the part is the label of the table that the bytes are read as, has at least three bytes
+-- what an accepted label request gives: the part is the object's label in the table that the bytes are read as, has at least three bytes
 -- (so an empty part tells a refusal), and lies inside
 pub record LabelIs (T : List ℕ) (i : ℕ) (q : Place) : Type 0 where
   pub table : Table
@@ -84,7 +84,7 @@ label-is T h i {q} e =
     let some = three-bytes (object t i .label) (r .legal .each i l .good) in
     rw q-is (record { table = t; reads = u .1; below = l; label = part; some = some; inside = inside (object t i .label) T (labelPlace t i .offset) part some })
 
--- each object of an accepted table has its label given
+-- a request for any object of an accepted table succeeds
 pub label-given : (T : List ℕ) (i : ℕ) {t : Table} → readTable T ≡ done t → i < length (t .objects) → labelCall T i ≡ done (labelPlace t i)
 unfolding labelCall
 label-given T i {t} e h = rw (e, lt-ltb i (length (t .objects)) h)

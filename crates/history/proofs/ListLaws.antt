@@ -1,4 +1,4 @@
--- A change list is accepted exactly where it is the form of a legal one, and is read as that.
+-- Bytes are accepted as a change list exactly where they are a legal list, written; they are read as that list.
 -- Assumes nothing.
 use Prim.Native.Nat.{ℕ, zero, suc, _+_, _-_, _*_, _^_, _≤_, _<_}
 use native.Mathlib.Omega.{arith}
@@ -34,11 +34,11 @@ use Rattle.history.proofs.ImageLaws.{same-catalogue, own-catalogue, Fai
 abbrev pub entryAt : List Kind → List ℕ → Entry
 entryAt ks b = entryOf (number (take 2 b)) (kindAt ks (number (take 2 b))) (drop 2 b)
 
--- the same entry, with more bytes behind it
+-- the same entry, with more bytes after it
 abbrev pub behind : Entry → List ℕ → Entry
 behind e rest = record { object = e .object; kind = e .kind; old = e .old; new = e .new; rest = e .rest ++ rest }
 
--- what a read entry is
+-- what an accepted entry is
 record EntryIs (ks : List Kind) (low : ℕ) (b : List ℕ) (e : Entry) : Type 0 where
   pub up : low ≤ e .object
   pub inside : e .object < length ks
@@ -47,7 +47,7 @@ record EntryIs (ks : List Kind) (low : ℕ) (b : List ℕ) (e : Entry) : Type 0 
   whole : b ≡ bytes 2 (e .object) ++ (bytes (widthOf (e .kind)) (e .old) ++ (bytes (widthOf (e .kind)) (e .new) ++ e .rest))
   after : Bytes (e .rest)
 
--- the bytes of an entry, and its numbers
+-- the bytes of an entry's two elements, and that each fits its width
 record EntryBytes (i : ℕ) (k : Kind) (b : List ℕ) : Type 0 where
   old : entryOf i k b .old < 256 ^ widthOf k
   new : entryOf i k b .new < 256 ^ widthOf k
@@ -67,7 +67,7 @@ entry-bytes i k b h room =
       after = drop-is w (drop w b) ho;
     }
 
--- what the number that is read tells
+-- what an accepted object number tells ..
 pub record Numbered (ks : List Kind) (b : List ℕ) (i : ℕ) : Type 0 where
   pub two : 2 ≤ length b
   pub number-is : number (take 2 b) ≡ i
@@ -81,7 +81,7 @@ was-numbered ks b {i} q =
     let i-is : number (take 2 b) ≡ i = cc (q₂ .1) in
     record { two = leb-true _ _ (q₁ .0); number-is = i-is; inside = rw (← i-is) (ltb-true _ _ (q₂ .0)) }
 
--- .. and the elements, which are an entry's
+-- .. and accepted elements
 pub record Fine (e : Entry) : Type 0 where
   pub old : isAccepted (element (e .kind) (e .old)) ≡ true
   pub new : isAccepted (element (e .kind) (e .new)) ≡ true
@@ -101,7 +101,7 @@ are-elements i k b room f =
     rw (le-leb (widthOf k + widthOf k) (length b) room)
     (is-accepted (element k (entryOf i k b .old)) _ _ (f .old) ∙ is-accepted (element k (entryOf i k b .new)) _ _ (f .new))
 
--- what the checks of an entry tell
+-- what an entry's checks tell together
 pub record Checked (ks : List Kind) (low : ℕ) (b : List ℕ) (e : Entry) : Type 0 where
   pub two : 2 ≤ length b
   pub inside : e .object < length ks
@@ -156,7 +156,7 @@ entry-is ks low b {e} h q =
       after = y .after;
     })
 
--- the entry by another name
+-- for an entry known by an equation
 checked-as : (ks : List Kind) (low : ℕ) (b : List ℕ) {e : Entry} → entryAt ks b ≡ e → Checked ks low b e → checkEntry ks low b ≡ done e
 checked-as ks low b same c = is-checked ks low b (rw same c) ∙ ap done same
 
@@ -278,7 +278,7 @@ entries-step : (ks : List Kind) (n low : ℕ) (b : List ℕ) (e : Entry) (cs : L
     → readEntries ks low (suc n) b ≡ done (replicate (e .object - low) keep ++ (swap (e .old) (e .new) ∷ cs))
 entries-step ks n low b e cs p q = rw (p, q)
 
--- from one object lower on, one more is kept
+-- read from one object lower, there is one more keep in front
 entries-lower : (ks : List Kind) (n low : ℕ) (b : List ℕ) (cs : List Change) → low < length ks → readEntries ks (suc low) n b ≡ done cs → readEntries ks low n b ≡ done (keep ∷ cs)
 entries-lower ks zero low b cs h q =
     let p = held (eqb (length b) 0) _ _ q in
@@ -401,6 +401,6 @@ list-reads {p} {l} s h =
       read-bytes 4 (l .to) d (h .to),
     )
 
--- accepted exactly where it is the form of a legal list, which it is then read as
+-- accepted exactly where they are a legal list, written, which they are then read as
 pub list-form : (p : Plan) → Fair p → (b : List ℕ) → Bytes b → (l : Changes) → (readList p b ≡ done l) ↔ (LegalList p l × (b ≡ listBytes p l))
 list-form p f b h l = (list-is p b h, (λ w. ap (readList p) (w .1) ∙ list-reads f (w .0)))

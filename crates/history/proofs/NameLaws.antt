@@ -1,4 +1,4 @@
--- What a refusal names, for every call: the paper's table of codes with its column "names", and that each call keeps to it.
+-- What a refusal names, for every call: the paper's table of codes with its column "names", which each call keeps to.
 -- Assumes nothing.
 use Prim.Native.Nat.{ℕ, zero, suc, _+_, _-_, _≤_, _<_}
 use native.Mathlib.Omega.{arith}
@@ -43,7 +43,8 @@ own-kind k w {s} e =
 
 -- ---- the paper's table
 
--- the codes that name nothing; an object; a number that was handed in, which is an object's. Beside these, 13 and those of elements
+-- the codes that name nothing; those that name an object; those that name a number given to the call, which is an object's. The others are 13
+-- and those of elements
 abbrev pub nothings : List ℕ
 nothings = 1 ∷ 2 ∷ 3 ∷ 4 ∷ 8 ∷ 9 ∷ 16 ∷ 17 ∷ 19 ∷ []
 
@@ -57,7 +58,7 @@ abbrev pub oneOf : List ℕ → ℕ → Bool
 oneOf [] code = false
 oneOf (c ∷ cs) code = eqb code c || oneOf cs code
 
--- what a refusal names, under a table of n objects, of these kinds if it is accepted; `given` are the numbers that were handed in
+-- what a refusal names under a table of n objects, which have the kinds ks if it is accepted; `given` are the numbers given to the call
 pub data Names (n : ℕ) (ks : List Kind) (given : ℕ → Type 0) : Refused → Type 0 where
   nothing : {code : ℕ} → oneOf nothings code ≡ true → Names n ks given (naming code 65535 255)
   an-object : {code i : ℕ} → oneOf objects code ≡ true → i < n → Names n ks given (naming code i 255)
@@ -65,14 +66,14 @@ pub data Names (n : ℕ) (ks : List Kind) (given : ℕ → Type 0) : Refused →
   no-object : {i : ℕ} → given i → n ≤ i → Names n ks given (naming 13 i 255)
   its-field : {f : Refusal} {i : ℕ} → i < length ks → Refuses (kindAt ks i) (f .code) (f .bit) → Names n ks given (foundIn f i)
 
--- no number is handed in; this one; below, those whose bytes stand in a list
+-- no number is given; this one is; further down `Stands`: those whose bytes are in a list
 abbrev pub NoNumber : ℕ → Type 0
 NoNumber i = ⊥
 
 abbrev pub TheNumber : ℕ → ℕ → Type 0
 TheNumber i j = j ≡ i
 
--- a verdict that is a refusal names what it may
+-- if the verdict is a refusal, it names only what P allows
 pub record Named (P : Refused → Type 0) {A : Type 0} (v : Verdict A) : Type 0 where
   pub names : {r : Refused} → v ≡ refused r → P r
 
@@ -138,7 +139,7 @@ module _ {P : Refused → Type 0} (n : ℕ) (at : (code i : ℕ) → oneOf objec
       named-then (checkObject version x earlier b (objectAt b)) _ (object-named version x earlier b (objectAt b) (omega arith))
       λ e q. objects-named version x (earlier ++ (e .object ∷ [])) m (e .rest) (omega (arith, length-append earlier (e .object ∷ [])))
 
--- how many objects a table's bytes say that it has
+-- how many objects a table's bytes say it has
 abbrev pub countIn : List ℕ → ℕ
 countIn T = number (take 2 (drop 7 T))
 
@@ -157,7 +158,7 @@ table-named b =
 abbrev pub NamesUnder : List Kind → (ℕ → Type 0) → Refused → Type 0
 NamesUnder ks given = Names (length ks) ks given
 
--- elements refuse with a code of their own
+-- elements refuse with their own codes
 module _ {P : Refused → Type 0} (all : List Kind) (field : (f : Refusal) (i : ℕ) → i < length all → Refuses (kindAt all i) (f .code) (f .bit) → P (foundIn f i)) where
   named-element : {A : Type 0} (k : Kind) (w i : ℕ) (r : Verdict A) → i < length all → kindAt all i ≡ k → Named P r → Named P (element k w of i ⨾ r)
   named-element k w i r l e h = named-of (element k w) i r (λ x q. field x i l (rw e (refuses-as k w q))) h
@@ -177,7 +178,7 @@ image-named p b =
     named-test (eqb (length (f .contents)) (elementsFrom (f .version) + widths (p .kinds))) _ _ refl λ t.
     named-then (readWords 0 (p .kinds) (drop (elementsFrom (f .version)) (f .contents))) _ (words-named (p .kinds) (λ f i. its-field) 0 (p .kinds) _ refl) λ ws e. accepts
 
--- the two bytes of a number stand in a list
+-- the two bytes of a number are somewhere in a list
 pub record Stands (L : List ℕ) (i : ℕ) : Type 0 where
   pub at : ℕ
   pub inside : at + 2 ≤ length L
@@ -275,7 +276,7 @@ image-long p b {a} e =
     let ws-is : a .words ≡ q₃ .0 = cc (q₃ .2) in
     ap length ws-is ∙ words-long 0 (p .kinds) (drop (elementsFrom (f .version)) (f .contents)) (q₃ .1)
 
--- .. and an accepted list something to say of each
+-- .. and an accepted list a change for each
 entries-long : (ks : List Kind) (m low : ℕ) (b : List ℕ) {cs : List Change} → low ≤ length ks → readEntries ks low m b ≡ done cs → low + length cs ≡ length ks
 entries-long ks zero low b {cs} l q =
     let cs-is : cs ≡ replicate (length ks - low) keep = cc (held (eqb (length b) 0) _ _ q .1) in
@@ -310,7 +311,7 @@ state-named ks i state =
     named-unless (sameKind (kindIn state) (kindAt ks i)) _ _ (λ f. refuses (its-number refl refl l)) λ t.
     named-element ks (λ f i. its-field) (kindAt ks i) (wordOf state) i _ l refl accepts
 
--- ---- the calls, by the table's bytes: the count is what they say, the kinds are those of an accepted table's objects
+-- ---- the calls, from the table's bytes: the count is what they say, the kinds are those of an accepted table's objects
 
 abbrev kindsOf : Verdict Plan → List Kind
 kindsOf (refused r) = []
@@ -335,7 +336,7 @@ module _ (T : List ℕ) {given : ℕ → Type 0} where
   unfolding readPlan
   plan-named = named-then (readTable T) _ (table-named T) λ t e. accepts
 
-  -- what a call names under the plan, it names by the table's bytes
+  -- what is allowed under the plan is allowed by the table's bytes
   by-bytes : {A : Type 0} {v : Verdict A} {p : Plan} → readPlan T ≡ done p → Named (NamesUnder (p .kinds) given) v → Named (NamesIn T given) v
   by-bytes e h = rw (e, ← plan-count T e) h
 
@@ -402,7 +403,7 @@ module _ (T : List ℕ) where
       named-then (readTable T) _ (table-named T) λ t e.
       named-unless (ltb i (length (t .objects))) _ _ (λ f. refuses (no-object refl (omega (arith, ltb-false i (length (t .objects)) f, table-is T e .count)))) λ t. accepts
 
-  -- a state that is read is an object's
+  -- a state that is read belongs to an object, and has its kind
   pub read-object : (A : List ℕ) {i : ℕ} {s : Element} → readStateCall T A i ≡ done s → (i < countIn T) × (i < length (kindsIn T)) × (kindIn s ≡ kindAt (kindsIn T) i)
   unfolding readStateCall readStateUnder
   read-object A {i} {s} e =
@@ -413,7 +414,7 @@ module _ (T : List ℕ) where
       let l : i < length (p .kinds) = ltb-true _ _ (q₂ .0) in
       rw (q .1, ← plan-count T (q .1)) (l, l, own-kind _ _ (q₂ .1))
 
--- ---- the numbers given back: success and 21 name nothing
+-- ---- the numbers returned: success and 21 name nothing
 
 pub data Tells (P : Refused → Type 0) : Answer → Type 0 where
   success : {n : ℕ} → Tells P (unnamed 0 n)
@@ -421,7 +422,7 @@ pub data Tells (P : Refused → Type 0) : Answer → Type 0 where
   refusal : {r : Refused} → P r → Tells P (numbers r 0)
 
 module _ {P : Refused → Type 0} where
-  -- of a call that writes nothing, with length 0
+  -- a call that writes nothing returns length 0
   pub told-names : {A : Type 0} (v : Verdict A) → Named P v → Tells P (told v) × (told v .length ≡ 0)
   unfolding told
   told-names (refused r) h = (refusal (h .names refl), refl)

@@ -71,7 +71,7 @@ unfolding zipWith
 admits-after-all nil nil = nil
 admits-after-all (and {a = k} {b = c} p ps) (and {b = a} q qs) = and (admits-after k c a p q) (admits-after-all ps qs)
 
--- ---- what an answer tells
+-- ---- what success tells
 
 -- an application that is not refused
 pub record Takes (l : Changes) (a b : Image) : Type 0 where
@@ -119,13 +119,13 @@ joining {l} {m} {k} h = rw (eq-eqb (l .to) (m .from) (h .place)) (passes 20 meet
 
 -- ---- the laws
 
--- the list from a to b turned back
+-- the list from a to b turned back is the list from b to a
 pub turned-difference : (a b : Image) → turned (difference a b) ≡ difference b a
 unfolding difference turned
 turned-difference a b = rw (back-all (a .words) (b .words))
 
 module _ {p : Plan} where
-  -- images have one version byte
+  -- all legal images have the same version byte
   pub one-version : {a b : Image} → LegalImage p a → LegalImage p b → a .version ≡ b .version
   unfolding imageVersionGood
   one-version ha hb = eqb-true _ _ (ha .version) ∙ sym (eqb-true _ _ (hb .version))
@@ -153,11 +153,11 @@ module _ {p : Plan} where
       let h = takes hl ha e in
       rw (h .result) (record { version = ha .version; position = hl .to; words = admits-after-all (hl .each) (ha .words) })
 
-  -- an answer image has the form of the image given
+  -- the result has the version of the image given
   pub keeps-version : {l : Changes} {a b : Image} → LegalList p l → LegalImage p a → applied l a ≡ done b → a .version ≡ b .version
   keeps-version hl ha e = sym (ap (λ (b : Image). b .version) (takes hl ha e .result))
 
-  -- joined lists
+  -- the list from a to b joined with the list from b to c is the list from a to c
   pub join-differences : {a b c : Image} → LegalImage p a → LegalImage p b → LegalImage p c → join (difference a b) (difference b c) ≡ done (difference a c)
   unfolding difference
   join-differences {a} {b} {c} ha hb hc =
@@ -174,7 +174,7 @@ module _ {p : Plan} where
 
 -- ---- what is refused, and what a refusal names
 
--- 16 exactly where the list starts below the image's position, 17 where above it
+-- 16 exactly where the list starts below the image's position, 17 exactly where above it
 pub late-exactly : (l : Changes) (a : Image) → (applied l a ≡ refusal 16) ↔ (l .from < a .position)
 unfolding applied
 late-exactly l a = (
@@ -228,7 +228,7 @@ refuses-meeting l m j e h =
 -- ---- lists that some image takes in turn
 
 module _ {p : Plan} where
-  -- two join, to the list from the first image to the last
+  -- two such lists join to the list from the first image to the last
   pub join-taken : {l m : Changes} {a b c : Image} → LegalList p l → LegalList p m → LegalImage p a → applied l a ≡ done b → applied m b ≡ done c
       → join l m ≡ done (difference a c)
   join-taken {l} {m} {a} {b} {c} hl hm ha e f =

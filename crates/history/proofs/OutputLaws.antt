@@ -1,4 +1,4 @@
--- The output at the end: with room it begins with the answer and the rest stays; a refusal, 21 too, leaves it as it was.
+-- The output after a call: given room it begins with the result and the rest stays; a refusal, 21 too, leaves it as it was.
 -- Assumes nothing.
 use Prim.Native.Nat.{ℕ, _-_, _≤_, _<_}
 use native.Mathlib.Omega.{arith}
@@ -13,7 +13,7 @@ use borrow.Author.Tests.{le-leb, lt-leb, leb-true, leb-false}
 use Rattle.history.specs.declared.Answer.{Answer}
 use Rattle.history.specs.Verdict.{Refused, Verdict, refused, done, then, Outcome, numbers, unnamed, told, settled, Leaves}
 
--- the numbers of success, the answer's bytes in front, the rest as it was
+-- the numbers of success, the result's bytes in front, the rest as it was
 pub record Success (b out : List ℕ) (o : Outcome) : Type 0 where
   pub answer : o .answer ≡ unnamed 0 (length b)
   pub front : take (length b) (o .output) ≡ b
@@ -35,7 +35,7 @@ pub refusal-told : {v : Verdict (List ℕ)} (r : Refused) (out : List ℕ) → v
 unfolding settled
 refusal-told r out e = rw e (refl, refl)
 
--- whatever is not success leaves the output
+-- whatever is not success leaves the output as it was
 pub refusal-stays : (v : Verdict (List ℕ)) (out : List ℕ) → (settled v out .answer .code ≡ 0 → ⊥) → settled v out .output ≡ out
 refusal-stays (refused r) out h = refusal-told r out refl .1
 refusal-stays (done b) out h = go (leb (length b) (length out)) refl
@@ -62,9 +62,9 @@ length-output (done b) out = go (leb (length b) (length out)) refl
         )
     go false e = ap length (too-short out refl (leb-false _ _ e) .1)
 
--- ---- what a call that writes leaves, for the code that settles
+-- ---- `Leaves`, from what the code did
 
--- as a premise of laws, which find the verdict in its type
+-- `Leaves` as a record: a law that takes it as a premise finds the verdict in its type
 pub record Ran (v : Verdict (List ℕ)) (out : List ℕ) (r : Answer) (m : List ℕ) : Type 0 where
   pub leaves : Leaves v out r m
 
@@ -75,20 +75,20 @@ pub refused-leaves : (v : Verdict (List ℕ)) (out : List ℕ) {x : Refused} {r 
 unfolding settled
 refused-leaves v out e q = rw e (q, refl)
 
--- an answer that is not success, of a call that writes nothing, ..
+-- a refused step that writes nothing leaves the output as it was ..
 pub told-leaves : (v : Verdict (List ℕ)) (out : List ℕ) {r : Answer} → r ≡ told v → (r .code ≡ 0 → ⊥) → Leaves v out r out
 unfolding told
 told-leaves (refused r) out e n = refused-leaves _ out refl e
 told-leaves (done b) out e n = absurd (n (ap (λ (r : Answer). r .code) e))
 
--- .. is the answer of all that comes after
+-- .. and its answer is that of the whole call
 pub first-leaves : {A : Type 0} (v : Verdict A) (f : A → Verdict (List ℕ)) (out : List ℕ) {r : Answer} → r ≡ told v → (r .code ≡ 0 → ⊥) → Leaves (then v f) out r out
 unfolding told
 first-leaves (refused r) f out e n = refused-leaves _ out refl e
 first-leaves (done a) f out e n = absurd (n (ap (λ (r : Answer). r .code) e))
 
 module _ (b out : List ℕ) {n : ℕ} (long : length b ≡ n) {r : Answer} where
-  -- 21
+  -- 21: too little room
   pub short-leaves : length out < n → r ≡ unnamed 21 n → Leaves (done b) out r out
   short-leaves h e = let s = too-short {b = b} out refl (rw long h) in (e ∙ ap (unnamed 21) (sym long) ∙ sym (s .0), sym (s .1))
 
@@ -96,7 +96,7 @@ module _ (b out : List ℕ) {n : ℕ} (long : length b ≡ n) {r : Answer} where
   unfolding settled
   written-leaves h e q = rw (le-leb (length b) (length out) (rw long h), long) (e, q)
 
-  -- the front was lent as a part and came back as the answer's bytes
+  -- the front was lent as a part and came back as the result's bytes
   pub front-leaves : n ≤ length out → r ≡ unnamed 0 n → {part : List ℕ} → part ≡ b → Leaves (done b) out r (putMid 0 (n - 0) out part)
   front-leaves h e q =
       let all : n - 0 ≡ n = omega arith in

@@ -1,5 +1,5 @@
--- A receiver that is handed any lists in turn: the image that it holds is the first with the applied lists in turn, and is what their join
--- gives; its tallies count the calls and the lists applied.
+-- A receiver that is sent any lists in turn: the image that it holds is the first with the applied lists applied in turn, which is also what
+-- their join gives; its tallies count the calls and the lists applied.
 -- Assumes nothing.
 use Prim.Native.Nat.{ℕ, _+_}
 use native.Mathlib.Omega.{arith}
@@ -64,7 +64,7 @@ module _ (T : List ℕ) where
   abbrev pub wasApplied : Receiver → Arrival → Bool
   wasApplied r c = eqb (received r c .answer .code) 0
 
-  -- where the list was applied the image held is the one written; else it stays
+  -- if the list was applied, the receiver holds the image written; else it keeps its own
   abbrev pub next : Receiver → Arrival → Receiver
   next r c = record {
     image = cond (wasApplied r c) (take (received r c .answer .length) (received r c .output)) (r .image);
@@ -96,7 +96,7 @@ module _ (T : List ℕ) where
   next-stays : (r : Receiver) (c : Arrival) → wasApplied r c ≡ false → next r c .image ≡ r .image
   next-stays r c e = ap (λ (u : Bool). cond u (take (received r c .answer .length) (received r c .output)) (r .image)) e
 
-  -- the image held is the first image with the applied lists in turn
+  -- the image held is the first image with the applied lists applied in turn
   pub held-is : (r : Receiver) (cs : List Arrival) → applyAll (r .image) (appliedLists r cs) ≡ done (run r cs .image)
   held-is r [] = refl
   held-is r (c ∷ cs) = go (wasApplied r c) refl (held-is (next r c) cs)
@@ -120,7 +120,7 @@ module _ (T : List ℕ) where
       go true r = (h .0, r)
       go false r = r
 
-  -- the lists join, to the list from A to C, which turns A into C
+  -- L and Ms join to the list from A to C, which turns A into C
   pub record JoinsTo (A L : List ℕ) (Ms : List (List ℕ)) (C : List ℕ) : Type 0 where
     pub list : List ℕ
     pub joined : joinAll L Ms ≡ done list
@@ -128,7 +128,7 @@ module _ (T : List ℕ) where
     pub applies : applyCall T A list ≡ done C
 
   module _ {p : Plan} (t : readPlan T ≡ done p) where
-    -- lists that an image takes in turn join to the list from it to the last image, which turns it into that
+    -- lists that an image takes in turn join to the list from it to the last image
     join-in-turn : (A L : List ℕ) (Ms : List (List ℕ)) {C : List ℕ} → AcceptedImage p A → AcceptedList p L → AllBytes Ms → applyAll A (L ∷ Ms) ≡ done C → JoinsTo A L Ms C
     join-in-turn A L [] {C} a l h e =
         let x = used (applyCall T A L) _ e in
@@ -148,7 +148,7 @@ module _ (T : List ℕ) where
         let rest = join-in-turn A _ Ms {C = C} a (difference-list T t a d AD) (h .1) (rw (difference-applies T t a d v AD) (y .2)) in
         record { list = rest .list; joined = rw pair (rest .joined); difference = rest .difference; applies = rest .applies }
 
-  -- where at least one list was applied, the applied lists join, and the first image with their join is the image held
+  -- if at least one list was applied, the applied lists join, and their join turns the first image into the one held
   pub held-by-join : (r : Receiver) (cs : List Arrival) {L : List ℕ} {Ms : List (List ℕ)} → Bytes (r .image) → AllBytes (map (λ (c : Arrival). c .list) cs)
       → appliedLists r cs ≡ L ∷ Ms → JoinsTo (r .image) L Ms (run r cs .image)
   held-by-join r cs {L} {Ms} ha hc e =
@@ -169,7 +169,7 @@ module _ (T : List ℕ) where
   none-was-full r [] h = h
   none-was-full r (c ∷ cs) h = was-none-full (received r c .answer .code) (r .standing) (rw (next-counts r c) at (none-was-full (next r c) cs h))
 
-  -- while none is full, the four together grow by the calls, and applied by the lists applied
+  -- while none is full, the sum of the four grows by the calls, and applied by the lists applied
   pub run-counts : (r : Receiver) (cs : List Arrival) → NoneFull (run r cs .standing)
       → (total (run r cs .standing) ≡ total (r .standing) + length cs) × (run r cs .standing .applied ≡ r .standing .applied + length (appliedLists r cs))
   run-counts r [] h = (omega arith, omega arith)

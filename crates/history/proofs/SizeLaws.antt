@@ -1,5 +1,5 @@
--- A list is never longer than four images under its table, a join is never longer than the two lists together; so three lists that an image
--- takes in turn join to one list in the room of all three, whichever pair is joined first.
+-- A list is never longer than four times an image under its table, and a join never longer than the two lists together. So three lists that
+-- an image takes in turn join to one list in the room of all three, whichever pair is joined first.
 -- Assumes nothing.
 use Prim.Native.Nat.{ℕ, zero, suc, _+_, _*_, _≤_, _<_}
 use native.Mathlib.Omega.{arith}
@@ -62,7 +62,7 @@ length-list : (p : Plan) (l : Changes) → length (listBytes p l) ≡ 17 + lengt
 unfolding listBytes formBytes
 length-list p l = simp (length-append, length-bytes) (omega arith)
 
--- two elements of no bytes are equal, so an entry's object has some
+-- an entry's elements differ, so they have at least one byte: an entry takes at most four times its object's width
 size-lawful : (k : Kind) (c : Change) → lawful k c ≡ true → size k c ≤ 4 * widthOf k
 unfolding size
 size-lawful k keep h = omega arith
@@ -98,7 +98,7 @@ join-short T {p} t {L} {M} {K} l m e =
       ap length (m .same) ∙ length-list p (m .list),
     )
 
--- whichever two of three lists are joined first, their join and the third join to one list; with the room that each takes
+-- whichever two of three lists are joined first, joining the third gives the same list K; and how long each join is at most
 pub record OneJoin (T L M N K : List ℕ) : Type 0 where
   pub early : List ℕ
   pub late : List ℕ
@@ -111,7 +111,7 @@ pub record OneJoin (T L M N K : List ℕ) : Type 0 where
   pub short : length K ≤ length L + (length M + length N)
 
 module _ (T : List ℕ) {p : Plan} (t : readPlan T ≡ done p) {A B C D L M N : List ℕ} where
-  -- three lists that some image takes in turn
+  -- three lists that an image takes in turn join so, to the list from it to the last image
   pub joins-associate : AcceptedImage p A → AcceptedList p L → AcceptedList p M → AcceptedList p N
       → applyCall T A L ≡ done B → applyCall T B M ≡ done C → applyCall T C N ≡ done D
       → (K : List ℕ) × (differenceCall T A D ≡ done K) × OneJoin T L M N K

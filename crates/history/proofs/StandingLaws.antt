@@ -25,7 +25,7 @@ full-stays n h = simp (le-ltb _ _ h)
 
 -- ---- one call
 
--- one place of the four is moved on, and the others are as they were
+-- one of the four is counted once more, and the others are as they were
 abbrev pub OneMoved : Standing → Standing → Type 0
 OneMoved s s′ = (i : ℕ) × (i < 4) × (talliesOf s′ ≡ set (talliesOf s) i (oneMore (getD (talliesOf s) i 0)))
 
@@ -40,7 +40,7 @@ unfolding counted
 one-moves code s = on-moves (tallyOf code) s
 
 module _ (T A L out : List ℕ) (s : Standing) where
-  -- the answer does not go by the standing, and the standing goes by the answer's code
+  -- the answer doesn't depend on the standing; the standing depends on the answer's code
   pub receive-answer : receiveCall T A L out s .answer ≡ settled (applyCall T A L) out .answer
   unfolding receiveCall
   receive-answer = refl
@@ -49,16 +49,16 @@ module _ (T A L out : List ℕ) (s : Standing) where
   unfolding receiveCall
   receive-counts = refl
 
--- ---- any receive calls since fresh
+-- ---- receive calls since fresh
 
--- what is handed to a receive call beside the standing
+-- what a receive call is given besides the standing
 pub record Delivery : Type 0 where
   pub table : List ℕ
   pub image : List ℕ
   pub list : List ℕ
   pub output : List ℕ
 
--- the standing after receive calls since fresh, the last call first
+-- the standing after these calls since fresh, the last call first in the list
 abbrev pub standingAfter : List Delivery → Standing
 standingAfter [] = fresh
 standingAfter (d ∷ ds) = receiveCall (d .table) (d .image) (d .list) (d .output) (standingAfter ds) .standing
@@ -72,7 +72,7 @@ abbrev pub howMany : (ℕ → Bool) → List Delivery → ℕ
 howMany test [] = 0
 howMany test (d ∷ ds) = cond (test (codeOf d)) (howMany test ds + 1) (howMany test ds)
 
--- a tally that is not full after one more was not before
+-- a tally that is not full after a call was not full before
 up : (b : Bool) (n : ℕ) → n ≤ cond b (n + 1) n
 up true n = omega arith
 up false n = omega arith
@@ -137,7 +137,7 @@ counts-other code s a l g = rw (ne-eqb code 0 a, ne-eqb code 16 l, ne-eqb code 1
 abbrev pub isOther : ℕ → Bool
 isOther code = not (eqb code 0 || (eqb code 16 || eqb code 17))
 
--- while none is full: the calls that applied, were late, had a gap, and all others
+-- each tally counts its calls: applied, late, gap, and all others
 pub record Counts (ds : List Delivery) : Type 0 where
   pub applied : standingAfter ds .applied ≡ howMany (λ code. eqb code 0) ds
   pub late : standingAfter ds .late ≡ howMany (λ code. eqb code 16) ds

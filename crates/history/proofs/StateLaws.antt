@@ -1,5 +1,5 @@
--- States in images: what is written is read, what was read writes the same bytes, and other objects stay; all states of one image make it
--- again in any other.
+-- States in images: what was written is read back, writing what was read changes nothing, and other objects stay. All states of one
+-- image written into any other give the first again.
 -- Assumes nothing.
 use Prim.Native.Nat.{ℕ, zero, suc, _+_, _^_, _<_}
 use native.Mathlib.Omega.{arith}
@@ -32,7 +32,7 @@ stateAt p a i = stateOf (kindAt (p .kinds) i) (getD (a .words) i 0)
 
 -- ---- all objects
 
--- the words of all states are the words that these were read from
+-- states turned back into words are the words that they were read from
 words-again : {ks : List Kind} {ws : List ℕ} → Every admits ks ws → map wordOf (zipWith stateOf ks ws) ≡ ws
 unfolding zipWith
 words-again nil = refl
@@ -62,10 +62,10 @@ module _ {A B : Type 0} {test : A → B → Bool} where
   every-set d (and h r) zero b l t = and t r
   every-set d (and h r) (suc i) b l t = and h (every-set d r i b (omega arith) t)
 
--- ---- a state handed in
+-- ---- the check of a state that is to be written
 
 module _ (ks : List Kind) (i : ℕ) (e : Element) where
-  -- accepted: the object is there and of the state's kind, and the word is the state's
+  -- accepted: the object exists and has the state's kind, and the word is the state's
   pub record Taken (w : ℕ) : Type 0 where
     pub inside : i < length ks
     pub kind : kindIn e ≡ kindAt ks i
@@ -86,7 +86,7 @@ module _ (ks : List Kind) (i : ℕ) (e : Element) where
 
 -- ---- the calls
 
--- the states of A's objects from i on, each read and written into Z, at the positions in turn
+-- the states of A's objects from i on, each read and written into Z, one at each of the positions
 abbrev pub statesInto : List ℕ → List ℕ → ℕ → List ℕ → List ℕ → Verdict (List ℕ)
 statesInto T A i [] Z = done Z
 statesInto T A i (position ∷ rest) Z = then (readStateCall T A i) λ e. then (writeStateCall T Z i e position) λ Y. statesInto T A (suc i) rest Y
@@ -96,7 +96,7 @@ AllBelow n [] = Unit {0}
 AllBelow n (x ∷ xs) = (x < n) × AllBelow n xs
 
 module _ (T : List ℕ) {p : Plan} (t : readPlan T ≡ done p) where
-  -- object i's answer, of an accepted image
+  -- what a read of object i gives in an accepted image
   abbrev answered : ℕ → Element → Verdict Element
   answered i state = refusalAt 13 i unless ltb i (length (p .kinds)) ⨾ done state
 
@@ -108,7 +108,7 @@ module _ (T : List ℕ) {p : Plan} (t : readPlan T ≡ done p) where
   unfolding readStateCall readStateUnder
   read-is a i h = rw (t, a .reads, lt-ltb i (length (p .kinds)) h)
 
-  -- what a write that is not refused tells
+  -- what a successful write tells
   pub record Wrote {A : List ℕ} (a : AcceptedImage p A) (i : ℕ) (e : Element) (position : ℕ) (B : List ℕ) : Type 0 where
     pub inside : i < length (p .kinds)
     pub kind : kindIn e ≡ kindAt (p .kinds) i
@@ -122,7 +122,7 @@ module _ (T : List ℕ) {p : Plan} (t : readPlan T ≡ done p) where
       let k = state-taken (p .kinds) i e (c .1) in
       record { inside = k .inside; kind = k .kind; good = state-admitted (kindAt (p .kinds) i) e (k .kind) (k .good); same = cc (c .2, k .word) }
 
-  -- the new image is accepted
+  -- the new image is legal
   placed-legal : {z : Image} → LegalImage p z → (i w position : ℕ) → i < length (p .kinds) → admits (kindAt (p .kinds) i) w ≡ true → position < 2 ^ 32 → LegalImage p (placed z i w position)
   placed-legal h i w position inside good small = record { version = h .version; position = omega arith; words = every-set Kind.Signal (h .words) i w inside good }
 
@@ -135,7 +135,7 @@ module _ (T : List ℕ) {p : Plan} (t : readPlan T ≡ done p) where
   unfolding writeStateCall writeStateUnder
   write-is a i e position l s h = rw (t, a .reads, state-checked (p .kinds) i e l s, is-accepted (element (kindAt (p .kinds) i) (wordOf e)) i (done (wordOf e)) h)
 
-  -- a state of the object's kind is written, unless DAT is 0 and another bit 1: then it is refused with 12
+  -- a state of the object's kind is written, unless DAT is 0 and another bit is 1: then it is refused with 12
   pub write-current : {A : List ℕ} (a : AcceptedImage p A) (i : ℕ) (e : Element) (position : ℕ) → i < length (p .kinds) → kindIn e ≡ kindAt (p .kinds) i → (Stale (kindIn e) (wordOf e) → ⊥)
       → writeStateCall T A i e position ≡ done (imageBytes p (placed (a .image) i (wordOf e) position))
   write-current a i e position l s n = write-is a i e position l s (ap isAccepted (state-current (kindAt (p .kinds) i) e s n))
@@ -148,7 +148,7 @@ module _ (T : List ℕ) {p : Plan} (t : readPlan T ≡ done p) where
   abbrev pub written-image : {A B : List ℕ} (a : AcceptedImage p A) (i : ℕ) (e : Element) (position : ℕ) → position < 2 ^ 32 → Wrote a i e position B → AcceptedImage p B
   written-image a i e position small w = legal-image T t (written-legal a i e position small w) (w .same)
 
-  -- a state written is read
+  -- a state that was written is read back
   pub write-read : {A B : List ℕ} (a : AcceptedImage p A) (i : ℕ) (e : Element) (position : ℕ) → position < 2 ^ 32
       → writeStateCall T A i e position ≡ done B → readStateCall T B i ≡ done e
   write-read a i e position small q =
@@ -166,7 +166,7 @@ module _ (T : List ℕ) {p : Plan} (t : readPlan T ≡ done p) where
       ∙ ap (λ (w : ℕ). answered j (stateOf (kindAt (p .kinds) j) w)) (getD-set-other (a .image .words) i j (wordOf e) 0 n)
       ∙ sym (read-any a j)
 
-  -- a state that was read from one image, written into another, is the one's word there
+  -- a state read from image a and written into image z puts a's word there
   write-word : {A Z : List ℕ} (a : AcceptedImage p A) (z : AcceptedImage p Z) (i position : ℕ) → i < length (p .kinds)
       → writeStateCall T Z i (stateAt p (a .image) i) position ≡ done (imageBytes p (placed (z .image) i (getD (a .image .words) i 0) position))
   write-word a z i position l =
@@ -177,7 +177,7 @@ module _ (T : List ℕ) {p : Plan} (t : readPlan T ≡ done p) where
       write-is z i (stateOf k w) position l (state-kind k w) (rw word (admits-accepted k w good))
       ∙ ap (λ (v : ℕ). done (imageBytes p (placed (z .image) i v position))) word
 
-  -- .. at the same position it gives the same bytes
+  -- .. written into a itself, at a's position, it gives the same bytes
   pub read-write : {A : List ℕ} (a : AcceptedImage p A) (i : ℕ) (e : Element)
       → readStateCall T A i ≡ done e → writeStateCall T A i e (a .image .position) ≡ done A
   read-write {A} a i e q =
@@ -189,7 +189,7 @@ module _ (T : List ℕ) {p : Plan} (t : readPlan T ≡ done p) where
       ∙ ap done (ap (λ (ws : List ℕ). imageBytes p (record { version = a .image .version; position = a .image .position; words = ws })) (set-getD (a .image .words) i 0)
       ∙ sym (a .same))
 
-  -- ---- all states of one image written into another: its words below i stand there, the next is written
+  -- ---- all states of one image written into another: the words below i are there already, and the next is written
 
   module _ {A Z : List ℕ} (a : AcceptedImage p A) (z : AcceptedImage p Z) (i : ℕ) (inside : i < length (p .kinds)) where
     abbrev next-image : (position : ℕ) → position < 2 ^ 32 → AcceptedImage p (imageBytes p (placed (z .image) i (getD (a .image .words) i 0) position))
@@ -222,7 +222,7 @@ module _ (T : List ℕ) {p : Plan} (t : readPlan T ≡ done p) where
       let y = next-image a z i l position (h .0) in
       rw (read-is a i l, write-word a z i position l) (all-into a y (suc i) ps (h .1) (omega arith) (next-word a z i l so))
 
-  -- the states of all objects, written as an image, are the image's bytes
+  -- the states of all objects, written as an image, give the image's bytes
   pub states-written : {A : List ℕ} (a : AcceptedImage p A)
       → imageBytes p (record { version = a .image .version; position = a .image .position; words = map wordOf (zipWith stateOf (p .kinds) (a .image .words)) }) ≡ A
   states-written a =

@@ -1,4 +1,4 @@
--- A table is accepted exactly where it is the form of a legal one, and is read as that.
+-- Bytes are accepted as a table exactly where they are a legal table, written; they are read as that table.
 -- Assumes nothing.
 use Prim.Native.Nat.{ℕ, zero, suc, _+_, _*_, _≤_, _<_}
 use native.Mathlib.Omega.{arith}
@@ -26,7 +26,7 @@ use Rattle.history.proofs.ImageLaws.{Fair}
 abbrev pub nobody : Object
 nobody = record { type = 0; label = [] }
 
--- ---- objects that are the same
+-- ---- equal objects
 
 same-refl : (l : List ℕ) → sameBytes l l ≡ true
 same-refl [] = refl
@@ -51,7 +51,7 @@ neither : (a b : Bool) → (a || b) ≡ false → (a ≡ false) × (b ≡ false)
 neither true b e = absurd (let z : _≡_ {A = ℕ} 0 1 = cc in omega arith)
 neither false b e = (refl, e)
 
--- none of the earlier ones, and so none of those before
+-- what repeats none of a list repeats none of its parts
 fresh-before : (o : Object) (os ps : List Object) → repeats o (os ++ ps) ≡ false → (repeats o os ≡ false) × (repeats o ps ≡ false)
 fresh-before o [] ps e = (refl, e)
 fresh-before o (p ∷ os) ps e =
@@ -59,7 +59,7 @@ fresh-before o (p ∷ os) ps e =
     let r = fresh-before o os ps (h .1) in
     (rw (h .0) (r .0), r .1)
 
--- one that repeats is as one of them, and each of them repeats
+-- what repeats is equal to one of them, and each of them repeats
 pub repeats-one : (o : Object) (os : List Object) → repeats o os ≡ true → (i : ℕ) × (i < length os) × (getD os i nobody ≡ o)
 repeats-one o [] e = absurd (let z : _≡_ {A = ℕ} 0 1 = cc in omega arith)
 repeats-one o (p ∷ os) e = go (sameObject p o) refl e (repeats-one o os)
@@ -77,7 +77,7 @@ repeats-each (p ∷ os) (suc i) l = rw (repeats-each os i (omega arith), or-true
 fresh-from : (o : Object) (os : List Object) → ((i : ℕ) → i < length os → getD os i nobody ≡ o → ⊥) → repeats o os ≡ false
 fresh-from o os h = not-eq-not {b = false} .0 (λ e. let r = repeats-one o os e in h (r .0) (r .1) (r .2))
 
--- ---- the objects after the earlier ones: each legal, none as one before it
+-- ---- the objects after the earlier ones: each is legal and repeats none before it
 
 module _ (version x : ℕ) where
   abbrev pub LegalFrom : List Object → List Object → Type 0
@@ -105,7 +105,7 @@ module _ (version x : ℕ) where
       absurd (omega arith)
   legal-distinct earlier (o ∷ os) h (suc i) (suc j) l m e = legal-distinct (earlier ++ (o ∷ [])) os (h .2) i j (omega arith) (omega arith) e
 
-  -- pointwise over the whole list, and so from any place on
+  -- legal and distinct place by place in the whole list, so from any place on
   pub legal-from : (earlier os all : List Object) → earlier ++ os ≡ all
       → ((i : ℕ) → i < length all → LegalObject version x (getD all i nobody))
       → ((i j : ℕ) → i < j → j < length all → getD all i nobody ≡ getD all j nobody → ⊥) → LegalFrom earlier os
@@ -121,7 +121,7 @@ module _ (version x : ℕ) where
 
   -- ---- an entry
 
-  -- an entry of which nothing but 7 is left to ask: its object is legal, and stands in its bytes
+  -- an entry that passed every test but that of 7: its object is legal, and is written in its bytes
   pub record Tested (earlier : List Object) (b : List ℕ) (v : Verdict ObjectEntry) : Type 0 where
     pub legal : LegalObject version x (objectAt b .object)
     pub whole : b ≡ objectBytes (objectAt b .object) ++ objectAt b .rest
@@ -149,7 +149,7 @@ module _ (version x : ℕ) where
         last = p₅ .1;
       }
 
-  -- what a read entry is
+  -- what an accepted entry is
   pub record ObjectIs (earlier : List Object) (b : List ℕ) (e : ObjectEntry) : Type 0 where
     pub legal : LegalObject version x (e .object)
     pub fresh : repeats (e .object) earlier ≡ false
@@ -181,7 +181,7 @@ module _ (version x : ℕ) where
         h .good,
       )
 
-  -- an entry is refused with 5 exactly where its two first bytes are there and its type is not carried; it is named
+  -- an entry is refused with 5 exactly where its first two bytes are there and its type is not carried; it is named
   pub object-other : (earlier : List Object) (b : List ℕ) (k bit : ℕ)
       → (checkObject version x earlier b (objectAt b) ≡ refused (naming 5 k bit)) ↔ ((2 ≤ length b) × (carried x (getD b 0 0) ≡ false) × (length earlier ≡ k) × (bit ≡ 255))
   unfolding checkObject
@@ -249,7 +249,7 @@ module _ (version x : ℕ) where
         same = q .whole ∙ ap (λ (c : List ℕ). objectBytes o ++ c) (r .same);
       }
 
-  -- legal objects are read, and then what follows them
+  -- legal objects are accepted, and what follows them decides
   pub objects-pass : (earlier os : List Object) → LegalFrom earlier os → (n : ℕ) (rest : List ℕ)
       → readObjects version x earlier (length os + n) (objectsBytes os ++ rest) ≡ readObjects version x (earlier ++ os) n rest
   objects-pass earlier [] h n rest = rw (zero-add n, append-nil earlier)
@@ -260,7 +260,7 @@ module _ (version x : ℕ) where
   objects-read : (earlier os : List Object) → LegalFrom earlier os → readObjects version x earlier (length os) (objectsBytes os) ≡ done (earlier ++ os)
   objects-read earlier os h = rw (add-zero (length os), append-nil (objectsBytes os)) at (objects-pass earlier os h 0 [])
 
--- labels are few enough for any form
+-- no label is longer than 253 bytes, so an entry takes at most 255, and a table's length fits four bytes
 limit-few : (v : ℕ) → labelLimit v ≤ 253
 unfolding labelLimit
 limit-few v = omega arith
@@ -272,7 +272,7 @@ length-objects version x earlier (o ∷ os) h =
 
 -- ---- the form
 
--- what a read table is, whatever its numbers
+-- what an accepted table is; the numbers read need be bytes only for `same`
 pub record TableIs (b : List ℕ) (t : Table) : Type 0 where
   pub legal : LegalTable t
   pub count : length (t .objects) ≡ number (take 2 (drop 7 b))
@@ -334,7 +334,7 @@ table-reads t h =
       objects-read (t .version) (t .x) [] os legal,
     )
 
--- accepted exactly where it is the form of a legal table, which it is then read as
+-- accepted exactly where they are a legal table, written, which they are then read as
 pub table-form : (b : List ℕ) → Bytes b → (t : Table) → (readTable b ≡ done t) ↔ (LegalTable t × (b ≡ tableBytes t))
 table-form b h t = (
   (λ e. let i = table-is b e in (i .legal, i .same h)),

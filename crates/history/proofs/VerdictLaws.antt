@@ -1,4 +1,4 @@
--- Verdicts that are no refusals; lists taken along one another, and the lowest object at which a test fails.
+-- What a verdict tells of the tests before it; two lists taken side by side, and the lowest object at which a test fails.
 -- Assumes nothing.
 use Prim.Native.Nat.{ℕ, zero, suc, _+_, _<_}
 use native.Mathlib.Nat.{add-zero, add-suc, suc-add}
@@ -12,7 +12,7 @@ use Rattle.history.specs.Verdict.{Refused, naming, Verdict, refused, don
 use Rattle.history.specs.Changes.{lowest}
 use Rattle.history.specs.Image.{Every, nil, and}
 
--- both of two tests
+-- both tests hold, so their conjunction does
 pub all : {a b : Bool} → a ≡ true → b ≡ true → (a && b) ≡ true
 all p q = rw (p, q)
 
@@ -24,7 +24,7 @@ pub right : (a b : Bool) → (a && b) ≡ true → b ≡ true
 right true b e = e
 right false b e = absurd (let z : _≡_ {A = ℕ} 0 1 = cc in omega arith)
 
--- one of two tests; a test that can't hold
+-- one of two tests holds; a test that can't hold is false
 pub either : (a b : Bool) → (a || b) ≡ true → (a ≡ true) ⊎ (b ≡ true)
 either true b e = inl refl
 either false b e = inr e
@@ -33,7 +33,7 @@ pub refuted : (b : Bool) → (b ≡ true → ⊥) → b ≡ false
 refuted true n = absurd (n refl)
 refuted false n = refl
 
--- of one verdict there is one refusal
+-- equal refused verdicts have the same refusal
 pub one-refusal : {A : Type 0} {x y : Refused} → _≡_ {A = Verdict A} (refused x) (refused y) → x ≡ y
 one-refusal e = cc
 
@@ -42,7 +42,7 @@ pub kept : {A : Type 0} (t : Bool) (x : Refused) (r : Verdict A) {v : Verdict A}
 kept true x r n e = (refl, e)
 kept false x r n e = absurd (n e)
 
--- a verdict that is no refusal: the test held; the value was put to use
+-- a verdict that is no refusal: the test held, and what follows was reached
 pub held : {A : Type 0} (t : Bool) (x : Refused) (r : Verdict A) {a : A} → (refused x unless t ⨾ r) ≡ done a → (t ≡ true) × (r ≡ done a)
 held t x r = kept t x r (λ e. let z : _≡_ {A = ℕ} 0 1 = cc in omega arith)
 
@@ -50,12 +50,12 @@ pub used : {A B : Type 0} (x : Verdict A) (f : A → Verdict B) {b : B} → then
 used (refused r) f e = absurd (let z : _≡_ {A = ℕ} 0 1 = cc in omega arith)
 used (done a) f e = (a, refl, e)
 
--- a refusal is that of a value or of its use
+-- a refusal comes from the first step or from the next
 pub either-refused : {A B : Type 0} (x : Verdict A) (f : A → Verdict B) {r : Refused} → then x f ≡ refused r → (x ≡ refused r) ⊎ ((a : A) × (x ≡ done a) × (f a ≡ refused r))
 either-refused (refused r) f e = inl cc
 either-refused (done a) f e = inr (a, refl, e)
 
--- a refusal is passed up
+-- if the next step can't refuse, the refusal is the first step's
 pub passed-up : {A B : Type 0} (x : Verdict A) (f : A → B) {r : Refused} → then x (λ a. done (f a)) ≡ refused r → x ≡ refused r
 passed-up (refused r) f e = cc
 passed-up (done a) f e = absurd (let z : _≡_ {A = ℕ} 0 1 = cc in omega arith)
@@ -127,7 +127,7 @@ module _ {A B : Type 0} (test : A → B → Bool) (x : A) (y : B) where
         rw (l .holds 0 (omega arith)) (refuses-lowest (suc i) xs ys n next ∙ ap (refusalAt code) (suc-add i n ∙ sym (add-suc i n)))
 
 module _ {A B : Type 0} where
-  -- as long as one another
+  -- two lists of the same length
   pub data Paired : List A → List B → Type 0 where
     none : Paired [] []
     more : {a : A} {b : B} {xs : List A} {ys : List B} → Paired xs ys → Paired (a ∷ xs) (b ∷ ys)

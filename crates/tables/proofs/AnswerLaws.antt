@@ -1,4 +1,4 @@
--- What an answer tells of the verdict behind it: a refusal is the answer of the whole.
+-- An answer and its verdict: what the answer tells of it, and that a refusal is the answer of the whole.
 -- Assumes nothing.
 use mathlib.Core.Path.{_≡_, refl, sym, _∙_}
 use mathlib.Core.Bool.{Bool, true, false, not}
@@ -6,7 +6,7 @@ use borrow.Author.Tests.{not-true, not-false}
 use Rattle.history.specs.declared.Answer.{Answer}
 use Rattle.history.specs.Verdict.{Refused, Verdict, refused, done, then, numbers, unnamed, told}
 
--- what `if !t` says of the definition that t equals
+-- what `if !t` tells of the definition that t equals
 pub no : {t u : Bool} → t ≡ u → not t ≡ true → u ≡ false
 no {t} {u} e h = sym e ∙ not-true t h
 
@@ -22,13 +22,13 @@ pub told-done : {A : Type 0} (v : Verdict A) {a : A} {r : Answer} → v ≡ done
 unfolding told
 told-done v e q = rw e q
 
--- a refusal is the answer of all that comes after
+-- a refusal is the answer, whatever would come after it
 pub told-first : {A B : Type 0} (v : Verdict A) (f : A → Verdict B) → (told v .code ≡ 0 → ⊥) → told v ≡ told (then v f)
 unfolding told
 told-first (refused r) f n = refl
 told-first (done a) f n = absurd (n refl)
 
--- what is made of a value doesn't show in the answer
+-- the answer doesn't depend on the value
 pub told-then : {A B : Type 0} (v : Verdict A) (f : A → B) → told (then v (λ a. done (f a))) ≡ told v
 unfolding told
 told-then (refused r) f = refl

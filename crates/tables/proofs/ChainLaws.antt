@@ -1,4 +1,4 @@
--- The entries passed, chained by their hashes. Entries that have the same object have the same hash, so a repeat is in the chain.
+-- The entries passed, chained by their hashes. Equal objects have equal hashes, so a repeat is in the chain.
 -- Assumes nothing.
 use Prim.Native.Nat.{ℕ, suc, _+_, _-_, _≤_, _<_}
 use native.Mathlib.Omega.{arith}
@@ -34,7 +34,7 @@ other-hash b j k n = not-eq-not {b = false} .0 (λ e. n (hash-same b j k e))
 
 -- ---- chains
 
--- of the first n entries the l-th is the last that has hash h; l is 0 where none has
+-- of the first n entries the l-th is the last that has hash h; l is 0 if none has
 pub record Last (b : List ℕ) (h n l : ℕ) : Type 0 where
   pub low : l ≤ n
   pub skip : (i : ℕ) → l ≤ i → i < n → hash b i ≡ h → ⊥
@@ -75,7 +75,7 @@ module _ (b : List ℕ) (k : ℕ) where
   }
 
 module _ {b : List ℕ} {k : ℕ} {lasts links starts : List ℕ} (c : Chained b k lasts links starts) where
-  -- what the chains hold, of the j-th entry and where there is none, is lower and stands before the next place
+  -- links lead to lower entries, and entries begin before the cursor; also what is read at j = 0, which is no entry
   pub head-low : (h : ℕ) → h < 1024 → getD lasts h 0 ≤ k
   head-low h l = c .head h l .low
 
@@ -90,7 +90,7 @@ module _ {b : List ℕ} {k : ℕ} {lasts links starts : List ℕ} (c : Chained b
         (λ l. omega (arith, place-before b (j - 1) k (getD starts (j - 1) 0) at _ (omega arith) (c .start (j - 1) (omega arith)) e refl))
         (eq-zero-or-pos k)
 
-  -- an entry more, of hash h, at its place
+  -- one more entry, of hash h, at its place
   pub chain-next : k < 1024 → (h at : ℕ) → h ≡ hash b k → at ≡ placeOf b k
       → Chained b (k + 1) (set lasts h (k + 1)) (set links k (getD lasts h 0)) (set starts k at)
   chain-next few h at e p = record {

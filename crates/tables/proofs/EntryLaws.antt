@@ -1,4 +1,4 @@
--- An entry but for repeats: each answer from the tests that lead there, and what an accepted entry says.
+-- An entry, except for repeats: each answer from the tests that lead there, and what an accepted entry tells.
 -- Assumes nothing.
 use Prim.Native.Nat.{ℕ, _+_, _-_, _≤_, _<_}
 use mathlib.Core.Path.{_≡_, refl, sym, ap, _∙_}
@@ -76,7 +76,7 @@ module _ (b : List ℕ) (at k : ℕ) where
               let good = was-good (labelGood (take n (drop (at + 2) b))) _ h (sym g ∙ r-is) in
               rw (← e) (simp (both, type, size, all, good .0, ← good .1))
 
--- what an accepted entry says
+-- what an accepted entry tells
 pub record GoodEntry (b : List ℕ) (at : ℕ) : Type 0 where
   pub type : carried (getD b 5 0) (getD b at 0) ≡ true
   pub some : 1 ≤ getD b (at + 1) 0
@@ -101,7 +101,7 @@ good-entry b at k e =
       label = p₅ .0;
     }
 
--- ---- what was given of the entry at a place
+-- ---- what the result of `check_entry` tells
 
 module _ (b : List ℕ) (at k : ℕ) {r : Found} (r-is : r ≡ found (hashAt b at) (checkObjectAt b at k)) where
   pub was-refused : {a : Answer} → r ≡ Found.Refused a → (x : Refused) × (checkObjectAt b at k ≡ refused x) × (a ≡ numbers x 0)
@@ -117,7 +117,7 @@ module _ (b : List ℕ) (at k : ℕ) {r : Found} (r-is : r ≡ found (hashAt b a
     pub found-few : own < 1024
     found-few = omega (arith, was-found .2, hash-few b at)
 
--- no label is longer than 48 bytes
+-- no label is longer than 48 bytes, so an entry takes at most 50, and the places of 1,024 fit the u16 of `starts`
 pub limit-few : (version : ℕ) → labelLimit version ≤ 48
 unfolding labelLimit
 limit-few version = omega arith

@@ -14,7 +14,7 @@ use Rattle.tables.specs.Places.{hashAt}
 use Rattle.tables.specs.Hashes.{hashFrom, hashOf, hashed}
 use Rattle.tables.specs.declared.labels.Label.{Label}
 
--- the list from a place that is in it
+-- what is left from a place inside: the byte there, then the rest
 at-place : (l : List ℕ) (i : ℕ) → i < length l → drop i l ≡ getD l i 0 ∷ drop (i + 1) l
 at-place l i h = rw (add-one, drop-cons l i 0)
 
@@ -52,7 +52,7 @@ module _ (l : List ℕ) (i : ℕ) where
     pub hash-next : (n : ℕ) → n ≡ getD l i 0 → i < length l → hashFrom first l ≡ hashFrom ((hash * 9 + n) % 1024) (drop (i + 1) l)
     hash-next n e h = rw e (inv ∙ ap (hashFrom hash) (at-place l i h))
 
--- ---- a label's test as the code answers it
+-- ---- a label's test as the code returns it
 
 pub label-not : (good : Bool) (hash : ℕ) → good ≡ false → Label.Bad ≡ hashed good hash
 unfolding hashed
@@ -86,7 +86,7 @@ module _ (l : List ℕ) (p : ℕ) (e : p ≡ firstColon l) where
     unfolding labelGood
     colon-inside g {r} hash f = f ∙ ap (λ (t : Bool). hashed t hash) (sym (rw (← e, le-leb 1 p h, lt-ltb (p + 1) (length l) g) (and-true (printable l))))
 
--- of the part behind the entry's first two bytes
+-- the label is the part after its entry's first two bytes
 pub label-part : (b : List ℕ) (at size first : ℕ) {r : Label} → first ≡ getD b at 0 → first < 256
     → r ≡ hashed (labelGood (take (at + 2 + size - (at + 2)) (drop (at + 2) b))) (hashFrom first (take (at + 2 + size - (at + 2)) (drop (at + 2) b)))
     → r ≡ hashed (labelGood (take size (drop (at + 2) b))) (hashOf (getD b at 0) (take size (drop (at + 2) b)))

@@ -1,4 +1,5 @@
--- A label's place by the entries' places is the place that the meaning gives; each answer to a label request; and the bytes that it names.
+-- A label's place, found from the entries' places, is the one that `history` defines; each answer to a label request; and the bytes that it
+-- names.
 -- Assumes nothing.
 use Prim.Native.Nat.{ℕ, zero, suc, _+_, _≤_, _<_}
 use native.Mathlib.Omega.{arith}
@@ -54,7 +55,7 @@ bytes-snoc : (os : List Object) (o : Object) → length (objectsBytes (os ++ (o 
 bytes-snoc [] o = simp length-append (omega arith)
 bytes-snoc (p ∷ os) o = simp length-append (omega (arith, bytes-snoc os o))
 
--- where an entry begins, in the written form
+-- an entry begins where the entries before it end, when written
 place-is : (b : List ℕ) (i : ℕ) → ((k : ℕ) → k < i → GoodEntry b (placeOf b k)) → objectsPlace + length (objectsBytes (objectsBelow b i)) ≡ placeOf b i
 unfolding placeOf
 place-is b zero h = omega arith
@@ -64,7 +65,7 @@ place-is b (suc i) h =
     let l = part-length b (p + 2) (getD b (p + 1) 0) (omega (arith, g .all)) in
     omega (arith, bytes-snoc (objectsBelow b i) (objectOf b i), place-is b i (λ k m. h k (omega arith)))
 
--- object i of an accepted table, and its label, by its place
+-- object i of an accepted table, and its label's place, from the place of its entry
 pub object-is : (b : List ℕ) {t : Table} → Accepted b t → (i : ℕ) → i < countIn b → object t i ≡ objectOf b i
 object-is b a i h = ap (λ (os : List Object). getD os i nobody) (a .objects) ∙ at-below b (countIn b) i h
 
@@ -133,7 +134,7 @@ module _ (b : List ℕ) (i : ℕ) (z : told (tableCall b) .code ≡ 0) where
         place = λ q. call;
       }
 
--- ---- what a caller goes by
+-- ---- what a caller relies on
 
 place-empty : (v : Verdict Place) (r : LabelAt) → r ≡ labelTold v → (r .answer .code ≡ 0 → ⊥) → (r .offset ≡ 0) × (r .size ≡ 0)
 unfolding labelTold told

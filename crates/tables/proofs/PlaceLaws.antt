@@ -1,4 +1,4 @@
--- The entries by their places are the entries of the reading.
+-- Reading the entries by their places in the bytes is reading them as `history` defines it.
 -- Assumes nothing.
 use Prim.Native.Nat.{ℕ, zero, suc, _+_, _-_, _≤_, _<_}
 use native.Mathlib.Omega.{arith}
@@ -19,7 +19,7 @@ use Rattle.tables.specs.Places.{placeOf, checkObjectAt}
 use Rattle.tables.proofs.AnswerLaws.{then-same}
 use Rattle.tables.proofs.EntryLaws.{good-entry}
 
--- object k, from its place; the objects below k, in table order
+-- object k, read at its place; the objects below k, in table order
 abbrev pub objectOf : List ℕ → ℕ → Object
 objectOf b k = record { type = getD b (placeOf b k) 0; label = take (getD b (placeOf b k + 1) 0) (drop (placeOf b k + 2) b) }
 
@@ -32,7 +32,7 @@ abbrev pub repeatsBelow : List ℕ → ℕ → ℕ → Bool
 repeatsBelow b k zero = false
 repeatsBelow b k (suc j) = sameObject (objectOf b j) (objectOf b k) || repeatsBelow b k j
 
--- n entries are left, the next is object k's
+-- the check of the n entries that are left, of which object k's is next
 unfoldable pub entriesCheck : List ℕ → ℕ → ℕ → Verdict (List Object)
 entriesCheck b zero k = refusal 8 unless eqb (placeOf b k) (length b) ⨾ done (objectsBelow b k)
 entriesCheck b (suc n) k =
@@ -61,7 +61,7 @@ pub place-behind : (b : List ℕ) (k at : ℕ) → at ≡ placeOf b k → 2 ≤ 
 unfolding placeOf
 place-behind b k at e = omega (arith, objects-place, place-le b 0 k (omega arith))
 
--- the next place, by the entry's size as the code has it
+-- the next place, from the entry's size as the code finds it
 pub place-next : (b : List ℕ) (k at size : ℕ) → at ≡ placeOf b k → size ≡ 2 + getD b (at + 1) 0 → at + size ≡ placeOf b (k + 1)
 place-next b k at size e e′ = rw (e′, e, add-one k, place-suc)
 
@@ -116,7 +116,7 @@ entry-here b k =
     let rest : drop (getD b (p + 1) 0) (drop (p + 2) b) ≡ drop (p + (2 + getD b (p + 1) 0)) b = drop-drop (getD b (p + 1) 0) (p + 2) b ∙ ap (λ (m : ℕ). drop m b) end in
     rw (zeroth, first, after, rest)
 
--- five tests, then the sixth
+-- six tests are five, and then the sixth: that of 7
 split : (t₁ t₂ t₃ t₄ t₅ t₆ : Bool) (k : ℕ) (e : ObjectEntry) (n : ℕ) (f : ObjectEntry → Verdict (List Object))
     → then (refusal 8 unless t₁ ⨾ refusalAt 5 k unless t₂ ⨾ refusalAt 6 k unless t₃ ⨾ refusal 8 unless t₄ ⨾ refusalAt 6 k unless t₅ ⨾ refusalAt 7 k unless t₆ ⨾ done e) f
     ≡ then (refusal 8 unless t₁ ⨾ refusalAt 5 k unless t₂ ⨾ refusalAt 6 k unless t₃ ⨾ refusal 8 unless t₄ ⨾ refusalAt 6 k unless t₅ ⨾ done n) (λ m. refusalAt 7 k unless t₆ ⨾ f e)
@@ -149,7 +149,7 @@ module _ (b : List ℕ) where
       ∙ split (leb 2 (length c)) (carried catalogue (getD b (placeOf b k) 0)) (leb 1 n && leb n (labelLimit version)) (leb (2 + n) (length c)) (labelGood (objectOf b k .label)) (not (repeats (objectOf b k) (objectsBelow b k))) (length (objectsBelow b k)) (here k) (placeOf b k + (2 + n)) f
       ∙ rw (leb-drop 2 (placeOf b k) b inside, leb-drop (2 + n) (placeOf b k) b inside, length-below b k, repeats-below b k k)
 
-  -- n entries left, from object k's place on
+  -- the n entries that are left, from object k's place
   pub entries-read : (n k : ℕ) → placeOf b k ≤ length b → readObjects version catalogue (objectsBelow b k) n (drop (placeOf b k) b) ≡ entriesCheck b n k
   unfolding entriesCheck
   entries-read zero k h = ap (λ (t : Bool). refusal 8 unless t ⨾ done (objectsBelow b k)) (eqb-drop (placeOf b k) b h)

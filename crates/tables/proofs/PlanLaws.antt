@@ -1,4 +1,4 @@
--- The layout numbers of an accepted table's objects, filled in a turn at a time; and what an outline tells.
+-- The layout numbers of an accepted table's objects, filled in turn by turn; and what an outline tells.
 -- Assumes nothing.
 use Prim.Native.Nat.{ℕ, suc, _+_, _-_, _≤_, _<_}
 use native.Mathlib.Omega.{arith}
@@ -30,7 +30,7 @@ unfolding kindsOf
 kinds-back [] = refl
 kinds-back (k ∷ ks) = ap₂ _∷_ (kind-numbered k) (kinds-back ks)
 
--- ---- zeros behind
+-- ---- filled up with zeros
 
 places-length : (ns : List ℕ) → length ns ≤ 1024 → length (filled 1024 ns) ≡ 1024
 places-length ns h = length-append ns (replicate (1024 - length ns) 0) ∙ omega (arith, length-replicate {A = ℕ} (1024 - length ns) 0)

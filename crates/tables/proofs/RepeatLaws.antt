@@ -1,5 +1,5 @@
--- Two entries have the same object just where their types, their lengths and each byte of their labels agree; and what the search among
--- the earlier ones keeps.
+-- Two entries have the same object exactly where their types, their lengths and each byte of their labels agree; and what the search among
+-- the earlier ones finds.
 -- Assumes nothing.
 use Prim.Native.Nat.{ℕ, zero, suc, _+_, _-_, _≤_, _<_}
 use native.Mathlib.Omega.{arith}
@@ -42,7 +42,7 @@ part-length b a n h = length-take-le n (drop a b) (simp length-drop (omega arith
 part-at : (b : List ℕ) (a n i : ℕ) → i < n → getD (take n (drop a b)) i 0 ≡ getD b (a + i) 0
 part-at b a n i h = rw (getD-take, getD-drop)
 
--- the entries at p and at q have the same bytes behind byte i, up to byte n
+-- the entries at p and at q have the same bytes after byte i and before byte n
 pub record Agree (b : List ℕ) (p q i n : ℕ) : Type 0 where
   pub each : (x : ℕ) → i < x → x < n → getD b (p + x) 0 ≡ getD b (q + x) 0
 
@@ -52,7 +52,7 @@ agree-none h = record { each = λ x l m. absurd (omega arith) }
 pub agree-more : {b : List ℕ} {p q i n : ℕ} → Agree b p q i n → getD b (p + i) 0 ≡ getD b (q + i) 0 → Agree b p q (i - 1) n
 agree-more a e = record { each = λ x l m. ⊎-elim (λ s. rw (← s) e) (λ lt. a .each x lt m) (eq-or-lt-of-le (omega arith)) }
 
--- a label of n bytes stands behind its entry's first two
+-- a label of n bytes follows its entry's first two
 module _ (b : List ℕ) (p q n : ℕ) where
   label-same : p + 2 + n ≤ length b → q + 2 + n ≤ length b → (i : ℕ) → i ≤ 1 → Agree b p q i (2 + n) → take n (drop (p + 2) b) ≡ take n (drop (q + 2) b)
   label-same hp hq i low a =
@@ -71,7 +71,7 @@ module _ (b : List ℕ) (p q n : ℕ) where
 
 -- ---- two entries
 
--- entries j and k are whole, and at their places: was and at
+-- entries j and k begin at `was` and `at`, and end inside
 pub record Both (b : List ℕ) (j k was at : ℕ) : Type 0 where
   pub first : was ≡ placeOf b j
   pub second : at ≡ placeOf b k
@@ -84,7 +84,7 @@ module _ {b : List ℕ} {j k was at : ℕ} (p : Both b j k was at) where
       let l = label-same b was at (getD b (at + 1) 0) (omega (arith, p .first-fits)) (omega (arith, p .second-fits)) i low a in
       rw (← p .first, ← p .second, n, t, l) (object-refl (record { type = getD b at 0; label = take (getD b (at + 1) 0) (drop (at + 2) b) }))
 
-  -- what two entries of one object have in common
+  -- what two entries with the same object have in common
   pub record Common : Type 0 where
     pub size : getD b (was + 1) 0 ≡ getD b (at + 1) 0
     pub type : getD b was 0 ≡ getD b at 0

@@ -1,4 +1,4 @@
--- The table's check in the code's order, and what an accepted table tells: where its entries stand, and how long they are.
+-- The table's check in the code's order, and what an accepted table tells: where its entries are, and that each is good.
 -- Assumes nothing.
 use Prim.Native.Nat.{ℕ, zero, suc, _+_, _≤_, _<_}
 use native.Mathlib.Omega.{arith}
@@ -70,7 +70,7 @@ module _ (b : List ℕ) where
 
 -- ---- an accepted table
 
--- of a good run of entries each is good, and the objects are those by their places
+-- in a run of entries that is accepted each is good, and the objects are those at their places
 record GoodRun (b : List ℕ) (n k : ℕ) (os : List Object) : Type 0 where
   each : (j : ℕ) → k ≤ j → j < k + n → GoodEntry b (placeOf b j)
   objects : os ≡ objectsBelow b (k + n)
@@ -126,7 +126,7 @@ accepted b {t} e =
       each = λ k h. r .each k (omega arith) (omega arith);
     })
 
--- ---- an answer with code 0 is an accepted table
+-- ---- code 0 tells an accepted table
 
 pub table-of : (b : List ℕ) → told (tableCall b) .code ≡ 0 → (t : Table) × (tableCall b ≡ done t)
 table-of b = zero-told (tableCall b) (table-call-coded b)
@@ -135,7 +135,7 @@ table-of b = zero-told (tableCall b) (table-call-coded b)
 pub entry-at : (b : List ℕ) → told (tableCall b) .code ≡ 0 → (k at : ℕ) → at ≡ placeOf b k → k < countIn b → GoodEntry b at
 entry-at b z k at e l = rw e (accepted b (table-of b z .1) .each k l)
 
--- a cursor on the way through the first n entries: at entry k, or behind the last
+-- a cursor on its way through the first n entries of an accepted table: at entry k, or after the last
 pub record Stands (b : List ℕ) (n k at : ℕ) : Type 0 where
   pub good : told (tableCall b) .code ≡ 0
   pub few : n ≤ countIn b
@@ -164,7 +164,7 @@ module _ {b : List ℕ} {n k at : ℕ} (s : Stands b n k at) where
     pub stands-next : (size : ℕ) → size ≡ 2 + getD b (at + 1) 0 → Stands b n (k + 1) (at + size)
     stands-next size e = record { good = s .good; few = s .few; bound = omega arith; place = place-next b k at size (s .place) e; inside = omega (arith, entry-there) }
 
--- what is known past a table's check
+-- what is known once a table's check gave code 0
 module _ (a : Answer) (b : List ℕ) (e : a ≡ told (tableCall b)) (z : a .code ≡ 0) where
   pub code-given : told (tableCall b) .code ≡ 0
   code-given = ap (λ (x : Answer). x .code) (sym e) ∙ z
@@ -172,6 +172,6 @@ module _ (a : Answer) (b : List ℕ) (e : a ≡ told (tableCall b)) (z : a .code
   pub head-given : objectsPlace ≤ length b
   head-given = accepted b (table-of b code-given .1) .long
 
-  -- version, X and Y
+  -- version, X and Y are inside
   pub inside-given : (i : ℕ) → i ≤ 6 → i < length b
   inside-given i h = omega (arith, objects-place, head-given)

@@ -1,4 +1,4 @@
--- The loop over the entries, and in it the search among the earlier ones, a turn at a time: the answer for the whole is that for what is left.
+-- The loop over the entries, and in it the search among the earlier ones, turn by turn: the verdict for the whole is that for what is left.
 -- Assumes nothing.
 use Prim.Native.Nat.{ℕ, zero, suc, _+_, _-_, _*_, _≤_, _<_}
 use native.Mathlib.Omega.{arith}
@@ -29,7 +29,7 @@ pub entries-are : (b : List ℕ) (count : ℕ) → objectsPlace ≤ length b →
 unfolding objectsIn placeOf
 entries-are b count h = entries-read b count 0 h
 
--- k entries are passed, and the cursor stands behind them
+-- k entries are passed, and the cursor is right after them
 pub record Walking (b : List ℕ) (count k at : ℕ) : Type 0 where
   pub bound : k ≤ count
   pub place : at ≡ placeOf b k
@@ -41,7 +41,8 @@ pub walk-begins : (b : List ℕ) (count at : ℕ) → objectsPlace ≤ length b 
 unfolding placeOf
 walk-begins b count at h e = record { bound = omega arith; place = e; inside = omega arith; near = omega (arith, objects-place); left = entries-are b count h ∙ ap (λ (n : ℕ). entriesCheck b n 0) (sym (sub-zero count)) }
 
--- the entry at the cursor is good but for repeats; of those before it the j-th has its hash, and all from there on are unlike it
+-- the entry at the cursor passed its check, and repeats are searched for. The j-th entry, if j is not 0, has its hash, and all
+-- from there to the cursor differ from it
 pub record Searching (b : List ℕ) (count k at size own : ℕ) (lasts links starts : List ℕ) (j : ℕ) : Type 0 where
   pub walking : Walking b count k at
   pub chained : Chained b k lasts links starts

@@ -1,5 +1,5 @@
--- Two outcomes of one request are equal: a view, its count, the numbers, and the part that a label request gives: where it points and
--- the bytes there (and so how many), which is all that a program has of a part.
+-- Two outcomes of one request are equal: a view, its count, the numbers, and the part that a label request gives. Of a part: where it points
+-- and the bytes there (and so how many), which is all that a program can see of it.
 -- Assumes nothing.
 use Prim.Native.Nat.{ℕ}
 use mathlib.Core.Path.{_≡_}

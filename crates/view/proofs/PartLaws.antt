@@ -1,5 +1,5 @@
--- A view's count and a label's part, from what the table's outline and the label's place say; and what a caller goes by: a request's
--- numbers and its part fit each other.
+-- A view's count and a label's part, from the table's outline and the label's place; and what a caller relies on: a request's numbers and
+-- its part fit each other.
 -- Assumes nothing.
 use Prim.Native.Nat.{ℕ, _+_, _-_, _≤_}
 use native.Mathlib.Omega.{arith}
@@ -44,14 +44,14 @@ told-place (done p) = refl
 found-place : {T : List ℕ} {i : ℕ} {r : LabelAt} → LabelFound T i r → at r ≡ givenPlace (labelCall T i)
 found-place {T} {i} l = ap at (l .whole) ∙ told-place (labelCall T i)
 
--- the part that the code makes of the place
+-- the part that the code takes at the place is the one defined
 pub found-part : {T : RefT (List ℕ)} {i : ℕ} {r : LabelAt} (part : RefT (List ℕ)) → LabelFound (now T) i r
     → part .ptr ≡ (T .ptr .0, r .offset + T .ptr .1) → now part ≡ take (r .offset + r .size - r .offset) (drop (r .offset) (now T)) → Part T part (givenPlace (labelCall (now T) i))
 found-part {T} {i} {r} part l p b =
     let all : r .offset + r .size - r .offset ≡ r .size = omega arith in
     subst (Part T part) (found-place l) (record { place = p; bytes = b ∙ ap (λ (n : ℕ). take n (drop (r .offset) (now T))) all })
 
--- ---- what a caller goes by
+-- ---- what a caller relies on
 
 own-place : (v : Verdict Place) (p : Place) → v ≡ done p → givenPlace v ≡ p
 unfolding givenPlace

@@ -1,5 +1,5 @@
--- `view::label` meets its contract: a walk of its MIR, by hand. The view is taken apart, and `label_part` is called on the slice and the number; the part that it returns is handed back as it is, at its very place. All that the proof knows of `label_part` is that it meets its contract.
--- The struct is Copy: what it owns is had twice, one copy is kept whole for the exit, and of the other what table owns goes to the callee, beside the lifetime's token, which comes back.
+-- `view::label` meets its contract: a walk of its MIR, by hand. The view is taken apart, and `label_part` is called on the slice and the number; the part that it returns is returned as it is, at the same place. All that the proof knows of `label_part` is that it meets its contract.
+-- The struct is Copy, so what it owns can be had twice. One copy is kept whole for the exit. From the other, what table owns goes to the callee, with the lifetime's token, which comes back.
 -- Assumes nothing.
 use mathlib.Core.Path.{_≡_, refl}
 use Prim.Native.Nat.{ℕ, _<_, _^_}
@@ -120,7 +120,7 @@ module _ {M : Type 1} (𝓤 : URA M) (H : Heap 𝓤) (A : Atoms 𝓤) (W : Given
   asked : ent 𝓤 (onEntry 𝓤 H A label-part.signature (κ, tt) (q, tt) passed pvals) (LabelPart 𝓤 H A mem run .pre to)
   asked = qed W ((‵ (flft κ q) ⊛ ‵ ftrue) ∷ ‵ (owns (ShrSlice (named 0) κ u8 ∷ u16 ∷ []) passed pvals) ∷ []) ∵ join ! $ frame ! $ done !
 
-  -- what the struct owns gives what the callee asks, and is kept
+  -- what the struct owns gives what the callee asks for, and is kept
   apart : ent 𝓤 (onEntry 𝓤 H A label.signature (κ, tt) (q, tt) a vals) (sep 𝓤 (LabelPart 𝓤 H A mem run .pre to) (sem 𝓤 H A Own))
   apart =
       qed W ((‵ (flft κ q) ⊛ ‵ ftrue) ∷ ‵ (owns (B (κ, tt) ∷ u16 ∷ []) a vals) ∷ []) ∵
@@ -147,7 +147,7 @@ module _ {M : Type 1} (𝓤 : URA M) (H : Heap 𝓤) (A : Atoms 𝓤) (W : Given
         alloc1 ! (λ l₀. alloc1 ! (λ l₁. alloc1 ! (λ l₂. alloc1 ! (λ l₃. alloc0 ! $ params1 ! $ pass1 ! (init ! 4 refl wt) $ pass1 ! (init ! 2 refl (tt, record { fits = n-fits })) $ pass0 ! $
         assigns ! (of-opd ! (load ! (from ! (fld ! refl (stop !))) (look-in ! 4 (sub ! 0 refl (whole !))))) (from ! (stop !)) (init ! 0 refl (tt, wt .1 .0)) $
         move ! (8 ∷ []) $ use1 W (raw (LabelPart 𝓤 H A mem run .pre to) ⊛ ‵ Own) apart $ split ! $
-        -- [what the callee asks; what the struct owns; _3; …; _2; …; _1; …; room for _0; …]
+        -- [what the callee asks for; what the struct owns; _3; …; _2; …; _1; …; room for _0; …]
         calls-at ! fm (LabelPart 𝓤 H A mem run) known to (and-then ! (load ! (from ! (stop !)) (look ! 2 refl)) (and-then ! (load ! (from ! (stop !)) (look ! 4 refl)) (no-more !))) (λ u.
         use1 W (later (some (λ (r : RefT (List ℕ)). ((‵ (flft κ q) ⊛ ‵ ftrue) ⊛ ‵ (ShrSlice (named 0) κ u8 .own r (u ∷ []))) ⊛ raw (ensured 𝓤 H A label-part.ended (label-part.clauses 𝓤 H A mem run) (κ, tt) passed tt r)))) (id⊢ 𝓤 _) $ await ! tt $ pick ! (λ r.
         split ! $ move ! (1 ∷ []) $ use1 W (raw (fact 𝓤 (Said r))) (said r) $ heard ! (Said r) (λ e. split ! $ move ! (1 ∷ []) $

@@ -1,5 +1,5 @@
 -- `view::open` meets its contract: a walk of its MIR, by hand. `count_of` is called on the slice, and a view is made of the slice and what it returns.
--- A `&[u8]` is Copy, so what it owns is had again wherever it is asked. All that the proof knows of `count_of` is that it meets its contract.
+-- A `&[u8]` is Copy, so what it owns can be had again wherever it is asked for. All that the proof knows of `count_of` is that it meets its contract.
 -- Assumes nothing.
 use mathlib.Core.Path.{_≡_, refl, ap}
 use Prim.Native.Nat.{ℕ, _<_, _^_}
@@ -63,7 +63,7 @@ module _ {M : Type 1} (𝓤 : URA M) (H : Heap 𝓤) (A : Atoms 𝓤) (W : Given
   abbrev α : NamedLft
   α = namedLft 1 0 tt (κ, tt)
 
-  -- the machine value that s has
+  -- the machine value of s
   abbrev v : Val
   v = sliceVal (s .ptr) (length (s .now))
 
@@ -79,7 +79,7 @@ module _ {M : Type 1} (𝓤 : URA M) (H : Heap 𝓤) (A : Atoms 𝓤) (W : Given
   abbrev Own : Fml
   Own = ShrSlice (named 0) κ u8 .own s (v ∷ [])
 
-  -- the call of `count_of`: what it is passed, what it asks, and what is known of its result
+  -- the call of `count_of`: what it is passed, what it asks for, and what is known of its result
   abbrev to : Count 𝓤 H A mem run .Ghost
   to = (((κ, tt), (q, tt), tt, (s, tt), at), tt)
 
@@ -97,7 +97,7 @@ module _ {M : Type 1} (𝓤 : URA M) (H : Heap 𝓤) (A : Atoms 𝓤) (W : Given
       qed W ((‵ (flft κ q) ⊛ ‵ ftrue) ∷ ‵ Own ∷ []) ∵
       suffices ! _ (ends-at 𝓤 H A open′.ended stayed (open′.clauses 𝓤 H A mem run) W (((κ, tt), (q, tt), tt, (s, tt), at), tt) (T′.lowered (made n)) (made n) (tt, tt) (tt, tt)) $ says ! (refl, e) $
       frame ! $ use1 W (‵ Own ⊛ ‵ Own) (shr-slice-copy 𝓤 H A W (named 0) κ u8 .twice s (v ∷ [])) $ split ! $ nothing ! $ move ! (1 ∷ 0 ∷ []) $ fjoin ! $ frame ! $
-      -- [what table owns]: what the fields own together, of it and of count's facts, is what the struct owns
+      -- [what table owns]: this and count's facts make up what the struct owns
       nothing ! $ owned ! usize (Is usize) (uint-makes 𝓤 H A W w64) n _ (refl, fits) $ fjoin ! $ move ! (1 ∷ 0 ∷ []) $ fjoin ! $ by ! (own-shut 𝓤 H A W (T.the-type α) (T′.the-laws α) (s, (n, tt)))
 
   module _ (C : Calls 𝓤 H) (Λ : Loops 𝓤 H) (fm : FmC 𝓤 H (W .laws) C) (known : Triple 𝓤 (C #view·count-of) (Count 𝓤 H A mem run)) where

@@ -1,5 +1,5 @@
--- `view::table_label` meets its contract: a walk of its MIR, by hand. A view that one call returns is held in a local and passed to the next. All that the proof knows of `open` and of `label` is that each meets its contract.
--- The machine value that `open` returns is stored and passed on as it is. In a local of a body MIR erases the lifetime of the struct's type, so the value is shown to have the type at `erased`.
+-- `view::table_label` meets its contract: a walk of its MIR, by hand. The view that `open` returns is held in a local and passed to `label`. All that the proof knows of `open` and of `label` is that each meets its contract.
+-- The machine value that `open` returns is stored and passed on as it is. MIR erases lifetimes in the types of a body's locals, so the value is shown to have the struct's type at `erased`.
 -- Assumes nothing.
 use mathlib.Core.Path.{_≡_, refl, subst}
 use Prim.Native.Nat.{ℕ, _<_, _^_}
@@ -71,11 +71,11 @@ module _ {M : Type 1} (𝓤 : URA M) (H : Heap 𝓤) (A : Atoms 𝓤) (mem : Mem
   Label = tripleOf 𝓤 H A label.signature (label.spec 𝓤 H A mem run)
 
 module _ {M : Type 1} (𝓤 : URA M) (H : Heap 𝓤) (A : Atoms 𝓤) (W : Given 𝓤 H A) (mem : Memory → SProp 𝓤) (run : Routine → Fun 𝓤) (κ : Lft) (q : Share) (s : RefT (List ℕ)) (n : ℕ) (n-fits : n < 2 ^ 16) where
-  -- the machine value that s has
+  -- the machine value of s
   abbrev v : Val
   v = sliceVal (s .ptr) (length (s .now))
 
-  -- the struct's type as a local of a body has it
+  -- the lifetime of the struct's type in a local of a body
   abbrev αᵉ : NamedLft
   αᵉ = record { mir = erased; lft = κ }
 
@@ -94,14 +94,14 @@ module _ {M : Type 1} (𝓤 : URA M) (H : Heap 𝓤) (A : Atoms 𝓤) (W : Given
   abbrev Own : Fml
   Own = ShrSlice (named 0) κ u8 .own s (v ∷ [])
 
-  -- what a view's label is
+  -- what `label` ensures of its result
   abbrev Said : TableView → RefT (List ℕ) → Type 0
   Said r t = Part (r .table) t (givenPlace (labelCall (now (r .table)) n))
 
   abbrev made : TableView
   made = record { table = s; count = countOf (tableCall (now s)) }
 
-  -- the call of `open`: what it is passed, what it asks, and what is known of its result
+  -- the call of `open`: what it is passed, what it asks for, and what is known of its result
   abbrev to-open : Open 𝓤 H A mem run .Ghost
   to-open = (((κ, tt), (q, tt), tt, (s, tt), (v ∷ [], tt)), tt)
 

@@ -1,4 +1,4 @@
--- `heads::image::elements_of` meets its contract: what stands from the version's place on.
+-- `heads::image::elements_of` meets its contract: all bytes from the end of the head.
 -- Assumes nothing.
 use borrow.Author.Needs.{needs}
 use Rattle.heads.proofs.Places.{elements-from}

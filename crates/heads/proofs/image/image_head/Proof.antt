@@ -1,4 +1,4 @@
--- `heads::image::image_head` meets its contract: the place of the image's own version.
+-- `heads::image::image_head` meets its contract: the place that the image's version byte gives.
 -- Assumes nothing.
 use borrow.Author.Needs.{needs}
 use Rattle.heads.specs.Heads.{imageHead}

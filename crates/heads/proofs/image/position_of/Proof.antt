@@ -1,4 +1,4 @@
--- `heads::image::position_of` meets its contract: four bytes that stand before the elements.
+-- `heads::image::position_of` meets its contract: four bytes of the head, before the elements.
 -- Assumes nothing.
 use native.Mathlib.Omega.{arith}
 use Rattle.heads.specs.Heads.{positionIn}

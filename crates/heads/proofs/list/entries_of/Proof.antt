@@ -1,4 +1,4 @@
--- `heads::list::entries_of` meets its contract: what stands from a place on.
+-- `heads::list::entries_of` meets its contract: all bytes from the end of the head.
 -- Assumes nothing.
 use native.Mathlib.Omega.{arith}
 use borrow.Author.Needs.{needs}

@@ -1,4 +1,4 @@
--- `heads::list::entry_count` meets its contract: two bytes that stand before the entries.
+-- `heads::list::entry_count` meets its contract: two bytes of the head, before the entries.
 -- Assumes nothing.
 use native.Mathlib.Omega.{arith}
 use borrow.Author.Needs.{needs}

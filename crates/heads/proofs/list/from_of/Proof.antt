@@ -1,4 +1,4 @@
--- `heads::list::from_of` meets its contract: four bytes that stand before the entries.
+-- `heads::list::from_of` meets its contract: four bytes of the head, before the entries.
 -- Assumes nothing.
 use native.Mathlib.Omega.{arith}
 use Rattle.heads.specs.Heads.{fromIn, entriesPlace}

@@ -1,4 +1,4 @@
--- `heads::table::object_count` meets its contract: two bytes that stand before the objects.
+-- `heads::table::object_count` meets its contract: two bytes of the head, before the objects.
 -- Assumes nothing.
 use native.Mathlib.Omega.{arith}
 use borrow.Author.Needs.{needs}

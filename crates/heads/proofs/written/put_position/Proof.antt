@@ -1,4 +1,4 @@
--- `heads::written::put_position` meets its contract: the position goes through its own part, before the elements.
+-- `heads::written::put_position` meets its contract: the position is written through its own part, before the elements.
 -- Assumes nothing.
 use borrow.Author.Needs.{needs}
 use Rattle.heads.proofs.Places.{position-inside}

@@ -1,5 +1,5 @@
--- `tables::labels::check_bytes` meets its contract. The invariant: the label is printable where what is left is, and its hash is that of
--- what is left behind the hash so far. Assumes nothing.
+-- `tables::labels::check_bytes` meets its contract. The invariant: the label is printable if what is left is, and its hash is
+-- the hash so far continued over what is left. Assumes nothing.
 use Prim.Native.Nat.{_≤_, _<_, _-_}
 use native.Mathlib.Omega.{arith}
 use mathlib.Core.Path.{_≡_}

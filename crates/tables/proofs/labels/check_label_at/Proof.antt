@@ -1,4 +1,4 @@
--- `tables::labels::check_label_at` meets its contract: of the part behind the type and the label length.
+-- `tables::labels::check_label_at` meets its contract: the check of the part after the type and the label length.
 -- Assumes nothing.
 use native.Mathlib.Omega.{arith}
 use borrow.Author.Needs.{needs}

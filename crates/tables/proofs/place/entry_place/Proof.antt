@@ -1,4 +1,4 @@
--- `tables::place::entry_place` meets its contract. The invariant: the cursor stands at the place of entry j.
+-- `tables::place::entry_place` meets its contract. The invariant: the cursor is at the place of entry j.
 -- Assumes nothing.
 use Prim.Native.Nat.{_-_}
 use native.Mathlib.Omega.{arith}

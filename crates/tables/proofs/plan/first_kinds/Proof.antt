@@ -1,4 +1,4 @@
--- `tables::plan::first_kinds` meets its contract: the part has so many as were asked for.
+-- `tables::plan::first_kinds` meets its contract: the part has as many as were asked for.
 -- Assumes nothing.
 use mathlib.Core.Path.{sym}
 use lib.Seq.{length-take-le}

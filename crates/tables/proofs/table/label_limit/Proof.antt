@@ -1,4 +1,4 @@
--- `tables::table::label_limit` meets its contract.
+-- `tables::table::label_limit` meets its contract: the number is the definition's.
 -- Assumes nothing.
 use Rattle.tables.proofs.RuleLaws.{limit-is}
 use Rattle.tables.proofs.table.label_limit.Statement.{statement}
