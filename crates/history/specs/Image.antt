@@ -34,7 +34,7 @@ element k w = elementCheck k w
 abbrev pub foundIn : Refusal → ℕ → Refused
 foundIn f i = naming (f .code) i (f .bit)
 
--- an element that is refused refuses, naming its object and bit; else the rest decides
+-- a refused element refuses, naming its object and bit; else the rest decides
 infixr 5 _of_⨾_
 abbrev pub _of_⨾_ : {A : Type 0} → Finding → ℕ → Verdict A → Verdict A
 Finding.Accepted of i ⨾ rest = rest

@@ -1,4 +1,4 @@
-// The numbers that a call returns, one function for each kind of answer; and `Outline`, what the check of a table returns with them.
+// The numbers that a call returns, one function for each kind of answer; and `Outline`, what `outline` returns with them.
 use history::Answer;
 use rows::Refusal;
 ghost use mathlib.Core.Path.{_≡_};

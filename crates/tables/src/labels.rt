@@ -1,5 +1,5 @@
-// Labels: bytes 33 to 126; some byte is a colon, and the first colon has a byte before and after it. The same pass makes the hash of the
-// entry's type and label, by which repeats are found.
+// Labels: bytes 33 to 126; some byte is a colon, and the first colon has a byte before and after it. The pass that tests the bytes also makes
+// the hash of the entry's type and label, by which repeats are found.
 use heads::byte_at;
 ghost use mathlib.Core.Path.{_≡_};
 ghost use Prim.Native.Nat.{_+_, _≤_, _<_};
