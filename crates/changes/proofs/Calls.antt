@@ -34,7 +34,7 @@ pub turn-starts : (T L : List ℕ) → Starts T (turnCall T L) (λ p. turnUnder 
 unfolding turnCall
 turn-starts T L = record { is = refl }
 
--- ---- .. and hands on its plan
+-- ---- under an accepted table the call depends on its plan
 
 module _ {T : List ℕ} {o : Outline} (k : Outlined T o) (good : o .answer .code ≡ 0) {ns : List ℕ} (n : ns ≡ take (o .count) (o .kinds)) where
   module _ (A B : List ℕ) where
@@ -50,7 +50,7 @@ module _ {T : List ℕ} {o : Outline} (k : Outlined T o) (good : o .answer .code
   pub turn-goes : (L : List ℕ) → turnUnder (planAs (o .x) (o .y) ns) L ≡ turnCall T L
   turn-goes L = under-plan k good n (turn-starts T L)
 
--- ---- then the other forms, as given
+-- ---- then the other forms, in the order given
 
 module _ (p : Plan) (A B out : List ℕ) {r : Answer} (bad : r .code ≡ 0 → ⊥) where
   pub difference-first : r ≡ told (readImage p A) → Leaves (differenceUnder p A B) out r out

@@ -1,4 +1,4 @@
--- Demand 3 over the calls' own outcomes, as the user words it: nothing that refuses meets it. T, A, B, .. are any bytes.
+-- Demand 3 over what the calls give, as the user words it: calls that refuse do not meet it. T, A, B, .. are any bytes.
 -- Assumes nothing.
 use Prim.Native.Nat.{ℕ, _+_, _*_, _≤_}
 use mathlib.Core.Path.{_≡_, refl, sym, ap, _∙_}
@@ -15,7 +15,7 @@ use Rattle.history.proofs.CodeLaws.{delivered, apply-call-coded, join-call-code
 use Rattle.history.proofs.SizeLaws.{OneJoin}
 use Rattle.history.proofs.Demands.{has-difference, apply-of-difference, only-list, join-of-differences, turned-difference, three-lists, difference-not-longer, join-not-longer}
 
--- into any buffer with room for b, which n bytes have, a call writes b: 0, 65535, 255 and b's length, b in front, the rest as it was
+-- n bytes have room for b, and into any output with room for it the call writes b: 0, 65535, 255 and b's length, b at the front, the rest as it was
 abbrev pub Gives : Verdict (List ℕ) → ℕ → List ℕ → Type 0
 Gives v n b = (length b ≤ n) × ((out : List ℕ) → length b ≤ length out → Success b out (settled v out))
 
@@ -41,14 +41,14 @@ pub record Demand3 (T A B C : List ℕ) : Type 0 where
   -- "A-to-B turned back is B-to-A"
   pub back : Gives (turnCall T AB) (4 * length B) BA
 
--- a call that succeeded with B gave it
+-- an application that succeeds with B gives B
 apply-gave : (T A L : List ℕ) {B out : List ℕ} → Success B out (settled (applyCall T A L) out) → applyCall T A L ≡ done B
 apply-gave T A L {B} {out} s =
     let o : Ran (applyCall T A L) out (settled (applyCall T A L) out .answer) (settled (applyCall T A L) out .output) = record { leaves = (refl, refl) } in
     let d = delivered (apply-call-coded T A L) o (ap (λ (r : Answer). r .code) (s .answer)) in
     d .bytes ∙ ap done (ap (λ (r : Answer). take (r .length) (settled (applyCall T A L) out .output)) (s .answer) ∙ s .front)
 
--- A, B and C are accepted, and so is T
+-- for any A, B and C accepted under T
 pub demand-3 : (T A B C : List ℕ) {a b c : Image} → Bytes A → Bytes B → Bytes C → imageCall T A ≡ done a → imageCall T B ≡ done b → imageCall T C ≡ done c → Demand3 T A B C
 demand-3 T A B C ha hb hc ea eb ec =
     let l = has-difference T A B ha hb ea eb in

@@ -1,4 +1,4 @@
--- Two outcomes of one request are equal: the numbers and the output at the end of each of the four calls.
+-- Two outcomes of one request are equal: the numbers and the final output of each of the four calls.
 -- Assumes nothing.
 use Prim.Native.Nat.{ℕ}
 use mathlib.Core.Path.{_≡_}

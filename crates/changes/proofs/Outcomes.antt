@@ -1,4 +1,4 @@
--- What the calls under a plan come to, test by test, where the forms are accepted.
+-- What the calls under a plan give, test by test, where the forms are accepted.
 -- Assumes nothing.
 use Prim.Native.Nat.{ℕ, _+_, _≤_, _<_}
 use native.Mathlib.Omega.{arith}
@@ -29,11 +29,11 @@ use Rattle.heads.proofs.Parts.{position-in, elements-in, image-length, elements
 use Rattle.heads.proofs.WrittenLaws.{image-again}
 use Rattle.outputs.specs.Outputs.{walkList, imageAfter}
 
--- a value that was put to use, where nothing was refused
+-- an answer of code 0 means that there was a value
 used-told : {A B : Type 0} (v : Verdict A) (f : A → B) → Coded v → {r : Answer} → r ≡ told (then v (λ a. done (f a))) → r .code ≡ 0 → (a : A) × (v ≡ done a)
 used-told v f c e z = zero-told v c (ap (λ (r : Answer). r .code) (sym (told-then v f) ∙ sym e) ∙ z)
 
--- how long an accepted image is, over the layout numbers that the code has
+-- how long an accepted image is, from the layout numbers that the code has
 module _ {x y : ℕ} (ns : List ℕ) {A : List ℕ} (a : AcceptedImage (planAs x y ns) A) where
   pub image-sized : length A ≡ imageHead A + widths (kindsOf ns)
   image-sized = image-length a
@@ -62,7 +62,7 @@ module _ (x y : ℕ) (ns : List ℕ) (few : length ns ≤ 1024) where
   unfolding turnUnder walkList turned
   turn-is l s ef et e = rw (ef, et, e, entries-in l, to-in l, from-in l, turn-walk 0 s bound (l .legal .each), l .reads)
 
-  -- its size is the list's
+  -- the list turned back has the list's size
   pub turn-size : {L : List ℕ} → AcceptedList (planAs x y ns) L → {f : List ℕ} (s : List ℕ) {count size : ℕ} → f ≡ entriesIn L → count ≡ entryCountIn L → size ≡ length f
       → Measured Walk.Turn (kindsOf ns) f s count size
   turn-size {L} l s e ec es =
@@ -71,7 +71,7 @@ module _ (x y : ℕ) (ns : List ℕ) (few : length ns ≤ 1024) where
 
   -- ---- joining
 
-  -- its size is measured where no object is a misfit
+  -- the size measured is the join's if no object is a misfit
   pub join-size : {f s : List ℕ} {r : Survey} → Surveyed ns f s r → length ns ≤ r .misfit → Measured Walk.Join (kindsOf ns) f s (r .size .count) (r .size .bytes)
   join-size y h = y .measured h
 

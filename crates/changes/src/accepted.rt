@@ -1,4 +1,4 @@
-// Where the forms are accepted: what is left to test are positions and values, in the paper's order, and the room last.
+// The operations on accepted forms: only positions and values are left to test, in the paper's order, and the room last.
 use heads::elements_of;
 use heads::entries_of;
 use heads::entry_count;
@@ -99,7 +99,7 @@ pub fn write_joined(
     )
 }
 
-// The list turned back. The walk looks at one list only. What it writes is as long as the list, so nothing is measured.
+// The list turned back. It is as long as the list, so nothing is measured; there is no second form, so that slice is empty.
 pub fn write_turned(x: u8, y: u8, kinds: &[u8], list: &[u8], out: &mut [u8]) -> Answer
     requires { ⌜ length (now kinds) ≤ 1024 ⌝ }
     requires { ⌜ AcceptedList (planAs x y (now kinds)) (now list) ⌝ }

@@ -1,4 +1,4 @@
-// The calls under what is known of an accepted table: each form is checked as given, then what is left decides.
+// The calls under an accepted table, known by X, Y and its layout numbers: each form is checked in the order given, then `accepted` decides.
 use super::accepted::write_applied;
 use super::accepted::write_difference;
 use super::accepted::write_joined;
@@ -60,7 +60,7 @@ pub fn join_under(x: u8, y: u8, kinds: &[u8], first: &[u8], second: &[u8], out: 
     write_joined(x, y, kinds, first, second, out)
 }
 
-// The list turned back: there is no second form.
+// The list turned back.
 pub fn turn_under(x: u8, y: u8, kinds: &[u8], list: &[u8], out: &mut [u8]) -> Answer
     requires { ⌜ length (now kinds) ≤ 1024 ⌝ }
     ensures { λ r. ⌜ Leaves (turnUnder (planAs x y (now (kinds .entry))) (now (list .entry))) (now (out .entry)) r (now (out .exit)) ⌝ }

@@ -1,4 +1,4 @@
--- A state handed in as numbers, at each place where the answer is made.
+-- Writing a state handed in as numbers, at each place where the code returns.
 -- Assumes nothing.
 use Prim.Native.Nat.{ℕ, _<_}
 use native.Mathlib.Omega.{arith}
@@ -57,7 +57,7 @@ its-kind j e q =
     let s : Sort.Carried j ≡ Sort.Carried _ = sym (kind-found j) ∙ ap sortNumbered (sym q) ∙ e in
     cc
 
--- a number that is none's
+-- a number that no kind has is not kind j's
 not-its : (n : ℕ) (j : Kind) → sortNumbered n ≡ Sort.Other → eqb n (layoutNo j) ≡ false
 not-its n j e = ne-eqb n (layoutNo j) (λ q. let s : Sort.Carried j ≡ Sort.Other = sym (kind-found j) ∙ ap sortNumbered (sym q) ∙ e in absurd (let z : _≡_ {A = ℕ} 0 1 = cc in omega arith))
 
@@ -77,13 +77,13 @@ no-sort n h = at (sortNumbered n) refl
     at (Sort.Carried k) e = absurd (omega (arith, small e))
     at Sort.Other e = refl
 
--- ---- a state of which something is refused
+-- ---- a state handed in of which something is refused
 
 module _ (i number : ℕ) (f : Refusal) where
   refused-by : Verdict Element → Verdict (List ℕ)
   refused-by v = then v λ was. refusalAt 22 i unless eqb number (layoutNo (kindIn was)) ⨾ refused (foundIn f i)
 
-  -- a reading with no kind's number is refused, and its answer is told
+  -- a reading whose kind is 0 is a refusal, and its answer is the call's
   told-before : (v : Verdict Element) {x : Plain} → x ≡ plainOf (readingOf v) → x .kind ≡ 0 → x .answer ≡ told (refused-by v)
   unfolding told readingOf plainOf shownOf refused-by
   told-before (refused r) e z = ap (λ (x : Plain). x .answer) e
@@ -120,7 +120,7 @@ state-refuses t a i number f = all-refuse _ (readStateCall t a i) (λ s. either 
 -- ---- a state handed in as numbers, by its kind and by what is found of its values
 
 module _ (t a : List ℕ) (i number : ℕ) (fields : List ℕ) (position : ℕ) where
-  -- what comes of each kind that has the number
+  -- two ways to go on that agree for each kind, once 22 is tested, give the same call
   pub of-kinds : (f g : Kind → Verdict (List ℕ)) (v : Verdict Element)
       → ((j : Kind) → (refusalAt 22 i unless eqb number (layoutNo j) ⨾ f j) ≡ (refusalAt 22 i unless eqb number (layoutNo j) ⨾ g j))
       → then v (λ was. refusalAt 22 i unless eqb number (layoutNo (kindIn was)) ⨾ f (kindIn was)) ≡ then v (λ was. refusalAt 22 i unless eqb number (layoutNo (kindIn was)) ⨾ g (kindIn was))
@@ -141,7 +141,7 @@ module _ (t a : List ℕ) (i number : ℕ) (fields : List ℕ) (position : ℕ) 
       named (rowsOf k) (valuesIn k fields) of i ⨾
       writeStateCall t a i (elementOf k (valuesIn k fields)) position
 
-  -- 22 once or twice
+  -- testing 22 twice is testing it once
   twice : (v : Verdict ℕ) (f : ℕ → Verdict (List ℕ)) (b : Bool) → (refusalAt 22 i unless b ⨾ then (refusalAt 22 i unless b ⨾ v) f) ≡ then (refusalAt 22 i unless b ⨾ v) f
   twice v f true = refl
   twice v f false = refl
@@ -150,7 +150,7 @@ module _ (t a : List ℕ) (i number : ℕ) (fields : List ℕ) (position : ℕ) 
   abbrev checked : Element → Kind → Verdict ℕ
   checked e k = refusalAt 22 i unless sameKind (kindIn e) k ⨾ element k (wordOf e) of i ⨾ done (wordOf e)
 
-  -- writing refuses first what reading refuses, then 22
+  -- to test what reading refuses, and 22, before a write changes nothing: the write tests the same first
   after-reading : (e : Element) → then (readStateCall t a i) (λ was. refusalAt 22 i unless sameKind (kindIn e) (kindIn was) ⨾ writeStateCall t a i e position) ≡ writeStateCall t a i e position
   unfolding readStateCall readStateUnder writeStateCall writeStateUnder checkState
   after-reading e = planned (readPlan t)
@@ -186,7 +186,7 @@ module _ (t a : List ℕ) (i number : ℕ) (fields : List ℕ) (position : ℕ) 
       ∙ ap (λ (n : ℕ). then (readStateCall t a i) (λ was. refusalAt 22 i unless eqb n (layoutNo (kindIn was)) ⨾ written)) no
       ∙ after-reading s
 
-  -- over what the code has in hand: the number's sort, the values, what is found of them, the state
+  -- from what the code has: the number's sort, the values, what is found of them, the state
   module _ {s : Sort} (s-is : s ≡ sortNumbered number) where
     pub no-kind : s ≡ Sort.Other → writeFieldsCall t a i number fields position ≡ stateRefused t a i number (codeAt 22 255)
     unfolding writeFieldsCall stateRefused
@@ -209,7 +209,7 @@ module _ (t a : List ℕ) (i number : ℕ) (fields : List ℕ) (position : ℕ) 
       state-writes g e-is =
           ap (λ (e : Element). writeStateCall t a i e position) (e-is ∙ ap (elementOf k) vs-is) ∙ sym (writes (sym s-is ∙ k-is) (found g))
 
--- ---- what is settled
+-- ---- what a refused call leaves
 
 pub refused-settles : {v w : Verdict (List ℕ)} → v ≡ w → Refuses w → (out : List ℕ) {r : Answer} → r ≡ told w → Leaves v out r out
 refused-settles e q out t = leaves-as out (sym e) (rw t (q out))

@@ -1,4 +1,4 @@
--- Fields by computation: those of two states, a refused reading, and fields handed in for the paper's changer signal (fixed T, object 1).
+-- Fields by computation: those of three states and of a refused reading; and fields handed in for the paper's fixed T and for a table of catalogue 3.0.
 -- Assumes nothing.
 use mathlib.Core.Path.{_≡_, refl}
 use mathlib.Core.List.{_∷_, _++_}
@@ -25,7 +25,7 @@ pub handed-out : (plainOf (Reading.State (stateOf Kind.Signal 0x000001B5)) ≡ r
 unfolding table layouts stateOf shownOf plainOf
 handed-out = (refl, refl, refl, refl)
 
--- fixed C; a value with no named case, another kind's number, no such object, and a value without data
+-- fixed C is written; refused are a value with no named case, and before it another kind's number and no such object; and a value without data
 pub taken-in : (writeFieldsCall T A 1 2 (1 ∷ 2 ∷ replicate 30 0) 9 ≡ done C)
     × (writeFieldsCall T A 1 2 (1 ∷ 4 ∷ replicate 30 0) 9 ≡ refused (naming 11 1 1))
     × (writeFieldsCall T A 1 4 (1 ∷ 4 ∷ replicate 30 0) 9 ≡ refused (naming 22 1 255))
@@ -40,8 +40,7 @@ pub other-signal : (writeFieldsCall T3 A3 0 1 (1 ∷ replicate 31 0) 7 ≡ refus
 unfolding table layouts datRule elementCheck stateOf wordOf bytes formBytes isWhole readForm versionGood catalogueGood labelLimit carried kindOf labelGood checkObject readTable planOf imageVersionGood element imageBytes elementsFrom readImage readPlan readStateUnder readStateCall checkState writeStateUnder writeStateCall writeFieldsCall
 other-signal = (refl, refl)
 
--- two faults at once: table, image and 13 before 22, 22 before 11, the lowest value before another, 11 before 12; a value of one bit; a number that
--- no kind has; what stands behind the kind's own fields
+-- two faults at once: the table before the image, the image before 13, the lowest value first, 11 before 12; a value too high for a field of one bit; a number that no kind has; fields after the kind's own, which change nothing
 pub taken-orders : (writeFieldsCall (set T 6 1) (take 3 A) 7 4 (1 ∷ 4 ∷ replicate 30 0) 9 ≡ refused (naming 3 65535 255))
     × (writeFieldsCall T (set A 13 0x09) 7 4 (1 ∷ 4 ∷ replicate 30 0) 9 ≡ refused (naming 10 1 3))
     × (writeFieldsCall T A 0 4 (1 ∷ 0 ∷ 0 ∷ 0 ∷ 0 ∷ 3 ∷ 0 ∷ 0 ∷ 5 ∷ replicate 23 0) 9 ≡ refused (naming 11 0 6))

@@ -1,4 +1,4 @@
--- What the loops over a kind's rows keep: of the one that hands fields out, of the one that takes them in, and of the check of values.
+-- What the three loops over a kind's rows keep: the one that hands fields out, the one that takes them in, and the check of values.
 -- Assumes nothing.
 use Prim.Native.Nat.{ℕ, zero, suc, _+_, _-_, _≤_, _<_}
 use native.Mathlib.Omega.{arith}
@@ -34,7 +34,7 @@ none i = eqb (rowAt i .top) 0
 
 -- ---- handing out
 
--- one row more, at the end
+-- one more row, at the end
 shown-on : (t b : Bool) (xs : List ℕ) (v x : ℕ)
     → cond t (cond b xs (xs ++ (x ∷ []))) (v ∷ cond b xs (xs ++ (x ∷ []))) ≡ cond b (cond t xs (v ∷ xs)) (cond t xs (v ∷ xs) ++ (x ∷ []))
 shown-on true true xs v x = refl
@@ -98,7 +98,7 @@ module _ {first count : ℕ} {vs fields : List ℕ} {n k : ℕ} (s : Showing fir
             ∙ ap (filled 32) (sym e);
       }
 
-  -- a row with a field or without
+  -- one turn: the row has a field, or is reserved
   pub shows-on : {top : ℕ} → top ≡ rowAt (first + k) .top → {P Q : Type 0} → (P → top ≡ 0 → ⊥) → (Q → top ≡ 0) → {fields′ : List ℕ} {n′ : ℕ}
       → (P × (fields′ ≡ set fields n (getD vs k 0)) × (n′ ≡ n + 1)) ⊎ (Q × (fields′ ≡ fields) × (n′ ≡ n)) → Showing first count vs fields′ n′ (k + 1)
   shows-on t p q (inl (x, e, f)) = rw (e, f) (shows (λ z. p x (t ∙ z)))
@@ -112,7 +112,7 @@ shown-all {first} {count} {vs} {fields} {n} {k} s h =
     let so-far = s .so-far ∙ ap (λ (j : ℕ). filled 32 (shown (rowsFrom first j) vs)) e in
     λ i. record { count = size i; fields = so-far i }
 
--- of a state
+-- the fields of a state
 pub state-shown : (e : Element) {k : Kind} {l : Layout} {vs : List ℕ} {s : Shown} {a : Answer} → k ≡ kindIn e → l ≡ layoutOf k → vs ≡ padded (elementValues e)
     → s ≡ shownIn (layoutRows l) vs → a ≡ unnamed 0 0 → _≡_ {A = Plain} (record { answer = a; kind = l .number; count = s .count; fields = s .fields }) (shownOf e)
 unfolding shownOf
@@ -130,7 +130,7 @@ after-one : (fs : List ℕ) (j : ℕ) → getD (drop 1 fs) j 0 ≡ getD fs (suc 
 after-one [] j = refl
 after-one (f ∷ fs) j = refl
 
--- the value of a row behind others
+-- the value of a row with j fields before it: 0 if it is reserved
 abbrev taken : Bool → List ℕ → ℕ → ℕ
 taken b fs j = cond b 0 (getD fs j 0)
 
@@ -165,7 +165,7 @@ own-snoc (suc n) i =
     ∙ own-on (none i) (none (suc i + n)) u
     ∙ ap (λ (j : ℕ). cond (none j) (cond (none i) u (suc u)) (suc (cond (none i) u (suc u)))) (suc-add i n ∙ sym (add-suc i n))
 
--- a zero more is one of those behind
+-- one more zero is one of the padding
 pad-zero : (xs : List ℕ) → length xs < 24 → padded xs ≡ padded (xs ++ (0 ∷ []))
 pad-zero xs h =
     let m = 24 - suc (length xs) in
@@ -225,7 +225,7 @@ module _ {first count : ℕ} {fs values : List ℕ} {n k : ℕ} (s : Taking firs
             ∙ ap padded (sym (next-spread false e));
       }
 
-  -- a row with a field or without
+  -- one turn: the row has a field, or is reserved
   pub takes-on : {top : ℕ} → top ≡ rowAt (first + k) .top → {P Q : Type 0} → (P → top ≡ 0 → ⊥) → (Q → top ≡ 0) → {values′ : List ℕ} {n′ : ℕ}
       → (P × (values′ ≡ set values k (getD fs n 0)) × (n′ ≡ n + 1)) ⊎ (Q × (values′ ≡ values) × (n′ ≡ n)) → Taking first count fs values′ n′ (k + 1)
   takes-on t p q (inl (x, e, f)) = rw (e, f) (takes (λ z. p x (t ∙ z)))

@@ -1,4 +1,4 @@
--- What a refusal names where a state is handed in as numbers: as where it is written, and 11 the lowest bit of a field that is not reserved.
+-- What a refusal names where a state is handed in as numbers: the same as where a state is written; and 11 names the lowest bit of a field that is not reserved.
 -- Assumes nothing.
 use Prim.Native.Nat.{ℕ}
 use native.Mathlib.Omega.{arith}
@@ -21,7 +21,7 @@ use Rattle.history.proofs.CodeLaws.{Coded, coded}
 use Rattle.fields.specs.Fields.{spread, valuesIn, named}
 use Rattle.fields.specs.Calls.{writeFieldsCall}
 
--- the first value with no named case, among the last rows of a kind
+-- what a value with no named case, among the last rows rs of a kind, is refused with
 value-refuses : (k : Kind) (below rs : List Row) (fields zeros : List ℕ) {x : Refusal} → rowsOf k ≡ below ++ rs → named rs (spread rs fields ++ zeros) ≡ Finding.Refused x
     → Refuses k (x .code) (x .bit)
 value-refuses k below [] fields zeros all e = absurd (let z : _≡_ {A = ℕ} 0 1 = cc in omega arith)
@@ -41,7 +41,7 @@ value-refuses k below (r ∷ rs) fields zeros {x} all e =
     at true q skip later e = skip (rw (le-leb 0 (r .top) (omega arith)) at e)
     at false q skip later e = here (leb (getD fields 0 0) (r .top)) (eqb-false _ _ q) _ later e
 
--- .. as where a state is written
+-- what any refusal of the call names
 module _ (T A : List ℕ) (i number : ℕ) (fields : List ℕ) (position : ℕ) where
   pub write-fields-named : Named (NamesIn T (TheNumber i)) (writeFieldsCall T A i number fields position)
   unfolding writeFieldsCall

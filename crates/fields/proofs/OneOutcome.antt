@@ -1,4 +1,4 @@
--- Two outcomes of one request are equal: a state read as numbers; the numbers of a write and the output at the end.
+-- Two outcomes of one request are equal: a state read as numbers; a write's numbers and final output.
 -- Assumes nothing.
 use Prim.Native.Nat.{ℕ}
 use mathlib.Core.Path.{_≡_}

@@ -1,4 +1,4 @@
--- Fields that a caller makes itself: as many of them count as the kind has that are not reserved, and they are read as they were written.
+-- Fields that a caller makes itself: only as many count as the kind has that are not reserved, and these are read as they were written.
 -- Assumes nothing.
 use Prim.Native.Nat.{ℕ, zero, suc, _^_, _≤_, _<_}
 use native.Mathlib.Omega.{arith}
@@ -53,7 +53,7 @@ spread-length (suc n) i fs = at (eqb (rowAt i .top) 0) _ _ (spread-length n (suc
     at true xs ys e f = ap suc e
     at false xs ys e f = ap suc f
 
--- what is behind a kind's own fields is not looked at
+-- what comes after a kind's own fields is not looked at
 spread-own : (rs : List Row) (fs : List ℕ) → spread rs (take (own rs) fs) ≡ spread rs fs
 spread-own [] fs = refl
 spread-own (r ∷ rs) fs = at (eqb (r .top) 0) refl fs (spread-own rs)
@@ -63,7 +63,7 @@ spread-own (r ∷ rs) fs = at (eqb (r .top) 0) refl fs (spread-own rs)
     at false e [] h = rw e refl
     at false e (f ∷ fs) h = rw e (ap (λ (vs : List ℕ). f ∷ vs) (h fs))
 
--- .. and they are handed out again
+-- fields that were taken in are handed out again
 shown-spread : (rs : List Row) (fs xs : List ℕ) → own rs ≤ length fs → shown rs (spread rs fs ++ xs) ≡ take (own rs) fs
 shown-spread [] fs xs h = refl
 shown-spread (r ∷ rs) fs xs h = at (eqb (r .top) 0) refl fs h (λ gs. shown-spread rs gs xs)
@@ -74,7 +74,7 @@ shown-spread (r ∷ rs) fs xs h = at (eqb (r .top) 0) refl fs h (λ gs. shown-sp
     at false e [] h g = let n : suc (own rs) ≤ 0 = rw e at h in absurd (omega arith)
     at false e (f ∷ fs) h g = let n : suc (own rs) ≤ suc (length fs) = rw e at h in rw (e, e) (ap (λ (vs : List ℕ). f ∷ vs) (g fs (omega arith)))
 
--- values of which none is refused are such as their rows admit
+-- values that are not refused are values that their rows admit
 named-within : (n i : ℕ) (vs xs : List ℕ) → length vs ≡ n → isAccepted (named (rowsFrom i n) (vs ++ xs)) ≡ true → Within (rowsFrom i n) vs
 named-within zero i [] xs h e = tt
 named-within zero i (v ∷ vs) xs h e = absurd (omega arith)
@@ -88,7 +88,7 @@ named-within (suc n) i (v ∷ vs) xs h e = at (leb v (rowAt i .top)) refl (named
 
 -- ---- the calls
 
--- what is behind the own fields of the kind with the number changes nothing, in refusals too
+-- what comes after the own fields of the number's kind changes nothing, refusals included
 pub behind-unseen : (T A : List ℕ) (i number : ℕ) (F G : List ℕ) (position : ℕ) → ((k : Kind) → number ≡ layoutNo k → take (own (rowsOf k)) F ≡ take (own (rowsOf k)) G)
     → writeFieldsCall T A i number F position ≡ writeFieldsCall T A i number G position
 unfolding writeFieldsCall
@@ -103,11 +103,11 @@ behind-unseen T A i number F G position h = of-kinds T A i number F position (fr
         ap (λ (vs : List ℕ). named (rowsOf k) (padded vs) of i ⨾ writeStateCall T A i (elementOf k (padded vs)) position) same
     at k false q = refl
 
--- a reading with the kind's own fields of F, zeros behind them
+-- a reading with the kind's own fields of F, then zeros
 abbrev pub ownOf : ℕ → Kind → List ℕ → Plain
 ownOf number k F = record { answer = unnamed 0 0; kind = number; count = own (rowsOf k); fields = filled 32 (take (own (rowsOf k)) F) }
 
--- a state that is made of fields with named cases hands them out again
+-- a state made of fields with named cases gives them back
 shown-made : (k : Kind) (F : List ℕ) → length F ≡ 32 → isAccepted (named (rowsOf k) (valuesIn k F)) ≡ true → shownOf (elementOf k (valuesIn k F)) ≡ ownOf (layoutNo k) k F
 unfolding shownOf
 shown-made k F long ok =
@@ -121,7 +121,7 @@ shown-made k F long ok =
     ∙ ap (λ (us : List ℕ). record { answer = unnamed 0 0; kind = layoutNo k; count = length us; fields = filled 32 us }) fields
     ∙ ap (λ (n : ℕ). record { answer = unnamed 0 0; kind = layoutNo k; count = n; fields = filled 32 (take (own rs) F) }) (length-take-le (own rs) F few)
 
--- fields that were written are read, under their number: the kind's own, whatever is behind them
+-- fields that were written are read back, under their number: the kind's own, whatever comes after them
 pub made-read : (T A : List ℕ) (i number : ℕ) (F : List ℕ) (position : ℕ) {B : List ℕ} → Bytes A → length F ≡ 32 → position < 2 ^ 32
     → writeFieldsCall T A i number F position ≡ done B
     → (k : Kind) × (number ≡ layoutNo k) × (plainOf (readingOf (readStateCall T B i)) ≡ ownOf number k F)

@@ -1,4 +1,4 @@
--- Fields that are handed out and handed in again are the same state: of every state, and over the calls that read and write it.
+-- Fields handed out and in again are the same state: for every state, and over the calls that read and write it.
 -- Assumes nothing.
 use Prim.Native.Nat.{ℕ}
 use native.Mathlib.Omega.{arith}
@@ -26,9 +26,9 @@ use Rattle.fields.specs.Fields.{shown, fieldsOf, shownOf, plainOf, sprea
 use Rattle.fields.specs.Calls.{writeFieldsCall}
 use Rattle.fields.proofs.CallLaws.{writes}
 
--- ---- values that their rows admit, with anything behind them
+-- ---- values that their rows admit, followed by anything
 
--- handed out and in again they are the same: a reserved row admits only 0
+-- handed out and in again, they are the same: a reserved row admits only 0
 spread-shown : (rs : List Row) (vs xs ys : List ℕ) → Within rs vs → spread rs (shown rs (vs ++ xs) ++ ys) ≡ vs
 spread-shown [] [] xs ys h = refl
 spread-shown [] (v ∷ vs) xs ys h = absurd h
@@ -51,11 +51,11 @@ module _ (e : Element) where
   values-back : valuesIn (kindIn e) (fieldsOf e .fields) ≡ padded (elementValues e)
   values-back = ap padded (spread-shown (rowsOf (kindIn e)) (elementValues e) _ _ (state-within e))
 
-  -- its fields, handed in, are the state
+  -- its fields, handed in, make the state
   pub handed-back : elementOf (kindIn e) (valuesIn (kindIn e) (fieldsOf e .fields)) ≡ e
   handed-back = ap (elementOf (kindIn e)) values-back ∙ element-back e
 
-  -- .. and none is refused
+  -- none of them is refused
   pub handed-named : named (rowsOf (kindIn e)) (valuesIn (kindIn e) (fieldsOf e .fields)) ≡ Finding.Accepted
   handed-named = ap (named (rowsOf (kindIn e))) values-back ∙ all-named (rowsOf (kindIn e)) (elementValues e) _ (state-within e)
 
@@ -70,11 +70,11 @@ module _ (T A : List ℕ) (i : ℕ) where
       ∙ ap (λ (s : Element). writeStateCall T A i s position) (handed-back e)
 
   module _ {x : Plain} {e : Element} (is : x ≡ plainOf (readingOf (readStateCall T A i))) (q : readStateCall T A i ≡ done e) where
-    -- what was read as fields, handed in for the same object: the state that was read is written
+    -- fields that were read, handed in for the same object, write the state that was read
     pub read-handed-in : (position : ℕ) → writeFieldsCall T A i (x .kind) (x .fields) position ≡ writeStateCall T A i e position
     unfolding readingOf plainOf
     read-handed-in position = rw (is, q) (handed-in e position)
 
-    -- .. at the image's own position it gives the image
+    -- at the image's own position that gives the image
     pub image-again : {a : Image} → Bytes A → imageCall T A ≡ done a → writeFieldsCall T A i (x .kind) (x .fields) (a .position) ≡ done A
     image-again {a} h ea = read-handed-in (a .position) ∙ read-then-write T A i h ea q

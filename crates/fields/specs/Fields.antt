@@ -1,4 +1,4 @@
--- A state's fields as numbers: the values that are not reserved, from bit 0 up, in the first of 32 places, zeros behind them.
+-- A state's fields as numbers: the values of fields that are not reserved, from bit 0 up, in the first of 32 places, then zeros.
 use Prim.Native.Nat.{ℕ}
 use mathlib.Core.Bool.{cond}
 use mathlib.Core.List.{List, [], _∷_}
@@ -17,7 +17,7 @@ use Rattle.fields.specs.declared.walk.Shown.{Shown}
 
 -- ---- handed out
 
--- of the values of all rows, those of the rows that are not reserved
+-- the values of the rows that are not reserved, from those of all rows
 abbrev pub shown : List Row → List ℕ → List ℕ
 shown [] vs = []
 shown (r ∷ rs) [] = []
@@ -29,7 +29,7 @@ shownIn rs vs = record { count = length (shown rs vs); fields = filled 32 (shown
 abbrev pub fieldsOf : Element → Shown
 fieldsOf e = shownIn (rowsOf (kindIn e)) (padded (elementValues e))
 
--- success writes no bytes
+-- a state as numbers; success writes no bytes
 unfoldable pub shownOf : Element → Plain
 shownOf e = record { answer = unnamed 0 0; kind = layoutNo (kindIn e); count = fieldsOf e .count; fields = fieldsOf e .fields }
 
@@ -40,7 +40,7 @@ plainOf (Reading.Refused answer) = record { answer = answer; kind = 0; count = 0
 
 -- ---- handed in
 
--- the values of all rows: 0 for those that are reserved
+-- the values of all rows, from the fields handed in: 0 for reserved rows
 abbrev pub spread : List Row → List ℕ → List ℕ
 spread [] fields = []
 spread (r ∷ rs) fields = cond (eqb (r .top) 0) (0 ∷ spread rs fields) (getD fields 0 0 ∷ spread rs (drop 1 fields))

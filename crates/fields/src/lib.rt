@@ -1,5 +1,5 @@
-// A state as plain numbers: its kind's number, and the values of its fields that are not reserved, from bit 0 up, zeros behind them. It is
-// for callers that can't hold a state; they read and write through `panel`, and nothing else is checked here but the numbers.
+// A state as plain numbers: its kind's number, and the values of its fields that are not reserved, from bit 0 up, then zeros. It is for
+// callers that can't hold a state, such as C. It reads and writes through `panel`, and checks only the numbers itself.
 mod walk;
 
 use history::Answer;
@@ -25,7 +25,7 @@ ghost use Rattle.panel.specs.Readings.{readingOf};
 ghost use Rattle.fields.specs.Fields.{shownOf, plainOf, valuesIn, named};
 ghost use Rattle.fields.specs.Calls.{writeFieldsCall, stateRefused};
 
-// What reading gives: the answer; of a state its kind's number, how many fields it has and their values; else zeros.
+// What reading gives: the answer, and for a state its kind's number, how many fields are not reserved and their values; zeros for a refusal.
 pub struct Plain {
     pub answer: Answer,
     pub kind: u32,
@@ -33,14 +33,14 @@ pub struct Plain {
     pub fields: [u32; 32],
 }
 
-// The state of an object in an image, as numbers.
+// Reads the state of an object in an image, as numbers.
 pub fn read_fields(table: &[u8], image: &[u8], object: u16) -> Plain
     ensures { λ r. ⌜ r ≡ plainOf (readingOf (readStateCall (now (table .entry)) (now (image .entry)) object)) ⌝ }
 {
     plain_of(read_state(table, image, object))
 }
 
-// The image with an object's new state, handed in as numbers, and the new position, at the front of the output.
+// Writes the image with an object's new state, handed in as numbers, and the new position to the front of the output.
 pub fn write_fields(
     table: &[u8],
     image: &[u8],
@@ -101,7 +101,7 @@ fn shown_plain(element: Element) -> Plain
     }
 }
 
-// The values of all of a kind's rows, 0 for those that are reserved.
+// The values of all of a kind's rows, from the fields handed in: 0 for reserved rows.
 fn values_in(fields: [u32; 32], kind: Kind) -> [u32; 24]
     ensures { λ r. ⌜ r ≡ valuesIn kind fields ⌝ }
 {
@@ -111,7 +111,7 @@ fn values_in(fields: [u32; 32], kind: Kind) -> [u32; 24]
     take_rows(fields, first, count)
 }
 
-// The first value that has no named case.
+// Refuses the first value that has no named case, with 11.
 fn check_values(values: [u32; 24], kind: Kind) -> Finding
     ensures { λ r. ⌜ r ≡ named (rowsOf kind) values ⌝ }
 {
@@ -131,7 +131,7 @@ fn sort_of(number: u32) -> Sort
     kinds::sort_numbered(number as u8)
 }
 
-// A state of which something is refused: what comes before its values comes first.
+// The answer where something is refused of a state handed in: table, image, 13 and 22 come before it.
 fn refuse_state(table: &[u8], image: &[u8], object: u16, number: u32, found: Refusal) -> Answer
     ensures { λ r. ⌜ r ≡ told (stateRefused (now (table .entry)) (now (image .entry)) object number found) ⌝ }
 {

@@ -1,4 +1,4 @@
-// The rows first, first + 1, .. walked with their values.
+// The loops over a layout's rows, `count` of them from row `first` on, and their values.
 use rows::Cells;
 use rows::Finding;
 use rows::Refusal;
@@ -8,7 +8,7 @@ ghost use Rattle.rows.specs.Table.{table, rowTotal, rowAt, rowsFrom};
 ghost use Rattle.rows.specs.Fields.{padded};
 ghost use Rattle.fields.specs.Fields.{shownIn, spread, named};
 
-// Values that are not reserved, and how many they are.
+// The values of rows that are not reserved, and how many there are.
 pub struct Shown {
     pub count: usize,
     pub fields: [u32; 32],
@@ -33,7 +33,7 @@ pub fn show_rows(values: [u32; 24], first: usize, count: usize) -> Shown
     Shown { count: n, fields }
 }
 
-// The values of all rows, 0 for those that are reserved.
+// The values of all rows, from the fields handed in: 0 for reserved rows.
 pub fn take_rows(fields: [u32; 32], first: usize, count: usize) -> [u32; 24]
     requires { ⌜ (first + count ≤ rowTotal) × (count ≤ 24) ⌝ }
     ensures { λ r. ⌜ r ≡ padded (spread (rowsFrom first count) fields) ⌝ }
@@ -52,7 +52,7 @@ pub fn take_rows(fields: [u32; 32], first: usize, count: usize) -> [u32; 24]
     values
 }
 
-// The first value that has no named case.
+// Refuses the first value that has no named case: 11, with the field's lowest bit.
 pub fn check_rows(values: [u32; 24], first: usize, count: usize) -> Finding
     requires { ⌜ (first + count ≤ rowTotal) × (count ≤ 24) ⌝ }
     ensures { λ r. ⌜ r ≡ named (rowsFrom first count) values ⌝ }
@@ -69,7 +69,7 @@ pub fn check_rows(values: [u32; 24], first: usize, count: usize) -> Finding
     Finding::Accepted
 }
 
-// The highest value that a row admits (0: it is reserved), and its lowest bit.
+// The highest value that a row admits; 0 if the row is reserved.
 fn highest(rows: &Cells, row: usize) -> u32
     requires { ⌜ (now rows ≡ table) × (row < rowTotal) ⌝ }
     ensures { λ r. ⌜ r ≡ rowAt row .top ⌝ }
@@ -77,6 +77,7 @@ fn highest(rows: &Cells, row: usize) -> u32
     rows::cell(rows, 4 * row + 3) as u32
 }
 
+// The row's lowest bit.
 fn lowest(rows: &Cells, row: usize) -> u8
     requires { ⌜ (now rows ≡ table) × (row < rowTotal) ⌝ }
     ensures { λ r. ⌜ r ≡ rowAt row .low ⌝ }

@@ -1,4 +1,4 @@
--- An answer of code 0 to an image or a list is an acceptance, since no refusal has code 0.
+-- An image or a list whose answer has code 0 is accepted, since no refusal has code 0.
 -- Assumes nothing.
 use Prim.Native.Nat.{ℕ}
 use mathlib.Core.Path.{_≡_, sym, ap, _∙_}
@@ -15,7 +15,7 @@ use Rattle.history.proofs.ImageLaws.{image-is}
 use Rattle.history.proofs.ListLaws.{list-is}
 use Rattle.history.proofs.CodeLaws.{image-coded, list-coded, zero-told}
 
--- h is what is known of the bytes of a slice
+-- h: each number in b fits in a byte, as in any slice
 module _ (p : Plan) (b : List ℕ) (h : (i : ℕ) → Fits w8 (getD b i 0)) {r : Answer} (good : r .code ≡ 0) where
   pub image-accepted : r ≡ told (readImage p b) → AcceptedImage p b
   image-accepted e =

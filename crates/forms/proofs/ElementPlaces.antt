@@ -1,5 +1,4 @@
--- An object's element among an image's: where it stands, what it reads as, and that the bytes with it laid over are those of the words
--- with its own in it.
+-- An object's element among an image's elements: where it is, which number is read there, and that laying a new one over it gives the elements with that one changed.
 -- Assumes nothing.
 use Prim.Native.Nat.{ℕ, zero, suc, _+_, _-_, _≤_, _<_}
 use native.Mathlib.Omega.{arith}
@@ -38,7 +37,7 @@ over-long at bs l h = simp (length-append, length-take, length-drop) (omega arit
 -- ---- the elements
 
 module _ (w : ℕ) where
-  -- all elements, with a new one for object i
+  -- the bytes of all elements, with a new one laid over object i's
   pub words-over : {ks : List Kind} {ws : List ℕ} → Every admits ks ws → (i : ℕ) → i < length ks
       → over (widths (take i ks)) (bytes (widthOf (kindAt ks i)) w) (wordsBytes ks ws) ≡ wordsBytes ks (set ws i w)
   words-over nil i l = absurd (omega arith)
@@ -49,7 +48,7 @@ module _ (w : ℕ) where
       (ap (λ (n : ℕ). n + widths (take i ks)) (sym (length-bytes (widthOf k) u)))
       ∙ ap (λ (l : List ℕ). bytes (widthOf k) u ++ l) (words-over r i (omega arith))
 
-  -- .. are as many bytes
+  -- a new element leaves the elements as long as they were
   pub words-long : {ks : List Kind} {ws : List ℕ} → Every admits ks ws → (i : ℕ) → length (wordsBytes ks (set ws i w)) ≡ length (wordsBytes ks ws)
   words-long nil i = refl
   words-long (and {a = k} {b = u} {xs = ks} {ys = ws} h r) zero =
@@ -68,7 +67,7 @@ words-number (and {a = k} {b = w} {xs = ks} {ys = ws} h r) (suc i) l =
     (sym (drop-drop (widths (take i ks)) (widthOf k) (wordsBytes (k ∷ ks) (w ∷ ws))) ∙ ap (drop (widths (take i ks))) (drop-bytes (widthOf k) w (wordsBytes ks ws)))
     ∙ words-number r i (omega arith)
 
--- .. and ends within the elements
+-- it ends within the elements
 pub place-within : (ks : List Kind) (i : ℕ) → i < length ks → placeIn ks i + widthOf (kindAt ks i) ≤ widths ks
 place-within [] i l = absurd (omega arith)
 place-within (k ∷ ks) zero l = omega arith
@@ -87,16 +86,16 @@ place-sum ns i sum e =
     let all : i - 0 ≡ i = omega arith in
     e ∙ ap (λ (n : ℕ). widths (map kindNumbered (take n ns))) all ∙ ap widths (map-take kindNumbered i ns)
 
--- ---- what the code has in hand of an object: its place, its kind, its width
+-- ---- from what the code knows of an object: its place, its kind, its width
 
 module _ {ns es : List ℕ} {i : ℕ} (s : Sized ns es i) {at : ℕ} (at-is : at ≡ placeIn (kindsOf ns) i) {kind : Kind} (kind-is : kind ≡ kindAt (kindsOf ns) i) {w : ℕ} (w-is : w ≡ widthOf kind) where
   pub own-width : w ≡ widthOf (kindAt (kindsOf ns) i)
   own-width = w-is ∙ ap widthOf kind-is
 
-  -- the element is inside
+  -- the element ends within the bytes
   pub element-inside : at + w ≤ length es
   element-inside = omega (arith, own-width, at-is, s .long, place-within (kindsOf ns) i (omega (arith, s .below, length-kinds ns)))
 
-  -- .. where its number is read
+  -- the number read there is the element's
   pub number-at : number (take w (drop at es)) ≡ number (take (widthOf (kindAt (kindsOf ns) i)) (drop (placeIn (kindsOf ns) i) es))
   number-at = ap₂ (λ (n m : ℕ). number (take n (drop m es))) own-width at-is

@@ -1,4 +1,4 @@
--- What is found of an element decides, or leaves it to the rest.
+-- A refused element decides; an accepted one leaves it to the rest of the check.
 -- Assumes nothing.
 use mathlib.Core.Path.{_≡_, ap}
 use Prim.Native.Nat.{ℕ}

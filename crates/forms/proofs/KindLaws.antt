@@ -1,4 +1,4 @@
--- The kinds of layout numbers, and their widths, object by object.
+-- The kinds that layout numbers stand for, and their widths, object by object.
 -- Assumes nothing.
 use Prim.Native.Nat.{ℕ, suc, _+_, _*_, _≤_, _<_}
 use native.Mathlib.Omega.{arith}
@@ -32,7 +32,7 @@ module _ (ns : List ℕ) (i : ℕ) where
   pub kinds-end : length ns ≤ i → drop i (kindsOf ns) ≡ []
   kinds-end h = drop-of-length-le (kindsOf ns) {i = i} (omega (arith, length-kinds ns))
 
--- ---- the sum of the widths: of the objects before i, and from i on
+-- ---- the widths of the objects before i, summed, and of those from i on
 pub record Summed (ns : List ℕ) (i sum : ℕ) : Type 0 where
   pub inside : i ≤ length ns
   pub small : sum ≤ 4 * i

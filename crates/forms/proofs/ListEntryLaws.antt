@@ -1,4 +1,4 @@
--- The check of a list's entry, part by part, in each case that the code tells apart; and the walk over the entries, a turn at a time.
+-- The check of a list's entry, part by part, in each case that the code tells apart; and the loop over the entries, one turn at a time.
 -- Assumes nothing.
 use Prim.Native.Nat.{ℕ, zero, suc, _+_, _-_, _≤_, _<_}
 use native.Mathlib.Omega.{arith}
@@ -32,7 +32,7 @@ use Rattle.forms.proofs.Found.{is-bad, is-good}
 use Rattle.tables.proofs.AnswerLaws.{told-refused, told-done, told-then}
 use Rattle.forms.proofs.KindLaws.{length-kinds}
 
--- ---- what a part hands on
+-- ---- what a part returns, and what that says of the check
 
 pub no-object : {v : Verdict ℕ} {x : Refused} {a : Answer} → a ≡ numbers x 0 → v ≡ refused x → Numbered.Refused a ≡ numbered v
 unfolding numbered
@@ -123,7 +123,7 @@ number-refused : (ks : List Kind) (low : ℕ) (b : List ℕ) {x : Refused} → r
 unfolding checkEntry
 number-refused ks low b e = rw e
 
--- what is left of the check once the number is read: 14, what is found of the elements, 15
+-- the rest of the check once the number is read: 14, the elements, 15
 later : ℕ → ℕ → Verdict Entry → Verdict Entry
 later low i v =
     refusalAt 14 i unless leb low i ⨾
@@ -181,7 +181,7 @@ module _ (ns : List ℕ) (low : ℕ) (s : List ℕ) (at : ℕ) {n : Numbered} (n
 
 -- ---- the entries
 
--- n entries are left, of objects from low on, from at on
+-- n entries are left, from `at` on, of objects not below low
 pub record Left (ns : List ℕ) (count : ℕ) (b : List ℕ) (n low at : ℕ) : Type 0 where
   pub inside : at ≤ length b
   pub same : told (readEntries (kindsOf ns) 0 count b) ≡ told (readEntries (kindsOf ns) low n (drop at b))
@@ -189,7 +189,7 @@ pub record Left (ns : List ℕ) (count : ℕ) (b : List ℕ) (n low at : ℕ) : 
 pub begin : (ns : List ℕ) (count : ℕ) (b : List ℕ) → Left ns count b count 0 0
 begin ns count b = record { inside = omega arith; same = refl }
 
--- what the other entries make of an entry: nothing that an answer tells
+-- after an accepted entry: the others are read, and its change is put before theirs, which no answer tells
 after : List Kind → ℕ → ℕ → Entry → Verdict (List Change)
 after t low n e = then (readEntries t (suc (e .object)) n (e .rest)) (λ cs. done (replicate (e .object - low) keep ++ (swap (e .old) (e .new) ∷ cs)))
 
@@ -198,7 +198,7 @@ unfolding after
 one-entry t low zero b h = absurd (omega arith)
 one-entry t low (suc n) b h = simp sub-one
 
--- no entry is left, and so many bytes
+-- no entry is left, and m bytes are
 over : List Kind → ℕ → ℕ → Verdict (List Change)
 over t low m = refusal 8 unless eqb m 0 ⨾ done (replicate (length t - low) keep)
 

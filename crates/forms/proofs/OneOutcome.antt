@@ -1,4 +1,4 @@
--- Two outcomes of one request are equal: the checks of an image and of a list.
+-- Two outcomes of one request are equal: for the checks of an image and of a list.
 -- Assumes nothing.
 use Prim.Native.Nat.{ℕ}
 use mathlib.Core.Path.{_≡_}

@@ -1,4 +1,4 @@
--- Calls that begin with the table: a refused table's answer is the whole answer, an accepted one hands on its plan.
+-- Calls that read the table first: a refused table's answer is the whole answer; under an accepted one the rest of the call depends on its plan.
 -- Assumes nothing.
 use Prim.Native.Nat.{ℕ, _≤_}
 use native.Mathlib.Omega.{arith}
@@ -34,7 +34,7 @@ module _ {b : List ℕ} {r : Outline} (o : Outlined b r) where
     table-leaves s out = told-leaves _ out (table-refused s) bad
 
   module _ (good : r .answer .code ≡ 0) where
-    -- ns are the layout numbers that are handed on
+    -- ns are the layout numbers that the code passes on
     module _ {ns : List ℕ} (e : ns ≡ take (r .count) (r .kinds)) where
       pub under-plan : {A : Type 0} {v : Verdict A} {next : Plan → Verdict A} → Starts b v next → next (planAs (r .x) (r .y) ns) ≡ v
       under-plan {next = next} s = sym (s .is ∙ rw e (ap (λ (v : Verdict Plan). then v next) (o .plan good)))

@@ -1,4 +1,4 @@
--- The walk over an image's elements, a turn at a time: the answer for the whole is the answer for what is left.
+-- The loop over an image's elements, one turn at a time: the answer for the whole is the answer for what is left.
 -- Assumes nothing.
 use Prim.Native.Nat.{ℕ, suc, _+_, _≤_, _<_}
 use native.Mathlib.Omega.{arith}
@@ -20,7 +20,7 @@ use Rattle.forms.proofs.Found.{is-bad, is-good}
 use Rattle.tables.proofs.AnswerLaws.{told-refused, told-done, told-then}
 use Rattle.forms.proofs.KindLaws.{kinds-next, kinds-end}
 
--- the elements left at object i, from at on
+-- at object i the elements from `at` on are left
 pub record Left (ns b : List ℕ) (i at : ℕ) : Type 0 where
   pub inside : i ≤ length ns
   pub room : at + widths (drop i (kindsOf ns)) ≡ length b
@@ -33,7 +33,7 @@ pub ended : {ns b : List ℕ} {i at : ℕ} → Left ns b i at → length ns ≤ 
 ended {ns} {b} {i} {at} l h =
     told-done (readWords i [] (drop at b)) refl refl ∙ sym (l .same ∙ ap (λ (ks : List Kind). told (readWords i ks (drop at b))) (kinds-end ns i h))
 
--- over what the code has in hand: the kind, what is found, and the width
+-- from what the code has: the kind, what is found, and the width
 module _ {ns b : List ℕ} {i at : ℕ} (l : Left ns b i at) (h : i < length ns) {kind : Kind} (kind-is : kind ≡ kindAt (kindsOf ns) i) where
   pub has-room : at + widthOf kind ≤ length b
   has-room = omega (arith, l .room, ap widths (kinds-next ns i h), ap widthOf kind-is)

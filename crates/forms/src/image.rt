@@ -20,7 +20,7 @@ ghost use Rattle.history.specs.Image.{imageVersionGood, widths, readWords, read
 ghost use Rattle.history.specs.Calls.{imageCall};
 ghost use Rattle.tables.specs.Outlines.{kindsOf, planAs};
 
-// An image, under its table.
+// Checks an image under its table.
 pub fn check_image(table: &[u8], image: &[u8]) -> Answer
     ensures { λ r. ⌜ r ≡ told (imageCall (now (table .entry)) (now (image .entry))) ⌝ }
 {
@@ -35,7 +35,7 @@ pub fn check_image(table: &[u8], image: &[u8]) -> Answer
     check_image_under(x, y, first_kinds(&known.kinds, count), image)
 }
 
-// Under an accepted table's X, Y and layout numbers, so that a call with several forms reads the table once.
+// Takes X, Y and the layout numbers of an accepted table, so that a call with several forms reads the table once.
 pub fn check_image_under(x: u8, y: u8, kinds: &[u8], image: &[u8]) -> Answer
     requires { ⌜ length (now kinds) ≤ 1024 ⌝ }
     ensures { λ r. ⌜ r ≡ told (readImage (planAs x y (now (kinds .entry))) (now (image .entry))) ⌝ }
@@ -55,14 +55,14 @@ pub fn check_image_under(x: u8, y: u8, kinds: &[u8], image: &[u8]) -> Answer
     check_words(kinds, elements_of(image))
 }
 
-// The version byte is one that is read.
+// Which versions of an image are read: only 1.
 fn is_version(version: u8) -> bool
     ensures { λ r. ⌜ r ≡ imageVersionGood version ⌝ }
 {
     version == 1
 }
 
-// The elements of all objects, in table order.
+// Checks all objects' elements, in table order.
 fn check_words(kinds: &[u8], words: &[u8]) -> Answer
     requires { ⌜ (length (now words) ≡ widths (kindsOf (now kinds))) × (length (now kinds) ≤ 1024) ⌝ }
     ensures { λ r. ⌜ r ≡ told (readWords 0 (kindsOf (now (kinds .entry))) (now (words .entry))) ⌝ }

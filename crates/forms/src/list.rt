@@ -22,7 +22,7 @@ ghost use Rattle.history.specs.Calls.{listCall};
 ghost use Rattle.tables.specs.Outlines.{kindsOf, planAs};
 ghost use Rattle.forms.specs.ListEntries.{numbered, passed};
 
-// A change list, under its table.
+// Checks a change list under its table.
 pub fn check_list(table: &[u8], list: &[u8]) -> Answer
     ensures { λ r. ⌜ r ≡ told (listCall (now (table .entry)) (now (list .entry))) ⌝ }
 {
@@ -37,7 +37,7 @@ pub fn check_list(table: &[u8], list: &[u8]) -> Answer
     check_list_under(x, y, first_kinds(&known.kinds, count), list)
 }
 
-// Under an accepted table's X, Y and layout numbers, so that a call with several forms reads the table once.
+// Takes X, Y and the layout numbers of an accepted table, so that a call with several forms reads the table once.
 pub fn check_list_under(x: u8, y: u8, kinds: &[u8], list: &[u8]) -> Answer
     requires { ⌜ length (now kinds) ≤ 1024 ⌝ }
     ensures { λ r. ⌜ r ≡ told (readList (planAs x y (now (kinds .entry))) (now (list .entry))) ⌝ }
@@ -54,7 +54,7 @@ pub fn check_list_under(x: u8, y: u8, kinds: &[u8], list: &[u8]) -> Answer
     check_entries(kinds, entry_count(list), entries_of(list))
 }
 
-// As many entries as are counted fill the bytes.
+// Checks `count` entries, which must fill the bytes exactly.
 fn check_entries(kinds: &[u8], count: usize, entries: &[u8]) -> Answer
     requires { ⌜ length (now kinds) ≤ 1024 ⌝ }
     ensures { λ r. ⌜ r ≡ told (readEntries (kindsOf (now (kinds .entry))) 0 count (now (entries .entry))) ⌝ }
@@ -86,13 +86,13 @@ fn check_entries(kinds: &[u8], count: usize, entries: &[u8]) -> Answer
     accepted()
 }
 
-// What reading an entry's number gives: an answer that refuses, or the object.
+// What `check_number` gives: an answer that refuses, or the object.
 pub enum Numbered {
     Refused(Answer),
     Object(u16),
 }
 
-// What checking an entry gives: an answer that refuses, or the entry's object, its elements and the place after it.
+// What `check_entry` and `check_elements` give: an answer that refuses, or the entry's object, its elements and the place after it.
 pub enum Passed {
     Refused(Answer),
     Entry {
@@ -103,7 +103,7 @@ pub enum Passed {
     },
 }
 
-// The entry at a place, of an object from low on: its number, 14, its elements, 15.
+// Checks the entry at a place, whose object must not be below `low`: its number, 14, its elements, 15.
 fn check_entry(kinds: &[u8], low: usize, entries: &[u8], at: usize) -> Passed
     requires { ⌜ (at ≤ length (now entries)) × (length (now kinds) ≤ 1024) ⌝ }
     ensures { λ r. ⌜ r ≡ passed (at + 2) (checkEntry (kindsOf (now (kinds .entry))) low (drop at (now (entries .entry)))) ⌝ }
@@ -132,7 +132,7 @@ fn check_entry(kinds: &[u8], low: usize, entries: &[u8], at: usize) -> Passed
     }
 }
 
-// The number at a place, of an object of the table.
+// Checks the object number at a place: 8, 13.
 fn check_number(kinds: &[u8], entries: &[u8], at: usize) -> Numbered
     requires { ⌜ at ≤ length (now entries) ⌝ }
     ensures { λ r. ⌜ r ≡ numbered (readNumber (kindsOf (now (kinds .entry))) (drop at (now (entries .entry)))) ⌝ }
@@ -148,7 +148,7 @@ fn check_number(kinds: &[u8], entries: &[u8], at: usize) -> Numbered
     Numbered::Object(number as u16)
 }
 
-// The old and the new element from a place on: each is good.
+// Checks the old and the new element from a place on: 8, the old, the new.
 fn check_elements(kind: Kind, object: u16, entries: &[u8], at: usize) -> Passed
     requires { ⌜ at ≤ length (now entries) ⌝ }
     ensures { λ r. ⌜ r ≡ passed at (readElements object kind (drop at (now (entries .entry)))) ⌝ }

@@ -1,4 +1,4 @@
-// The objects' kinds, from their layout numbers.
+// Kinds, widths and places of objects, from their layout numbers.
 use kinds::Kind;
 ghost use mathlib.Core.Path.{_≡_};
 ghost use Prim.Native.Nat.{_≤_, _<_};
@@ -15,7 +15,7 @@ pub fn kind_at(kinds: &[u8], i: usize) -> Kind
     elements::kind_numbered(kinds[i])
 }
 
-// All objects' width in bytes.
+// How many bytes the elements of all objects take.
 pub fn widths_of(kinds: &[u8]) -> usize
     requires { ⌜ length (now kinds) ≤ 1024 ⌝ }
     ensures { λ r. ⌜ (r ≡ widths (kindsOf (now (kinds .entry)))) × (r ≤ 4096) ⌝ }
@@ -30,7 +30,7 @@ pub fn widths_of(kinds: &[u8]) -> usize
     sum
 }
 
-// The bytes of the elements before an object's own.
+// How many bytes the elements before an object's take.
 pub fn place_of(kinds: &[u8], object: usize) -> usize
     requires { ⌜ (object ≤ length (now kinds)) × (length (now kinds) ≤ 1024) ⌝ }
     ensures { λ r. ⌜ (r ≡ placeIn (kindsOf (now (kinds .entry))) object) × (r ≤ 4096) ⌝ }

@@ -1,5 +1,4 @@
--- An image that is changed in place: what was put into its elements and its position is the image after that; and a copy of it at the
--- front of an output.
+-- An image changed in place: with its elements and its position put, its bytes are those of the changed image; and the same of a copy at the front of an output.
 -- Assumes nothing.
 use Prim.Native.Nat.{ℕ, _+_, _-_, _^_, _≤_, _<_}
 use native.Mathlib.Omega.{arith}
@@ -32,7 +31,7 @@ use Rattle.outputs.specs.Outputs.{imageAfter, imageWith}
 
 -- ---- the parts
 
--- the end of a list, put as a whole
+-- ys put over everything from n on
 put-end : (n : ℕ) (l ys : List ℕ) → n ≤ length l → putMid n (length l - n) l ys ≡ take n l ++ ys
 put-end n l ys h =
     let m : n + (length l - n) ≡ length l = omega arith in
@@ -55,7 +54,7 @@ module _ (ns b : List ℕ) (h : length b ≡ imageHead b + widths (kindsOf ns)) 
   unfolding elementsIn
   elements-long = length-drop (imageHead b) b ∙ omega arith
 
-  -- an image of at most 1,024 objects is short
+  -- the length of an image of at most 1,024 objects fits in 32 bits
   pub few-bytes : length ns ≤ 1024 → length b < 2 ^ 32
   few-bytes few = omega (arith, head-few b, length-kinds ns, widths-few (kindsOf ns))
 
@@ -106,7 +105,7 @@ module _ (ns b : List ℕ) (h : length b ≡ imageHead b + widths (kindsOf ns)) 
         unfolding imageWith
         put-done f = f ∙ ap (λ (m : List ℕ). withElements m to (elementsIn m)) with-element ∙ renewed-with b _ inside to
 
-  -- ---- how long they are
+  -- ---- how long the changed images are
 
   pub length-after : (to : ℕ) (entries : List ℕ) → length (imageAfter (kindsOf ns) to entries b) ≡ length b
   unfolding imageAfter
@@ -132,7 +131,7 @@ module _ (A out : List ℕ) (room : length A ≤ length out) {cs : List ℕ} (c 
       → length (midOf 0 (length A - 0) (putMid 0 (length A - 0) out cs)) ≡ imageHead (midOf 0 (length A - 0) (putMid 0 (length A - 0) out cs)) + widths ks
   copied-sized ks h = rw copy-is h
 
-  -- .. and what it was changed to
+  -- what is left is the changed image
   pub copied-leaves : (f : List ℕ → List ℕ) → length (f A) ≡ length A → {r : Answer} → r ≡ unnamed 0 (length A)
       → {bs : List ℕ} → bs ≡ f (midOf 0 (length A - 0) (putMid 0 (length A - 0) out cs))
       → Leaves (done (f A)) out r (putMid 0 (length A - 0) (putMid 0 (length A - 0) out cs) bs)

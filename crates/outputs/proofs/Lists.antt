@@ -1,4 +1,4 @@
--- A list at the front of the output: its head and its entries, and how long it is.
+-- A list at the front of the output: its head, its entries and its length.
 -- Assumes nothing.
 use Prim.Native.Nat.{ℕ, _+_, _-_, _≤_, _<_}
 use native.Mathlib.Omega.{arith}
@@ -27,7 +27,7 @@ module _ (walk : Walk) (x y : ℕ) (ns : List ℕ) (from to : ℕ) (f s : List �
   length-list = ap length list-is ∙ length-append (listHead x y from to count size) _ ∙ ap₂ _+_ (length-head x y from to count size ∙ sym p) (sym (m .bytes))
 
   module _ (out : List ℕ) where
-    -- without room
+    -- there is no room
     pub short-answer : {r : Answer} → length out < place + size → r ≡ unnamed 21 (place + size) → r ≡ settled (done (walkList walk x y ns from to f s)) out .answer
     short-answer room e = short-leaves _ out length-list room e .0
 

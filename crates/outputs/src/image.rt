@@ -1,5 +1,5 @@
-// An image that is changed in place: a list's entries are taken into it, or one element is put, and then it is finished. Written to the
-// front of an output it is a copy that is changed in the same way.
+// An image changed in place: a list's entries are taken into it, or one element is put; then its position is set. To write the changed
+// image to the front of an output, it is copied there first and the copy is changed.
 use forms::kind_at;
 use forms::place_of;
 use history::Answer;
@@ -15,7 +15,7 @@ ghost use Rattle.heads.specs.Written.{withElements};
 ghost use Rattle.tables.specs.Outlines.{kindsOf};
 ghost use Rattle.outputs.specs.Outputs.{imageAfter, imageWith};
 
-// The image after the entries, at the position `to`, at the front of the output.
+// Writes the image after the entries, at position `to`, to the front of the output.
 pub fn write_image(kinds: &[u8], image: &[u8], to: u32, entries: &[u8], out: &mut [u8]) -> Answer
     requires { ⌜ length (now kinds) ≤ 1024 ⌝ }
     requires { ⌜ length (now image) ≡ imageHead (now image) + widths (kindsOf (now kinds)) ⌝ }
@@ -30,7 +30,7 @@ pub fn write_image(kinds: &[u8], image: &[u8], to: u32, entries: &[u8], out: &mu
     written(size as u32)
 }
 
-// The image with an object's element, at the position `to`, at the front of the output.
+// Writes the image with a new element for one object, at position `to`, to the front of the output.
 pub fn write_element(
     kinds: &[u8],
     image: &[u8],
@@ -77,7 +77,7 @@ pub fn put_element(image: &mut [u8], kinds: &[u8], to: u32, object: usize, word:
     finish(image, to);
 }
 
-// What each change of an image ends with: its position.
+// Sets the position, as every change of an image does last.
 fn finish(image: &mut [u8], to: u32)
     requires { ⌜ imageHead (now image) ≤ length (now image) ⌝ }
     ensures { λ _. ⌜ now (image .exit) ≡ withElements (now (image .entry)) to (elementsIn (now (image .entry))) ⌝ }

@@ -11,7 +11,7 @@ ghost use Rattle.tables.specs.Outlines.{kindsOf};
 ghost use Rattle.walks.specs.Walks.{Asked, Measured};
 ghost use Rattle.outputs.specs.Outputs.{walkList};
 
-// The list of a walk's changes, of which the size is known.
+// Writes the list of a walk's changes; the caller has measured it.
 pub fn write_list(
     walk: Walk,
     x: u8,

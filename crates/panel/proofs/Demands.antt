@@ -1,6 +1,4 @@
--- Demand 2 over the calls' own outcomes: T and A are any bytes, `out` any output. A write that answers 0 leaves an image at the front
--- of the output of which the same state is read, and of every other object what was read before; what was read, written at the
--- image's own position, gives the image's bytes.
+-- Demand 2 over what the calls give: T and A are any bytes, `out` any output. A write that answers 0 leaves an image at the front of the output. From it the state written is read, and for every other object what was read before. What was read, written at the image's position, gives the image's bytes.
 -- Assumes nothing.
 use Prim.Native.Nat.{ℕ, _^_, _≤_, _<_}
 use native.Mathlib.Omega.{arith}
@@ -29,13 +27,13 @@ use Rattle.panel.specs.Readings.{readingOf}
 abbrev pub Read : List ℕ → List ℕ → ℕ → Reading → Type 0
 Read T A i s = s ≡ readingOf (readStateCall T A i)
 
--- a reading that is a state
+-- a reading that is a state comes from a call that gives it
 state-read : (v : Verdict Element) (e : Element) → Reading.State e ≡ readingOf v → v ≡ done e
 unfolding readingOf
 state-read (refused r) e q = absurd (let z : _≡_ {A = ℕ} 0 1 = cc in omega arith)
 state-read (done s) e q = cc
 
--- .. was read from an accepted image, whose position stands in its bytes
+-- the image it was read from is accepted, and its position is the one in its bytes
 read-image : (T A : List ℕ) (i : ℕ) (e : Element) → Bytes A → readStateCall T A i ≡ done e
     → (a : Image) × (imageCall T A ≡ done a) × (a .position ≡ positionIn A)
 unfolding readStateCall readStateUnder imageCall
@@ -54,21 +52,21 @@ module _ (T A : List ℕ) (i : ℕ) (e : Element) (position : ℕ) {out : List �
     written : Delivered (writeStateCall T A i e position) out r m
     written = delivered (write-call-coded T A i e position) w ok
 
-    -- the rest stays
+    -- the output after the image stays as it was
     pub rest-stays : drop (r .length) m ≡ drop (r .length) out
     rest-stays = written .rest
 
     module _ (h : Bytes A) (small : position < 2 ^ 32) where
-      -- a state written is read
+      -- the state written is read
       pub read-after-write : {s : Reading} → Read T (take (r .length) m) i s → s ≡ Reading.State e
       unfolding readingOf
       read-after-write q = q ∙ ap readingOf (write-then-read T A i e position h small (written .bytes))
 
-      -- every other object is read as before, refusals too
+      -- every other object is read as before, refusals included
       pub others-after-write : (j : ℕ) → (j ≡ i → ⊥) → {s u : Reading} → Read T (take (r .length) m) j s → Read T A j u → s ≡ u
       others-after-write j n q p = q ∙ ap readingOf (others-stay T A i e position h small (written .bytes) j n) ∙ sym p
 
--- what was read, written at the image's own position where there is room, gives the image's bytes
+-- what was read, written at the image's position where there is room, gives the image's bytes
 pub write-after-read : (T A : List ℕ) (i : ℕ) (e : Element) (out : List ℕ) {r : Answer} {m : List ℕ} → Bytes A → Read T A i (Reading.State e) → length A ≤ length out
     → Ran (writeStateCall T A i e (positionIn A)) out r m → (r ≡ unnamed 0 (length A)) × (m ≡ A ++ drop (length A) out)
 unfolding settled

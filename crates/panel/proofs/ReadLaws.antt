@@ -1,5 +1,4 @@
--- Reading a state, at each place where its answer is made: a refusal's numbers are those of the call, and the state that the code
--- reads from an element's place is the call's.
+-- Reading a state, at each place where the code returns: a refusal's numbers are those of the call, and the state that the code reads at the element's place is the call's.
 -- Assumes nothing.
 use Prim.Native.Nat.{ℕ, zero, suc, _≤_, _<_}
 use native.Mathlib.Omega.{arith}
@@ -36,11 +35,11 @@ use Rattle.forms.proofs.UnderPlan.{Starts, table-refused, under-plan}
 use Rattle.panel.specs.declared.read.Reading.{Reading}
 use Rattle.panel.specs.Readings.{readingOf, answerIn}
 
--- an answer that refuses is the answer of all that comes after
+-- an answer that refuses is the answer, whatever comes after
 pub first-told : {A B : Type 0} (v : Verdict A) (f : A → Verdict B) {r : Answer} → r ≡ told v → (r .code ≡ 0 → ⊥) → r ≡ told (then v f)
 first-told v f e bad = e ∙ told-first v f (λ z. bad (ap (λ (a : Answer). a .code) e ∙ z))
 
--- .. and it is the reading
+-- a refusal is the reading
 refusal-read : {r : Answer} (v : Verdict Element) → r ≡ told v → (r .code ≡ 0 → ⊥) → Reading.Refused r ≡ readingOf v
 unfolding told readingOf
 refusal-read (refused r) e n = ap Reading.Refused e
@@ -78,7 +77,7 @@ module _ (x y : ℕ) (ns A : List ℕ) (i : ℕ) {r : Answer} (r-is : r ≡ told
   unfolding readStateUnder
   image-read bad = refusal-read _ (first-told (readImage (planAs x y ns) A) _ r-is bad) bad
 
-  -- each byte is one, as the code knows it of a slice
+  -- h: each number in A fits in a byte, as in any slice
   module _ (h : (n : ℕ) → Fits w8 (getD A n 0)) (good : r .code ≡ 0) where
     pub taken : AcceptedImage (planAs x y ns) A
     taken = image-accepted (planAs x y ns) A h good r-is
@@ -90,7 +89,7 @@ module _ (x y : ℕ) (ns A : List ℕ) (i : ℕ) {r : Answer} (r-is : r ≡ told
     unfolding readStateUnder
     under = rw (taken .reads)
 
-    -- 13
+    -- 13: there is no such object
     pub other-object : length ns ≤ i → {s : Answer} → s ≡ numbers (naming 13 i 255) 0 → Reading.Refused s ≡ readingOf (readStateUnder (planAs x y ns) A i)
     unfolding readingOf
     other-object l {s} e =

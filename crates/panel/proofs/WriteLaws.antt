@@ -1,5 +1,4 @@
--- Writing a state, at each place where its answer is made: a refusal's numbers are those of the call, and success writes the image
--- with the object's word and the position.
+-- Writing a state, at each place where the code returns: a refusal's numbers are those of the call, and success writes the image with the object's word and the position.
 -- Assumes nothing.
 use Prim.Native.Nat.{ℕ, _+_, _≤_, _<_}
 use native.Mathlib.Omega.{arith}
@@ -43,7 +42,7 @@ use Rattle.panel.proofs.ReadLaws.{first-told, taken}
 -- ---- the state handed in
 
 module _ (ns : List ℕ) (i : ℕ) (e : Element) where
-  -- 13
+  -- 13: there is no such object
   pub no-object : length ns ≤ i → {s : Answer} → s ≡ numbers (naming 13 i 255) 0 → s ≡ told (checkState (kindsOf ns) i e)
   unfolding checkState told
   no-object l q = q ∙ rw (le-ltb i (length (kindsOf ns)) (omega (arith, length-kinds ns)))
@@ -55,7 +54,7 @@ module _ (ns : List ℕ) (i : ℕ) (e : Element) where
     alike : {t : Bool} → sameKind own kind ≡ t → sameKind (kindIn e) (kindAt (kindsOf ns) i) ≡ t
     alike h = ap₂ sameKind (sym own-is) (sym kind-is) ∙ h
 
-    -- 22
+    -- 22: the state is of another kind
     pub other-kind : {t : Bool} → t ≡ sameKind own kind → not t ≡ true → {s : Answer} → s ≡ numbers (naming 22 i 255) 0 → s ≡ told (checkState (kindsOf ns) i e)
     unfolding checkState told
     other-kind t-is h q = q ∙ rw (inside, alike (no t-is h))
@@ -67,7 +66,7 @@ module _ (ns : List ℕ) (i : ℕ) (e : Element) where
           ap (λ (n : Finding). told (n of i ⨾ done (wordOf e))) (found-is ∙ ap₂ elementCheck kind-is word-is)
           ∙ sym (rw (inside, alike (yes t-is h)))
 
-      -- 12
+      -- 12: the element's check refuses the state's word
       pub bad-state : {f : Refusal} → found ≡ Finding.Refused f → {s : Answer} → s ≡ numbers (foundIn f i) 0 → s ≡ told (checkState (kindsOf ns) i e)
       unfolding told
       bad-state {f} n q = q ∙ sym (ap (λ (n : Finding). told (n of i ⨾ done (wordOf e))) n) ∙ by-finding
@@ -89,7 +88,7 @@ module _ (T A : List ℕ) (i : ℕ) (e : Element) (position : ℕ) where
 
 -- ---- the image
 
--- the state's answer is of an object of the table
+-- a state that is accepted is of an object of the table
 module _ (ns : List ℕ) (i : ℕ) (e : Element) {s : Answer} (s-is : s ≡ told (checkState (kindsOf ns) i e)) (fine : s .code ≡ 0) where
   state : (w : ℕ) × (checkState (kindsOf ns) i e ≡ done w)
   state = zero-told (checkState (kindsOf ns) i e) (state-coded (kindsOf ns) i e) (ap (λ (a : Answer). a .code) (sym s-is) ∙ fine)

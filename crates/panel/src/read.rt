@@ -1,4 +1,4 @@
-// Reading an object's state: table, image, 13.
+// Reading an object's state: the table's refusals, the image's, 13.
 use super::place::word_at;
 use forms::check_image_under;
 use forms::kind_at;
@@ -16,13 +16,13 @@ ghost use Rattle.history.specs.Calls.{readStateUnder, readStateCall};
 ghost use Rattle.tables.specs.Outlines.{planAs};
 ghost use Rattle.panel.specs.Readings.{readingOf, answerIn};
 
-// What reading a state gives: the state, or a refusal's numbers and no state.
+// What reading a state gives: the state, or the refusal's numbers.
 pub enum Reading {
     State(Element),
     Refused(Answer),
 }
 
-// A reading's four numbers.
+// A reading's four numbers: code 0 where there is a state.
 pub fn answer_of(reading: Reading) -> Answer
     ensures { λ r. ⌜ r ≡ answerIn reading ⌝ }
 {
@@ -47,7 +47,7 @@ pub fn read_state(table: &[u8], image: &[u8], object: u16) -> Reading
     read_under(x, y, first_kinds(&known.kinds, count), image, object)
 }
 
-// Under an accepted table's X, Y and layout numbers: the image, then the object's number.
+// Takes X, Y and the layout numbers of an accepted table: checks the image, then the object's number.
 fn read_under(x: u8, y: u8, kinds: &[u8], image: &[u8], object: u16) -> Reading
     requires { ⌜ length (now kinds) ≤ 1024 ⌝ }
     ensures { λ r. ⌜ r ≡ readingOf (readStateUnder (planAs x y (now (kinds .entry))) (now (image .entry)) object) ⌝ }

@@ -1,4 +1,4 @@
-// Writing an object's state, with the image's new position: table, image, 13, 22, 12, 21.
+// Writing an object's state, with the image's new position: the table's refusals, the image's, 13, 22, 12, 21.
 use forms::check_image_under;
 use forms::kind_at;
 use history::Answer;
@@ -18,7 +18,7 @@ ghost use Rattle.history.specs.Verdict.{told, Leaves};
 ghost use Rattle.history.specs.Calls.{checkState, writeStateUnder, writeStateCall};
 ghost use Rattle.tables.specs.Outlines.{kindsOf, planAs};
 
-// The image with an object's new state and the new position, at the front of the output.
+// Writes the image with an object's new state and the new position to the front of the output.
 pub fn write_state(
     table: &[u8],
     image: &[u8],
@@ -49,7 +49,7 @@ pub fn write_state(
     )
 }
 
-// Under an accepted table's X, Y and layout numbers: the image, then the state, then the room.
+// Takes X, Y and the layout numbers of an accepted table: checks the image, then the state, then the room.
 fn write_under(
     x: u8,
     y: u8,
@@ -75,7 +75,7 @@ fn write_under(
     write_element(kinds, image, position, object as usize, word, out)
 }
 
-// A state handed in for an object: 13, 22, 12.
+// Checks a state handed in for an object: 13, 22, 12.
 fn check_state(kinds: &[u8], object: u16, state: Element) -> Answer
     ensures { λ r. ⌜ r ≡ told (checkState (kindsOf (now (kinds .entry))) object state) ⌝ }
 {

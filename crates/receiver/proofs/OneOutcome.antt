@@ -1,4 +1,4 @@
--- Two outcomes of one receive call are equal: the numbers, the output at the end and the standing at the end, lent or by value.
+-- Two outcomes of one receive call are equal: the numbers, the final output and the final standing, lent or by value.
 -- Assumes nothing.
 use Prim.Native.Nat.{ℕ}
 use mathlib.Core.Path.{_≡_}

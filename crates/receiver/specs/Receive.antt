@@ -8,7 +8,7 @@ use Rattle.history.specs.Calls.{applyCall}
 use Rattle.history.specs.Standing.{receiveCall}
 use Rattle.receiver.specs.declared.Taken.{Taken}
 
--- the answer and the output do not go by the standing (proofs/ReceiveLaws)
+-- the answer and the output do not depend on the standing (proofs/ReceiveLaws)
 unfoldable pub answerOf : List ℕ → List ℕ → List ℕ → List ℕ → Answer
 answerOf T A L out = settled (applyCall T A L) out .answer
 

@@ -1,12 +1,12 @@
-// The receiver: a list is applied, and the answer counted in a standing of four tallies that is lent to the call and updated there.
-// The work is done by value (`received`); `receive` is thin over it. It uses changes and keeps nothing of its own.
+// The receiver: applies a list, and counts the answer in a standing of four tallies that is lent to the call and updated there. The
+// work is done by value in `received`; `receive` only stores the standing that it gives. It uses changes and keeps nothing itself.
 use history::Answer;
 use history::Standing;
 ghost use mathlib.Core.Path.{_≡_};
 ghost use Rattle.history.specs.Standing.{fresh, oneMore, counted};
 ghost use Rattle.receiver.specs.Receive.{takenOf, answerOf, outputOf, standingOf};
 
-// What receiving by value gives.
+// What `received` gives: the answer of the application, and the standing that counts it.
 pub struct Taken {
     pub answer: Answer,
     pub standing: Standing,
@@ -24,7 +24,7 @@ pub fn fresh() -> Standing
     }
 }
 
-// The list is applied to the image, and the lent standing counts the answer.
+// Applies the list to the image, and counts the answer in the lent standing.
 pub fn receive(
     table: &[u8],
     image: &[u8],
@@ -41,7 +41,7 @@ pub fn receive(
     r.answer
 }
 
-// The same by value.
+// As `receive`, with the standing taken and given back by value.
 pub fn received(
     table: &[u8],
     image: &[u8],
@@ -58,7 +58,7 @@ pub fn received(
     }
 }
 
-// One more on the tally of an answer's code: 0 applied, 16 late, 17 gap, any other other.
+// Adds one to the tally of the answer's code: 0 is applied, 16 late, 17 gap, any other is other.
 fn count(standing: Standing, code: u8) -> Standing
     ensures { λ r. ⌜ r ≡ counted code standing ⌝ }
 {
@@ -94,7 +94,7 @@ fn count(standing: Standing, code: u8) -> Standing
     }
 }
 
-// A full tally stays.
+// Adds one; a full tally stays full.
 fn one_more(tally: u32) -> u32
     ensures { λ r. ⌜ r ≡ oneMore tally ⌝ }
 {

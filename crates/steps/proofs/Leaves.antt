@@ -1,4 +1,4 @@
--- What the functions of one object answer: an entry and an element read at a cursor, and the step made of them.
+-- What the functions for one object return: an entry or an element read at a cursor, and the step made of them.
 -- Assumes nothing.
 use Prim.Native.Nat.{ℕ, _+_, _-_, _≤_, _<_}
 use native.Mathlib.Omega.{arith}
@@ -20,7 +20,7 @@ use Rattle.steps.specs.Steps.{span, entryBytes, names, countIf, sizeIf, 
 
 -- ---- an entry at a cursor
 
--- entries of which the first names another object say nothing of this one
+-- entries whose first names another object say nothing of this one
 pub says-nothing : (b : List ℕ) (i w : ℕ) {n : ℕ} → n ≡ number (take 2 b) → (n ≡ i → ⊥) → changeAt i w b ≡ keep
 unfolding changeAt names
 says-nothing b i w {n} e g = rw (← e, ne-eqb n i g, never (leb (2 + (w + w)) (length b)))
@@ -29,7 +29,7 @@ says-nothing b i w {n} e g = rw (← e, ne-eqb n i g, never (leb (2 + (w + w)) (
     never true = refl
     never false = refl
 
--- nor do entries that are cut
+-- nor do entries whose first is cut off
 pub says-cut : (b : List ℕ) (i w : ℕ) → length b < 2 + (w + w) → changeAt i w b ≡ keep
 unfolding changeAt names
 says-cut b i w h = rw (lt-leb (2 + (w + w)) (length b) h)
@@ -60,14 +60,14 @@ span-room : (i w : ℕ) (b : List ℕ) → span w (changeAt i w b) ≤ length b
 unfolding changeAt
 span-room i w b = omega (arith, size-room i w b, span-said (names i w b) w b)
 
--- the entry is inside, where the cursor stands at p
+-- the entry at cursor p ends within the bytes
 pub said-inside : (l : List ℕ) (p i w : ℕ) {c : Change} {m : ℕ} → p ≤ length l → c ≡ changeAt i w (drop p l) → m ≡ span w c → p + m ≤ length l
 said-inside l p i w h ec em = omega (arith, span-room i w (drop p l), length-drop p l, em ∙ ap (span w) ec)
 
 pub names-inside : (l : List ℕ) (p i w : ℕ) {t : Bool} → p ≤ length l → t ≡ names i w (drop p l) → p + sizeIf t w ≤ length l
 names-inside l p i w h e = omega (arith, size-room i w (drop p l), length-drop p l, ap (λ (u : Bool). sizeIf u w) e)
 
--- where it is known to be there: its old element, its new one, and both
+-- where the entry is known to be there: its old element, its new one, and both
 module _ {t : Bool} (e : t ≡ true) (w p n : ℕ) (h : p + sizeIf t w ≤ n) where
   whole : p + (2 + (w + w)) ≤ n
   whole = rw e at h
@@ -103,7 +103,7 @@ pub said-at : (i w : ℕ) (b : List ℕ) {t : Bool} {c : Change} → t ≡ names
 unfolding changeAt
 said-at i w b e f = f ∙ ap (λ (u : Bool). saidIf u w b) e
 
--- there is an entry where the elements differ
+-- there is an entry exactly where the elements differ
 pub differ-swap : (old new : ℕ) → not (eqb old new) ≡ isSwap (differ old new)
 differ-swap old new = differs (eqb old new)
   where
@@ -159,7 +159,7 @@ module _ {one other : Bool} (e : one ≡ true) (g : other ≡ true) (w p q : ℕ
 
 -- ---- the step
 
--- each walk's step, from what its functions ensure
+-- each walk's step, from what the functions it calls ensure
 module _ {i w : ℕ} {f : List ℕ} {p : ℕ} {s : List ℕ} {q : ℕ} where
   pub difference-step : p + w ≤ length f → q + w ≤ length s → {a b : ℕ} {c : Change}
       → a ≡ number (take w (drop p f)) → b ≡ number (take w (drop q s)) → c ≡ differ a b
@@ -184,7 +184,7 @@ module _ {i w : ℕ} {f : List ℕ} {p : ℕ} {s : List ℕ} {q : ℕ} where
   unfolding stepOf
   turn-step h k ec ed em = record { is = rw (ed, em, ec); near = said-inside f p i w h ec em; far = omega arith }
 
--- an entry counts by whether there is one
+-- count and size of a change's entry, from whether there is one
 pub count-swap : (c : Change) → countIf (isSwap c) ≡ entries (c ∷ [])
 count-swap keep = refl
 count-swap (swap old new) = refl
@@ -193,7 +193,7 @@ pub size-swap : (w : ℕ) (c : Change) → sizeIf (isSwap c) w ≡ span w c
 size-swap w keep = refl
 size-swap w (swap old new) = refl
 
--- ---- an element and an entry as they are written
+-- ---- an element and an entry written
 
 pub renewed-put : (part : List ℕ) {ys : List ℕ} {old new : ℕ} {c : Change} → c ≡ swap old new → ys ≡ bytes (length part) new → ys ≡ renewed c part
 renewed-put part e p = p ∙ sym (ap (λ (d : Change). renewed d part) e)
@@ -211,7 +211,7 @@ entry-done i w old new =
     let n : 2 + w + w - (2 + w) ≡ w = omega arith in
     rw (m, n) (simp append-assoc)
 
--- the number, the old and the new element, each where the one before it ends
+-- the number, the old and the new element are put end to end
 module _ (part : List ℕ) (w : ℕ) {old new : ℕ} {c : Change} (l : length part ≡ span w c) (e : c ≡ swap old new) where
   long : length part ≡ 2 + (w + w)
   long = l ∙ ap (span w) e
@@ -219,7 +219,7 @@ module _ (part : List ℕ) (w : ℕ) {old new : ℕ} {c : Change} (l : length pa
   pub number-inside : 2 ≤ length part
   number-inside = omega (arith, long)
 
-  -- the part keeps its length
+  -- puts keep the part's length
   pub old-inside : (b : List ℕ) → length b ≡ length part → 2 + w ≤ length b
   old-inside b p = omega (arith, long)
 
@@ -242,7 +242,7 @@ module _ (l : List ℕ) (at i n : ℕ) (h : i ≤ n) where
   pub silent-cut : length l - at < 2 → Silent i n n (drop at l)
   silent-cut c = record { on = h; within = omega arith; says = λ k w _ _. says-cut (drop at l) k w (rw length-drop (omega arith)) }
 
-  -- the next entry names an object that is passed, one past the end, or one between
+  -- the next entry names an object already passed, one past the end, or one between
   module _ {m : ℕ} (e : m ≡ number (take 2 (drop at l))) where
     pub silent-past : m < i → Silent i n n (drop at l)
     silent-past c = record { on = h; within = omega arith; says = λ k w a b. says-nothing (drop at l) k w e (λ q. omega arith) }

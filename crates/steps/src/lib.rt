@@ -1,5 +1,5 @@
-// What is done at one object, for the four operations on change lists: its change is found, and written; and which object is next. A
-// difference compares the elements of two images; a join, the entries of two lists; turning back takes the entry of one list;
+// One object's part in the four operations on change lists: its change is found and written, and the next object is found. A
+// difference compares the elements of two images; a join, the entries of two lists. Turning back takes the entry of one list;
 // application, an entry and an element. It takes any bytes, refuses nothing and knows no form's head.
 use forms::kind_at;
 use history::Change;
@@ -12,7 +12,7 @@ ghost use Rattle.history.specs.Changes.{differ, fits, meets, joined, back};
 ghost use Rattle.tables.specs.Outlines.{kindsOf};
 ghost use Rattle.steps.specs.Steps.{span, entryBytes, names, countIf, sizeIf, saidIf, changeAt, isSwap, Silent, Idle, renewed};
 
-// What is walked for: the operations that make a list.
+// The operations that make a list; each is a walk over the objects.
 pub enum Walk {
     Difference,
     Join,
@@ -21,7 +21,7 @@ pub enum Walk {
 
 // ---- which object is next
 
-// The next object from the given one on that one of two lists names, or the end.
+// The first object, from the given one on, that either list names next, or the end.
 pub fn next(
     object: usize,
     end: usize,
@@ -37,7 +37,7 @@ pub fn next(
     named(second, far, object, one)
 }
 
-// The object that the entries from a place on name first, or the end if it is not between the given object and the end.
+// The object that the entries from a place on name first; the end, if that object is not between the given one and the end.
 pub fn named(entries: &[u8], at: usize, object: usize, end: usize) -> usize
     requires { ⌜ (at ≤ length (now entries)) × (object ≤ end) ⌝ }
     ensures { λ r. ⌜ Silent object r end (drop at (now (entries .entry))) ⌝ }
@@ -68,7 +68,7 @@ pub fn names(entries: &[u8], at: usize, object: usize, width: usize) -> bool
     octets::get_at(entries, at, 2) as usize == object
 }
 
-// One where there is an entry.
+// 1 if there is an entry, else 0.
 pub fn count_if(named: bool) -> usize
     ensures { λ r. ⌜ (r ≡ countIf named) × (r ≤ 1) ⌝ }
 {
@@ -78,7 +78,7 @@ pub fn count_if(named: bool) -> usize
     1
 }
 
-// How many bytes it takes.
+// How many bytes the entry takes: its number and two elements, or none.
 pub fn size_if(named: bool, width: usize) -> usize
     requires { ⌜ width ≤ 4 ⌝ }
     ensures { λ r. ⌜ (r ≡ sizeIf named width) × (r ≤ 10) ⌝ }
@@ -89,7 +89,7 @@ pub fn size_if(named: bool, width: usize) -> usize
     2 + (width + width)
 }
 
-// What it says.
+// What the entry says: its old and its new element, or that the object keeps its own.
 fn said_if(named: bool, entries: &[u8], at: usize, width: usize) -> Change
     requires { ⌜ (at + sizeIf named width ≤ length (now entries)) × (width ≤ 4) ⌝ }
     ensures { λ r. ⌜ r ≡ saidIf named width (drop at (now (entries .entry))) ⌝ }
@@ -105,7 +105,7 @@ fn said_if(named: bool, entries: &[u8], at: usize, width: usize) -> Change
     )
 }
 
-// What the entries from a place on say of the object.
+// What the entries from a place on say of the object; only the first is looked at.
 pub fn change_at(entries: &[u8], at: usize, object: usize, width: usize) -> Change
     requires { ⌜ (at ≤ length (now entries)) × (width ≤ 4) ⌝ }
     ensures { λ r. ⌜ r ≡ changeAt object width (drop at (now (entries .entry))) ⌝ }
@@ -114,9 +114,9 @@ pub fn change_at(entries: &[u8], at: usize, object: usize, width: usize) -> Chan
     said_if(named, entries, at, width)
 }
 
-// ---- an object in two lists, where it is known which of them name it: the elements are read only where they are compared or kept
+// ---- an object in two lists, where it is known which of them name it: elements are read only where they are compared or kept
 
-// In both: the first's new is the second's old.
+// Whether the lists agree on the object: if both name it, the first's new must be the second's old.
 pub fn meet_at(
     one: bool,
     other: bool,
@@ -140,7 +140,7 @@ pub fn meet_at(
     new == old
 }
 
-// Whether the join names it: not where both do and the first's old is the second's new.
+// Whether the join names the object: if both do, not where the first's old is the second's new.
 pub fn joins_at(
     one: bool,
     other: bool,
@@ -196,7 +196,7 @@ pub fn width_at(kinds: &[u8], object: usize) -> usize
     elements::width(kind_at(kinds, object))
 }
 
-// Fills the part with the object's entry; old and new through parts of it.
+// Fills the part with the object's entry; for a kept object the part is empty.
 pub fn put_change(part: &mut [u8], object: u32, width: usize, change: Change)
     requires { ⌜ (length (now part) ≡ span width change) × (width ≤ 4) ⌝ }
     ensures { λ _. ⌜ now (part .exit) ≡ entryBytes object width change ⌝ }
@@ -210,7 +210,7 @@ pub fn put_change(part: &mut [u8], object: u32, width: usize, change: Change)
     }
 }
 
-// Fills the part with the new element, where there is one.
+// Fills the part with the new element; a kept object's part stays as it is.
 pub fn put_new(part: &mut [u8], change: Change)
     requires { ⌜ length (now part) ≤ 4 ⌝ }
     ensures { λ _. ⌜ now (part .exit) ≡ renewed change (now (part .entry)) ⌝ }
@@ -222,7 +222,7 @@ pub fn put_new(part: &mut [u8], change: Change)
 
 // ---- one object's change
 
-// How many bytes its entry takes.
+// How many bytes a change's entry takes.
 pub fn span(width: usize, change: Change) -> usize
     requires { ⌜ width ≤ 4 ⌝ }
     ensures { λ r. ⌜ (r ≡ span width change) × (r ≤ 10) ⌝ }
@@ -233,7 +233,7 @@ pub fn span(width: usize, change: Change) -> usize
     2 + (width + width)
 }
 
-// Old differs from new.
+// The change from old to new; equal elements are kept.
 pub fn differ(old: u32, new: u32) -> Change
     ensures { λ r. ⌜ r ≡ differ old new ⌝ }
 {
@@ -243,7 +243,7 @@ pub fn differ(old: u32, new: u32) -> Change
     Change::Keep
 }
 
-// Old with new.
+// The change turned back: old and new are exchanged.
 pub fn back(change: Change) -> Change
     ensures { λ r. ⌜ r ≡ back change ⌝ }
 {
@@ -253,7 +253,7 @@ pub fn back(change: Change) -> Change
     Change::Swap(new, old)
 }
 
-// The named element is the old one.
+// Whether the element is the change's old one; a kept object fits any.
 pub fn fits(change: Change, element: u32) -> bool
     ensures { λ r. ⌜ r ≡ fits change element ⌝ }
 {

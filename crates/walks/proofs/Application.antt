@@ -1,5 +1,4 @@
--- The turns of application's loops: at object i, with the place p in the entries and the place at in the elements, what is done and what
--- is still to be done make up the whole. The places are the same in both loops.
+-- The turns of application's two loops: at object i, with p the place in the entries and `at` the place in the elements, what is done and what is still to be done make up the whole. The places are the same in both loops.
 -- Assumes nothing.
 use Prim.Native.Nat.{ℕ, suc, _+_, _-_, _^_, _≤_, _<_}
 use native.Mathlib.Omega.{arith}
@@ -40,7 +39,7 @@ first-places ns e h = record { inside = omega arith; near = omega arith; room = 
 
 module _ {ns e : List ℕ} {n at p i : ℕ} (z : Places ns e n at p i) where
   module _ (h : i < length ns) {w : ℕ} (ew : w ≡ widthOf (kindAt (kindsOf ns) i)) where
-    -- the element is there
+    -- the element ends within the elements
     pub element-inside : at + w ≤ n
     element-inside = omega (arith, z .room, ap widths (kinds-next ns i h))
 
@@ -48,18 +47,18 @@ module _ {ns e : List ℕ} {n at p i : ℕ} (z : Places ns e n at p i) where
     element-fits k = omega (arith, element-inside)
 
     module _ {m : ℕ} {c : Change} (ec : c ≡ changeAt i w (drop p e)) (em : m ≡ span w c) where
-      -- .. and so is the entry
+      -- the entry ends within the entries
       pub entry-inside : p + m ≤ length e
       entry-inside = said-inside e p i w (z .near) ec em
 
       next-places : Places ns e n (at + w) (p + m) (i + 1)
       next-places = record { inside = omega arith; near = entry-inside; room = omega (arith, z .room, ap widths (kinds-next ns i h)) }
 
-  -- an object that is not named
+  -- past an object that is not named
   pass-places : i < length ns → Places ns e n (at + widthOf (kindAt (kindsOf ns) i)) p (i + 1)
   pass-places h = record { inside = omega arith; near = z .near; room = omega (arith, z .room, ap widths (kinds-next ns i h)) }
 
--- behind the objects that are passed the place is still inside
+-- after the objects passed the place is still inside
 pub run-fits : {ns e : List ℕ} {n at p i : ℕ} → Places ns e n at p i → i < length ns → {w m : ℕ} {c : Change} → w ≡ widthOf (kindAt (kindsOf ns) i)
     → c ≡ changeAt i w (drop p e) → m ≡ span w c → {j v : ℕ} → Silent (i + 1) j (length ns) (drop (p + m) e)
     → (v ≡ widths (kindsOf (take (j - (i + 1)) (drop (i + 1) ns)))) × (v ≤ 4096) → n < 2 ^ 64 → at + w + v < 2 ^ 64
@@ -69,7 +68,7 @@ run-fits {ns} {e} {n} {p = p} z h {m = m} ew ec em d ev k =
 
 -- ---- the lowest object whose element is not its entry's old one
 
--- none of the objects passed
+-- every object passed fits
 pub record Fitting (ns e b : List ℕ) (at p i : ℕ) : Type 0 where
   pub place : Places ns e (length b) at p i
   pub same : unfit 0 (kindsOf ns) e b ≡ unfit i (drop i (kindsOf ns)) (drop p e) (drop at b)
@@ -92,7 +91,7 @@ module _ {ns e b : List ℕ} {at p i : ℕ} (z : Fitting ns e b at p i) where
       step-fitted : t ≡ true → {m : ℕ} → m ≡ span w c → Fitting ns e b (at + w) (p + m) (i + 1)
       step-fitted q em = record { place = next-places (z .place) h ew ec em; same = unfit-next em ∙ rw (← ea, ← et, q) }
 
-  -- an object that is not named
+  -- past an object that is not named
   pass-fitted : i < length ns → changeAt i (widthOf (kindAt (kindsOf ns) i)) (drop p e) ≡ keep → Fitting ns e b (at + widthOf (kindAt (kindsOf ns) i)) p (i + 1)
   pass-fitted h k = rw (add-zero p) at (step-fitted h {c = keep} refl (sym k) refl refl refl {m = 0} refl)
 
@@ -101,7 +100,7 @@ module _ {ns e b : List ℕ} {at p i : ℕ} (z : Fitting ns e b at p i) where
   all-fitted h = sym (z .same ∙ rw (kinds-end ns i h))
 
 module _ {ns e b : List ℕ} {at p i : ℕ} (z : Fitting ns e b at p i) (h : i < length ns) {w : ℕ} {c : Change} (ew : w ≡ widthOf (kindAt (kindsOf ns) i)) (ec : c ≡ changeAt i w (drop p e)) where
-  -- the object's own element, and on to the next object that is named
+  -- past the object's own element, to the next object that is named
   pub one-fitted : {a : ℕ} → a ≡ number (take w (drop at b)) → {t : Bool} → t ≡ fits c a → t ≡ true → {m j v : ℕ} → m ≡ span w c
       → Silent (i + 1) j (length ns) (drop (p + m) e) → (v ≡ widths (kindsOf (take (j - (i + 1)) (drop (i + 1) ns)))) × (v ≤ 4096)
       → Fitting ns e b (at + w + v) (p + m) j
@@ -162,7 +161,7 @@ module _ {ns e part₀ part : List ℕ} {at p i : ℕ} (z : Renewing ns e part�
           fill = write (along (z .fill) (renewal-next ns e part₀ at p i w n c h ew ec en)) (q ∙ ap (renewed c) here) (at + w) (ap (λ (m : ℕ). at + m) long);
         }
 
-  -- an object that is not named
+  -- past an object that is not named
   pass-renewed : i < length ns → changeAt i (widthOf (kindAt (kindsOf ns) i)) (drop p e) ≡ keep → Renewing ns e part₀ part (at + widthOf (kindAt (kindsOf ns) i)) p (i + 1)
   pass-renewed h c =
       let w : ℕ = widthOf (kindAt (kindsOf ns) i) in
@@ -174,7 +173,7 @@ module _ {ns e part₀ part : List ℕ} {at p i : ℕ} (z : Renewing ns e part�
       let nothing : renewal i (drop i (kindsOf ns)) (drop p e) (drop at part₀) ≡ [] = rw (kinds-end ns i h) in
       ended (along (z .fill) nothing)
 
--- the object's own element, and on to the next object that is named
+-- past the object's own element, to the next object that is named
 pub one-renewed : {ns e part₀ part : List ℕ} {at p i : ℕ} → Renewing ns e part₀ part at p i → i < length ns → {w n : ℕ} {c : Change} {ys : List ℕ}
     → w ≡ widthOf (kindAt (kindsOf ns) i) → c ≡ changeAt i w (drop p e) → n ≡ span w c → ys ≡ renewed c (midOf at (at + w - at) part)
     → {j v : ℕ} → Silent (i + 1) j (length ns) (drop (p + n) e) → (v ≡ widths (kindsOf (take (j - (i + 1)) (drop (i + 1) ns)))) × (v ≤ 4096)

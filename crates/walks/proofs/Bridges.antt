@@ -1,5 +1,4 @@
--- The walk finds the meaning: over the bytes of admitted words and lawful changes, each walk gives what its operation gives, and
--- application's two definitions what application does.
+-- The walks find the meaning: over the bytes of admitted words and lawful changes, each walk gives what its operation gives, and `unfit` and `renewal` give what application does.
 -- Assumes nothing.
 use Prim.Native.Nat.{ℕ, suc, _+_, _^_, _≤_, _<_}
 use native.Mathlib.Omega.{arith}
@@ -29,7 +28,7 @@ use Rattle.walks.specs.Walks.{walked, Measured, misfit, unfit, renewal}
 
 -- ---- one object's entry
 
--- the entries are the first object's, and then the others'
+-- the first object's entry, then the others'
 pub entries-cons : (i : ℕ) (k : Kind) (ks : List Kind) (c : Change) (cs : List Change)
     → entriesBytes i (k ∷ ks) (c ∷ cs) ≡ entryBytes i (widthOf k) c ++ entriesBytes (suc i) ks cs
 entries-cons i k ks keep cs = refl
@@ -119,7 +118,7 @@ turn-walk i b s (and {a = k} {b = c} p ps) =
     let x = found i k c s p ps in
     rw (x .change, x .rest, turn-walk (suc i) b (omega arith) ps)
 
--- ---- a list turned back is as long
+-- ---- a list turned back is as long as the list
 
 entries-back : (cs : List Change) → entries (map back cs) ≡ entries cs
 entries-back [] = refl
@@ -141,10 +140,10 @@ turn-measured {ks} {cs} b h ps = record {
   short = omega (arith, length-entries 0 ps);
 }
 
--- ---- the lowest object on which the forms do not agree
+-- ---- the lowest object on which the forms do not agree: of a join, of an application
 
 module _ {C : Type 0} (code : ℕ) (value : C) where
-  -- m below n is refused; else the value
+  -- an object m below n is refused; else the value
   abbrev pub foundAt : ℕ → ℕ → Verdict C
   foundAt n m = refusalAt code m unless leb n m ⨾ done value
 

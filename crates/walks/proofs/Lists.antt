@@ -1,4 +1,4 @@
--- The turns of the loops that make a list, operation by operation: each is the walk's turn, by the step that its functions give.
+-- The turns of the loops that make a list, operation by operation: each is a turn of the walk, with the step that the functions called return.
 -- Assumes nothing.
 use Prim.Native.Nat.{ℕ, suc, _+_, _-_, _^_, _≤_, _<_}
 use native.Mathlib.Omega.{arith}
@@ -23,11 +23,11 @@ use Rattle.steps.proofs.Leaves.{difference-step, join-step, turn-step, differ-s
 use Rattle.walks.specs.Walks.{walked, walkBytes, Elements, Asked, Surveyed}
 use Rattle.walks.proofs.Turns.{Sizing, sized-until, one-sized, Putting, put-fits, put-inside, put-long, one-put}
 
--- what is asked of a difference's two forms
+-- a difference asks that both forms are an image's elements
 pub asked : {walk : Walk} {ns f s : List ℕ} → walk ≡ Walk.Difference → Asked walk ns f s → Elements ns f s
 asked {ns = ns} {f = f} {s = s} e a = subst (λ (walk : Walk). Asked walk ns f s) e a
 
--- what is written, where it is known which walk it is
+-- room and bytes, once it is known which walk it is
 module _ {walk which : Walk} (e : walk ≡ which) (ns f s : List ℕ) where
   pub room-as : {n : ℕ} → n ≡ length (walkBytes walk 0 (kindsOf ns) f s) → n ≡ length (walkBytes which 0 (kindsOf ns) f s)
   room-as l = rw e at l
@@ -83,7 +83,7 @@ module _ {ns f s : List ℕ} {p i : ℕ} (z : Comparing ns f s p i) (h : i < len
 
 -- ---- a join: what each list says of the object
 
--- a cursor past the entry is still inside
+-- the cursor past an entry is still inside
 module _ (l : List ℕ) (p i w : ℕ) {t : Bool} {m : ℕ} (h : p ≤ length l) (e : t ≡ names i w (drop p l)) (em : (m ≡ sizeIf t w) × (m ≤ 10)) where
   pub cursor-inside : p + m ≤ length l
   cursor-inside = omega (arith, names-inside l p i w h e, em .0)
@@ -122,7 +122,7 @@ module _ {ns f s : List ℕ} {p q i w : ℕ} {one other : Bool} (h : i < length 
 
 -- ---- turning back: what the list says of the object
 
--- there is no second form: whatever stands in its place is not read
+-- there is no second form: whatever is in its place is not read
 alone : (i : ℕ) (ks : List Kind) (f s t : List ℕ) → walked Walk.Turn i ks f s ≡ walked Walk.Turn i ks f t
 unfolding walked stepOf
 alone i [] f s t = refl

@@ -1,4 +1,4 @@
--- A run of objects that is passed at once is passed object by object: what each turn keeps, the run keeps.
+-- To pass a run of objects at once is to pass them one by one: what each turn keeps, the run keeps.
 -- Assumes nothing.
 use Prim.Native.Nat.{ℕ, zero, suc, _+_, _-_, _≤_, _<_}
 use native.Mathlib.Omega.{arith}
@@ -16,7 +16,7 @@ use Rattle.tables.specs.Outlines.{kindsOf}
 use Rattle.steps.specs.Steps.{changeAt, Silent}
 use Rattle.forms.proofs.KindLaws.{kind-is}
 
--- ---- where nothing moves
+-- ---- where the cursors stay
 
 run-by : {A : Type 0} (g : ℕ → A) (d i : ℕ) → ((k : ℕ) → i ≤ k → k < i + d → g k ≡ g (k + 1)) → g i ≡ g (i + d)
 run-by g zero i step = ap g (omega arith)
@@ -30,7 +30,7 @@ run g {i} {j} h step =
     let e : i + (j - i) ≡ j = omega arith in
     run-by g (j - i) i (λ k a b. step k a (omega arith)) ∙ ap g e
 
--- ---- where a place goes on by the objects' widths
+-- ---- where a place moves by the objects' widths
 
 widths-first : (ns : List ℕ) (i d : ℕ) → i < length ns → widths (kindsOf (take (suc d) (drop i ns))) ≡ widthOf (kindAt (kindsOf ns) i) + widths (kindsOf (take d (drop (i + 1) ns)))
 unfolding kindsOf
@@ -47,7 +47,7 @@ pass-by ns g (suc d) i a h step z =
     let l : a + w + widths (kindsOf (take d (drop (i + 1) ns))) ≡ a + widths (kindsOf (take (suc d) (drop i ns))) = omega (arith, widths-first ns i d (omega arith)) in
     rw (e, l) at (pass-by ns g d (i + 1) (a + w) (omega arith) (λ k b x y. step k b (omega arith) (omega arith)) (step i a (omega arith) (omega arith) z))
 
--- as far as the entries e say nothing
+-- past all objects of which the entries e say nothing
 pub pass : (ns : List ℕ) {e : List ℕ} (g : ℕ → ℕ → Type 0) {i j a m : ℕ} → Silent i j (length ns) e → m ≡ widths (kindsOf (take (j - i) (drop i ns)))
     → ((k b : ℕ) → k < length ns → changeAt k (widthOf (kindAt (kindsOf ns) k)) e ≡ keep → g k b → g (k + 1) (b + widthOf (kindAt (kindsOf ns) k)))
     → g i a → g j (a + m)
@@ -56,6 +56,6 @@ pass ns g {i} {j} {a} {m} d q step z =
     rw (l, ← q)
     at (pass-by ns g (j - i) i a (omega (arith, d .on, d .within)) (λ k b x y. step k b (omega (arith, d .on, d .within)) (d .says k _ x (omega (arith, d .on)))) z)
 
--- a part of the layout numbers is no longer than they are
+-- a part of at most 1,024 layout numbers has at most 1,024
 pub few-part : (ns : List ℕ) (i m : ℕ) → length ns ≤ 1024 → length (take m (drop i ns)) ≤ 1024
 few-part ns i m h = simp (length-take, length-drop) (omega arith)

@@ -93,7 +93,7 @@ module _ (walk : Walk) (ns f s : List ℕ) where
 
 -- ---- the lowest object on which the forms do not agree
 
--- none of the objects passed
+-- the forms agree on every object passed
 pub record Seeking (walk : Walk) (ns f s : List ℕ) (p q i : ℕ) : Type 0 where
   pub inside : i ≤ length ns
   pub near : p ≤ length f
@@ -125,7 +125,7 @@ run-sought {walk} {ns} {f} {s} z d = record {
 
 -- ---- measuring
 
--- the entries passed, and those that are left
+-- the entries counted, and those that are left
 pub record Sizing (walk : Walk) (ns f s : List ℕ) (count size p q i : ℕ) : Type 0 where
   pub seek : Seeking walk ns f s p q i
   pub few : count ≤ i
@@ -180,13 +180,13 @@ module _ {walk : Walk} {ns f s : List ℕ} {count size p q i : ℕ} (z : Sizing 
     short = omega arith;
   }
 
--- two lists looked through
+-- the survey of two lists, at object i
 module _ {ns f s : List ℕ} {count size p q i : ℕ} (z : Sizing Walk.Join ns f s count size p q i) where
-  -- what is given back at the object
+  -- what `measure_join` returns there
   abbrev survey : Survey
   survey = record { misfit = i; size = record { count = count; bytes = size } }
 
-  -- they do not agree on the object
+  -- the lists do not agree on the object
   pub sized-until : i < length ns → {w : ℕ} {r : Step} → w ≡ widthOf (kindAt (kindsOf ns) i) → Stepped Walk.Join i w f p s q r → r .agrees ≡ false → Surveyed ns f s survey
   sized-until h e t b = record { found = misfit-here (z .seek) h e t b; inside = omega arith; measured = λ k. absurd (omega arith) }
 

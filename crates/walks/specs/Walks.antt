@@ -1,5 +1,4 @@
--- The walk over two forms, and an image's elements under a list's entries, object by object, on any bytes. A device between the code and
--- the meaning, which is history's: the laws (proofs/Bridges) tie it to the meaning where the bytes are those of accepted forms.
+-- The walk over two forms, and an image's elements under a list's entries, object by object, on any bytes. A device between the code and the meaning, which is in `history`: proofs/Bridges ties it to the meaning where the bytes are those of accepted forms.
 use Prim.Native.Nat.{ℕ, suc, _≤_}
 use mathlib.Core.Path.{_≡_}
 use mathlib.Core.Bool.{cond}
@@ -16,7 +15,7 @@ use Rattle.steps.specs.declared.Walk.{Walk}
 use Rattle.steps.specs.Steps.{span, changeAt, stepOf, renewed}
 use Rattle.walks.specs.declared.Survey.{Survey}
 
--- the changes of the objects from i on, and the entries of these
+-- the changes of the objects from i on, and their entries
 unfoldable pub walked : Walk → ℕ → List Kind → List ℕ → List ℕ → List Change
 walked walk i [] f s = []
 walked walk i (k ∷ ks) f s =
@@ -26,25 +25,25 @@ walked walk i (k ∷ ks) f s =
 abbrev pub walkBytes : Walk → ℕ → List Kind → List ℕ → List ℕ → List ℕ
 walkBytes walk i ks f s = entriesBytes i ks (walked walk i ks f s)
 
--- the two are the elements of images: as many bytes as the objects' elements take
+-- f and s are as long as the objects' elements together, as those of an image are
 pub record Elements (ns f s : List ℕ) : Type 0 where
   pub first : length f ≡ widths (kindsOf ns)
   pub second : length s ≡ widths (kindsOf ns)
 
--- what is asked of the two forms
+-- what a walk asks of the two forms
 abbrev pub Asked : Walk → List ℕ → List ℕ → List ℕ → Type 0
 Asked Walk.Difference ns f s = Elements ns f s
 Asked Walk.Join ns f s = Unit {0}
 Asked Walk.Turn ns f s = Unit {0}
 
--- their size
+-- the count of a walk's entries, and the bytes that they take
 pub record Measured (walk : Walk) (ks : List Kind) (f s : List ℕ) (count size : ℕ) : Type 0 where
   pub entries : count ≡ entries (walked walk 0 ks f s)
   pub bytes : size ≡ length (walkBytes walk 0 ks f s)
   pub few : count ≤ 1024
   pub short : size ≤ 10240
 
--- the lowest object on which the forms do not agree, or the first past the last
+-- the lowest object on which the forms do not agree, or one past the last
 unfoldable pub misfit : Walk → ℕ → List Kind → List ℕ → List ℕ → ℕ
 misfit walk i [] f s = i
 misfit walk i (k ∷ ks) f s =
@@ -52,7 +51,7 @@ misfit walk i (k ∷ ks) f s =
     (misfit walk (suc i) ks (drop (stepOf walk i (widthOf k) f s .first) f) (drop (stepOf walk i (widthOf k) f s .second) s))
     i
 
--- that object of a join, and the size where there is none
+-- what is found of a join: that object; and the size, if there is none
 pub record Surveyed (ns f s : List ℕ) (r : Survey) : Type 0 where
   pub found : r .misfit ≡ misfit Walk.Join 0 (kindsOf ns) f s
   pub inside : r .misfit ≤ length ns
@@ -60,7 +59,7 @@ pub record Surveyed (ns f s : List ℕ) (r : Survey) : Type 0 where
 
 -- ---- the elements b under the entries e
 
--- the lowest object whose element is not its entry's old one, or the first past the last
+-- the lowest object whose element is not its entry's old one, or one past the last
 unfoldable pub unfit : ℕ → List Kind → List ℕ → List ℕ → ℕ
 unfit i [] e b = i
 unfit i (k ∷ ks) e b =

@@ -1,6 +1,6 @@
-// The loops over the objects, for each operation on change lists: from object to object, with a cursor into each of two forms. Lists jump
-// over the objects that they don't name. A difference and an application ask that an image's elements are as many bytes as the objects'
-// take; of entries it takes any bytes. It refuses nothing and knows no form's head; whoever calls it has checked the forms.
+// The loops over the objects, for each operation on change lists: from object to object, with a cursor into each of two forms. Loops over
+// lists jump over objects that no list names. A difference and an application require an image's elements to be as long as the objects
+// need; entries may be any bytes. It refuses nothing and knows no form's head; the caller has checked the forms.
 use steps::Walk;
 ghost use mathlib.Core.Path.{_≡_};
 ghost use Prim.Native.Nat.{_≤_};
@@ -10,13 +10,13 @@ ghost use Rattle.history.specs.Image.{widths};
 ghost use Rattle.tables.specs.Outlines.{kindsOf};
 ghost use Rattle.walks.specs.Walks.{walkBytes, Elements, Asked, Measured, Surveyed, unfit, renewal};
 
-// How many entries, and how many bytes they take.
+// How many entries a list has, and how many bytes they take.
 pub struct Size {
     pub count: usize,
     pub bytes: usize,
 }
 
-// The lowest object on which the two forms do not agree, or else the count of objects. Only then is the size that of all entries.
+// The lowest object on which two lists do not agree, or the count of objects if they agree on all; only then is the size that of the whole join.
 pub struct Survey {
     pub misfit: usize,
     pub size: Size,
@@ -47,7 +47,7 @@ pub fn measure_difference(kinds: &[u8], old: &[u8], new: &[u8]) -> Size
     Size { count, bytes }
 }
 
-// Looks for a misfit of two lists and measures their join in one pass.
+// Looks for the lowest misfit of two lists and measures their join, in one pass.
 pub fn measure_join(kinds: &[u8], first: &[u8], second: &[u8]) -> Survey
     requires { ⌜ length (now kinds) ≤ 1024 ⌝ }
     ensures { λ r. ⌜ Surveyed (now (kinds .entry)) (now (first .entry)) (now (second .entry)) r ⌝ }
@@ -82,7 +82,7 @@ pub fn measure_join(kinds: &[u8], first: &[u8], second: &[u8]) -> Survey
 
 // ---- a list written
 
-// Fills the part with the changes' entries.
+// Fills the part with the entries of the walk's changes.
 pub fn put_changes(part: &mut [u8], walk: Walk, kinds: &[u8], first: &[u8], second: &[u8])
     requires { ⌜ length (now kinds) ≤ 1024 ⌝ }
     requires { ⌜ Asked walk (now kinds) (now first) (now second) ⌝ }
@@ -96,7 +96,7 @@ pub fn put_changes(part: &mut [u8], walk: Walk, kinds: &[u8], first: &[u8], seco
     }
 }
 
-// .. of the changes from the elements of one image to those of another.
+// The entries from the elements of one image to those of another.
 fn put_difference(part: &mut [u8], kinds: &[u8], old: &[u8], new: &[u8])
     requires { ⌜ length (now kinds) ≤ 1024 ⌝ }
     requires { ⌜ Elements (now kinds) (now old) (now new) ⌝ }
@@ -119,7 +119,7 @@ fn put_difference(part: &mut [u8], kinds: &[u8], old: &[u8], new: &[u8])
     }
 }
 
-// .. of the join of two lists.
+// The entries of the join of two lists.
 fn put_joined(part: &mut [u8], kinds: &[u8], first: &[u8], second: &[u8])
     requires { ⌜ length (now kinds) ≤ 1024 ⌝ }
     requires { ⌜ length (now part) ≡ length (walkBytes Walk.Join 0 (kindsOf (now kinds)) (now first) (now second)) ⌝ }
@@ -143,7 +143,7 @@ fn put_joined(part: &mut [u8], kinds: &[u8], first: &[u8], second: &[u8])
     }
 }
 
-// .. of the list turned back; there is no second form.
+// The entries of the list turned back; there is no second form.
 fn put_turned(part: &mut [u8], kinds: &[u8], entries: &[u8])
     requires { ⌜ length (now kinds) ≤ 1024 ⌝ }
     requires { ⌜ length (now part) ≡ length (walkBytes Walk.Turn 0 (kindsOf (now kinds)) (now entries) []) ⌝ }
@@ -190,7 +190,7 @@ pub fn find_unfit(kinds: &[u8], entries: &[u8], elements: &[u8]) -> usize
     i
 }
 
-// Takes the entries into the elements where they stand.
+// Writes each entry's new element over the object's, in place.
 pub fn renew(part: &mut [u8], kinds: &[u8], entries: &[u8])
     requires { ⌜ length (now kinds) ≤ 1024 ⌝ }
     requires { ⌜ length (now part) ≡ widths (kindsOf (now kinds)) ⌝ }

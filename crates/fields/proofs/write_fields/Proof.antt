@@ -1,4 +1,4 @@
--- `fields::write_fields` meets its contract: by its kind, then by what is found of its values.
+-- `fields::write_fields` meets its contract: the number's kind decides, then what is found of the values.
 -- Assumes nothing.
 use borrow.Author.Needs.{needs}
 use Rattle.history.proofs.OutputLaws.{leaves-as}

@@ -1,4 +1,4 @@
--- `receiver::count` meets its contract: each return rewrites with the tests that led there.
+-- `receiver::count` meets its contract: the tests of the code pick the tally that moves.
 -- Assumes nothing.
 use borrow.Author.Needs.{needs}
 use borrow.Author.Tests.{eq-eqb, ne-eqb}

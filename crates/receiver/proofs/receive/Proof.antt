@@ -1,5 +1,5 @@
--- `receiver::receive` meets its contract: a walk of its MIR, by hand. The borrow of the Standing is opened, the record is copied out and passed to `received`, by value, beside the slices; the record that comes back is stored in the cell, and the borrow is closed at it.
--- `out` is given up for good: it goes to the callee at its own lifetime, share and ghost name, and what the callee says of the last list is what is said here.
+-- `receiver::receive` meets its contract: a walk of its MIR, step by step. The borrow of the Standing is opened, the record is copied out and passed to `received` by value, beside the slices; the record that comes back is stored in the cell, and the borrow is closed on it.
+-- `out` is given away for good: the callee takes it with its lifetime, share and ghost name, and what the callee says of the final output is what is said here.
 -- All that the proof knows of `received` is that it meets its contract. Written by tools/gen_lent_standing.py.
 -- Assumes nothing.
 use mathlib.Core.Path.{_≡_, refl, ap}
@@ -136,7 +136,7 @@ module _ {M : Type 1} (𝓤 : URA M) (H : Heap 𝓤) (A : Atoms 𝓤) (W : Given
   asked : ent 𝓤 (onEntry 𝓤 H A received.signature ks (q₀, (q₁, (q₂, (q₃, tt)))) passed pvals) (Step 𝓤 H A at-mem run .pre to)
   asked = qed W ((‵ (flft κ₀ q₀) ⊛ ‵ (flft κ₁ q₁) ⊛ ‵ (flft κ₂ q₂) ⊛ ‵ (flft κ₃ q₃) ⊛ ‵ ftrue) ∷ ‵ (owns (ShrSlice (named 0) κ₀ u8 ∷ ShrSlice (named 1) κ₁ u8 ∷ ShrSlice (named 2) κ₂ u8 ∷ MutSlice (named 3) κ₃ u8 ∷ T.the-row ∷ []) passed pvals) ∷ []) ∵ join ! $ frame ! $ done !
 
-  -- what the callee ensures of its result and of the last list
+  -- what the callee ensures of its result and of the final output
   abbrev Said : Taken → List ℕ → Type 0
   Said r zs = (r ≡ takenOf (x₀ .now) (x₁ .now) (x₂ .now) ys h) × (zs ≡ outputOf (x₀ .now) (x₁ .now) (x₂ .now) ys)
 
@@ -148,7 +148,7 @@ module _ {M : Type 1} (𝓤 : URA M) (H : Heap 𝓤) (A : Atoms 𝓤) (W : Given
       says ! (λ i. e .0 i .answer, (e .1, λ i. e .0 i .standing)) $
       -- the tokens
       move ! (3 ∷ []) $ split ! $ move ! (1 ∷ []) $ split ! $ move ! (1 ∷ []) $ split ! $ move ! (1 ∷ []) $ split ! $ move ! (7 ∷ 1 ∷ []) $ join ! $ move ! (1 ∷ 0 ∷ []) $ join ! $ move ! (1 ∷ 0 ∷ []) $ join ! $ move ! (1 ∷ 0 ∷ []) $ join ! $ move ! (1 ∷ 0 ∷ []) $ join ! $ frame ! $
-      -- [obs; the borrow; the last list; the `&` slices', the last first]
+      -- [obs; the borrow; the final output; the `&` slices', the last first]
       feqI ! (List Val) (vptr b′ o′ ∷ []) (vptr b′ o′ ∷ []) refl $ fjoin3 ! $ nothing ! $ move ! (1 ∷ 0 ∷ []) $ fjoin ! $ move ! (1 ∷ 0 ∷ []) $ fjoin ! $ move ! (1 ∷ 0 ∷ []) $ fjoin ! $ move ! (1 ∷ 0 ∷ []) $ fjoin ! $ move ! (1 ∷ 0 ∷ []) $ fjoin ! $
       owned ! N.the-row (Is N.the-row) ((LL.makes N.the-type N′.the-plain) 𝓤 H A) (r .answer) _ is $ move ! (1 ∷ 0 ∷ []) $ done !
 
@@ -161,7 +161,7 @@ module _ {M : Type 1} (𝓤 : URA M) (H : Heap 𝓤) (A : Atoms 𝓤) (W : Given
         alloc1 ! (λ l₀. alloc1 ! (λ l₁. alloc1 ! (λ l₂. alloc1 ! (λ l₃. alloc1 ! (λ l₄. alloc1 ! (λ l₅. alloc1 ! (λ l₆. alloc1 ! (λ l₇. alloc1 ! (λ l₈. alloc1 ! (λ l₉. alloc0 ! $ params1 ! $
         pass1 ! (init ! 16 refl (shr-slice-lawful 𝓤 H A W (named 0) κ₀ u8 .typed x₀ (v₀ ∷ []) p₀ .0)) $ pass1 ! (init ! 14 refl (shr-slice-lawful 𝓤 H A W (named 1) κ₁ u8 .typed x₁ (v₁ ∷ []) p₁ .0)) $ pass1 ! (init ! 12 refl (shr-slice-lawful 𝓤 H A W (named 2) κ₂ u8 .typed x₂ (v₂ ∷ []) p₂ .0)) $
         pass1 ! (init ! 10 refl (tt, (tt, (record { fits = room .0 }, tt)))) $ pass1 ! (init ! 8 refl (tt, tt)) $ pass0 ! $
-        -- [_9; …; …; _1; …; room for _0; …; the tokens; what the parameters own]: the `&` slices are had twice
+        -- [_9; …; …; _1; …; room for _0; …; the tokens; what the parameters own]: each `&` slice is copied
         move ! (21 ∷ []) $ fsplit ! $ use1 W (‵ Own₀ ⊛ ‵ Own₀) (shr-slice-copy 𝓤 H A W (named 0) κ₀ u8 .twice x₀ (v₀ ∷ [])) $ split ! $
         move ! (2 ∷ []) $ fsplit ! $ use1 W (‵ Own₁ ⊛ ‵ Own₁) (shr-slice-copy 𝓤 H A W (named 1) κ₁ u8 .twice x₁ (v₁ ∷ [])) $ split ! $
         move ! (2 ∷ []) $ fsplit ! $ use1 W (‵ Own₂ ⊛ ‵ Own₂) (shr-slice-copy 𝓤 H A W (named 2) κ₂ u8 .twice x₂ (v₂ ∷ [])) $ split ! $
@@ -174,26 +174,26 @@ module _ {M : Type 1} (𝓤 : URA M) (H : Heap 𝓤) (A : Atoms 𝓤) (W : Given
         assigns ! (addr ! (from ! (fld ! refl (hop ! (look-in ! 28 (sub ! 0 refl (whole !))) (stop !))))) (from ! (stop !)) (init ! 22 refl (tt, tt)) $
         assigns ! (agg ! (and-then ! (load ! (from ! (stop !)) (look ! 22 refl)) (and-then ! (load ! (from ! (fld ! refl (stop !))) (look-in ! 28 (sub ! 1 refl (whole !)))) (no-more !)))) (from ! (stop !)) (init ! 20 refl (tt, (tt, (record { fits = room .0 }, tt)))) $
         assigns ! (of-opd ! (load ! (from ! (hop ! (look ! 26 refl) (stop !))) (look-raw ! 0 refl))) (from ! (stop !)) (init ! 18 refl (LL.lawful T.the-type T′.the-laws 𝓤 H A W .typed h _ g .0)) $
-        -- what the callee asks is put together
+        -- what the callee asks for, put together
         move ! (1 ∷ 5 ∷ []) $ fjoin ! $ move ! (10 ∷ 0 ∷ []) $ fjoin ! $ move ! (10 ∷ 0 ∷ []) $ fjoin ! $ move ! (11 ∷ 0 ∷ []) $ fjoin ! $ move ! (12 ∷ 0 ∷ []) $ fjoin ! $
         move ! (5 ∷ 9 ∷ []) $ join ! $ move ! (6 ∷ 0 ∷ []) $ join ! $ move ! (6 ∷ 0 ∷ []) $ join ! $ move ! (6 ∷ 0 ∷ []) $ join ! $
         use2 W (raw (Step 𝓤 H A at-mem run .pre to)) asked $
         -- [what it asks; the cell; the open borrow; obs; auth; the `&` slices'; _9; …]
         calls-at ! fm (Step 𝓤 H A at-mem run) known to (and-then ! (load ! (from ! (stop !)) (look ! 24 refl)) (and-then ! (load ! (from ! (stop !)) (look ! 22 refl)) (and-then ! (load ! (from ! (stop !)) (look ! 20 refl)) (and-then ! (load ! (from ! (stop !)) (look ! 10 refl)) (and-then ! (load ! (from ! (stop !)) (look ! 8 refl)) (no-more !)))))) (λ w.
         use1 W (later (some (λ (r : Taken). ((‵ (flft κ₀ q₀) ⊛ ‵ (flft κ₁ q₁) ⊛ ‵ (flft κ₂ q₂) ⊛ ‵ (flft κ₃ q₃) ⊛ ‵ ftrue) ⊛ ‵ (K.the-row .own r (w ∷ []))) ⊛ raw (ensured 𝓤 H A received.ended (received.clauses 𝓤 H A at-mem run) ks passed tt r)))) (id⊢ 𝓤 _) $ await ! tt $ pick ! (λ r.
-        -- what it ensures, at some last list
+        -- what it ensures, for some final output
         split ! $ move ! (1 ∷ []) $ use1 W (some (λ (zs : Unit {0} × (Unit {0} × (Unit {0} × (List ℕ × (Unit {0} × Unit {0}))))). ‵ (lasts received.ended ks passed zs) ⊛ raw (fact 𝓤 (Said r (zs .1 .1 .1 .0))))) (id⊢ 𝓤 _) $ pick ! (λ zs.
         split ! $ move ! (1 ∷ []) $ heard ! (Said r (zs .1 .1 .1 .0)) (λ e. fsplit ! $ move ! (1 ∷ []) $ fsplit ! $ move ! (1 ∷ []) $ fsplit ! $ move ! (1 ∷ []) $ fsplit ! $ fsplit ! $ move ! (1 ∷ []) $ feqL ! (λ l.
-        -- [the last list; …; the tokens and the result; the cell; …]
+        -- [the final output; …; the tokens and the result; the cell; …]
         move ! (5 ∷ []) $ split ! $ move ! (1 ∷ []) $ peeks ! K.the-row (Is K.the-row) (shows 𝓤 H A K.the-row) r (w ∷ []) (λ is.
         land ! (from ! (stop !)) (init ! 20 refl (LL.lawful K.the-type K′.the-laws 𝓤 H A W .typed r _ is .0)) $
         rewrite ! 20 (λ (u : Val). ‵ (fat fullShare K′.mir l₆ 0 u)) (ap only (LL.tells K.the-type K′.the-laws r _ is)) refl $
-        -- [the result; the tokens; the last list; …; the cell; the open borrow; obs; auth; the `&` slices'; _9; …]
+        -- [the result; the tokens; the final output; …; the cell; the open borrow; obs; auth; the `&` slices'; _9; …]
         assigns ! (of-opd ! (load ! (from ! (fld ! refl (stop !))) (look-in ! 20 (sub ! 1 refl (whole !))))) (from ! (hop ! (look ! 22 refl) (stop !))) (store-raw ! 7 refl (LL.lawful T.the-type T′.the-laws 𝓤 H A W .typed (r .standing) _ (LL.owed K.the-type K′.the-laws r _ is .1 .0) .0)) $
         assigns ! (of-opd ! (load ! (from ! (fld ! refl (stop !))) (look-in ! 20 (sub ! 0 refl (whole !))))) (from ! (stop !)) (init ! 32 refl (LL.lawful N.the-type N′.the-laws 𝓤 H A W .typed (r .answer) _ (LL.owed K.the-type K′.the-laws r _ is .0) .0)) $
-        -- the borrow is closed at the record that came back
+        -- the borrow is closed on the record that came back
         owned ! T.the-row (Is T.the-row) ((LL.makes T.the-type T′.the-plain) 𝓤 H A) (r .standing) _ (LL.owed K.the-type K′.the-laws r _ is .1 .0) $ move ! (8 ∷ 0 ∷ 9 ∷ 10 ∷ 11 ∷ []) $ closes ! tt T.the-row (r .standing) (mach (r .standing) ∷ []) b′ o′ $
-        -- [obs; the borrow; κ₄; the result; the tokens; the last list; …; the `&` slices'; _9; …]
+        -- [obs; the borrow; κ₄; the result; the tokens; the final output; …; the `&` slices'; _9; …]
         returns ! (look ! 31 refl) $ forget ! 13 refl $ forget ! 15 refl $ forget ! 17 refl $ forget ! 19 refl $ forget ! 21 refl $ forget ! 23 refl $ forget ! 25 refl $ forget ! 27 refl $ forget ! 29 refl $ forget ! 31 refl $
         move ! (31 ∷ 32 ∷ []) $ free1 ! $ move ! (29 ∷ 30 ∷ []) $ free1 ! $ move ! (27 ∷ 28 ∷ []) $ free1 ! $ move ! (25 ∷ 26 ∷ []) $ free1 ! $ move ! (23 ∷ 24 ∷ []) $ free1 ! $ move ! (21 ∷ 22 ∷ []) $ free1 ! $ move ! (19 ∷ 20 ∷ []) $ free1 ! $ move ! (17 ∷ 18 ∷ []) $ free1 ! $ move ! (15 ∷ 16 ∷ []) $ free1 ! $ move ! (13 ∷ 14 ∷ []) $ free1 ! $ free0 ! $
         keep ! (0 ∷ 1 ∷ 2 ∷ 4 ∷ 5 ∷ 10 ∷ 11 ∷ 12 ∷ []) $ by ! (exits r (zs .1 .1 .1 .0) e l (LL.owed K.the-type K′.the-laws r _ is .0))))))))))))))))))))

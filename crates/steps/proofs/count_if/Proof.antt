@@ -1,4 +1,4 @@
--- `steps::count_if` meets its contract: one where there is one.
+-- `steps::count_if` meets its contract: 1 if there is an entry, else 0.
 -- Assumes nothing.
 use borrow.Author.Needs.{needs}
 use borrow.Author.Tests.{not-true, not-false}

@@ -1,4 +1,4 @@
--- `steps::fits` meets its contract: the old element is compared.
+-- `steps::fits` meets its contract: the element is compared with the old one; a kept object fits any.
 -- Assumes nothing.
 use mathlib.Core.Path.{sym, ap}
 use borrow.Author.Needs.{needs}

@@ -1,4 +1,4 @@
--- `steps::joins_at` meets its contract: of an object in both lists, the first's old and the second's new are compared.
+-- `steps::joins_at` meets its contract: for an object in both lists, the first's old and the second's new are compared.
 -- Assumes nothing.
 use borrow.Author.Needs.{needs}
 use borrow.Author.Tests.{not-true, not-false}

@@ -1,4 +1,4 @@
--- `steps::meet_at` meets its contract: of an object in both lists, the first's new and the second's old are compared.
+-- `steps::meet_at` meets its contract: for an object in both lists, the first's new and the second's old are compared.
 -- Assumes nothing.
 use borrow.Author.Needs.{needs}
 use borrow.Author.Tests.{not-true, not-false}

@@ -1,4 +1,4 @@
--- `steps::named` meets its contract: no entry is left, or the next one names an object passed, one past the end, or one between.
+-- `steps::named` meets its contract: no entry is left, or the next one names an object already passed, one past the end, or one between.
 -- Assumes nothing.
 use borrow.Author.Needs.{needs}
 use Rattle.steps.proofs.Leaves.{silent-cut, silent-past, silent-after, silent-between}

@@ -1,4 +1,4 @@
--- `steps::names` meets its contract: an entry that is cut names no object.
+-- `steps::names` meets its contract: an entry that is cut off names no object.
 -- Assumes nothing.
 use borrow.Author.Needs.{needs}
 use Rattle.steps.proofs.Leaves.{names-cut, names-whole}

@@ -1,4 +1,4 @@
--- `steps::next` meets its contract: an object that neither list names is passed.
+-- `steps::next` meets its contract: only objects that neither list names are passed.
 -- Assumes nothing.
 use borrow.Author.Needs.{needs}
 use Rattle.steps.proofs.Leaves.{idle-join}

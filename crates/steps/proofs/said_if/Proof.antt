@@ -1,4 +1,4 @@
--- `steps::said_if` meets its contract: the two elements behind the number.
+-- `steps::said_if` meets its contract: the two elements after the number.
 -- Assumes nothing.
 use borrow.Author.Needs.{needs}
 use borrow.Author.Tests.{not-true, not-false}

@@ -1,4 +1,4 @@
--- `walks::find_unfit` meets its contract: no object passed is one; the measure is the objects left.
+-- `walks::find_unfit` meets its contract: every object passed fits; the measure is the objects left.
 -- Assumes nothing.
 use Prim.Native.Nat.{_-_}
 use lib.ListN.{length}

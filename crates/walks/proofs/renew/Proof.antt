@@ -1,4 +1,4 @@
--- `walks::renew` meets its contract: the elements renewed, and those still to be renewed, are the whole; the measure is the objects left.
+-- `walks::renew` meets its contract: the elements renewed and those still to be renewed make up the whole; the measure is the objects left.
 -- Assumes nothing.
 use Prim.Native.Nat.{_-_}
 use lib.ListN.{length}

@@ -1,4 +1,4 @@
--- `changes::accepted::check_applies` meets its contract: positions, then the lowest misfit.
+-- `changes::accepted::check_applies` meets its contract: the positions, then the lowest misfit.
 -- Assumes nothing.
 use borrow.Author.Needs.{needs}
 use Rattle.tables.proofs.AnswerLaws.{told-refused}

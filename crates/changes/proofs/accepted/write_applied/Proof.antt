@@ -1,4 +1,4 @@
--- `changes::accepted::write_applied` meets its contract: what is refused is the answer, else the image is written.
+-- `changes::accepted::write_applied` meets its contract: a refusal is the answer, else the image is written.
 -- Assumes nothing.
 use borrow.Author.Needs.{needs}
 use Rattle.history.proofs.OutputLaws.{leaves-as, told-leaves}

@@ -1,4 +1,4 @@
--- `changes::accepted::write_turned` meets its contract: the walk over an accepted list's entries turns each.
+-- `changes::accepted::write_turned` meets its contract: the walk over an accepted list's entries turns each back.
 -- Assumes nothing.
 use borrow.Author.Needs.{needs}
 use Rattle.heads.proofs.Parts.{list-inside}

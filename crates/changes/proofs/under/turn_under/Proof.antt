@@ -1,4 +1,4 @@
--- `changes::under::turn_under` meets its contract: a refused list is the answer; of an accepted one the answer is written.
+-- `changes::under::turn_under` meets its contract: the list's refusal is the answer; an accepted list is turned back.
 -- Assumes nothing.
 use borrow.Author.Needs.{needs}
 use Rattle.forms.proofs.Accepted.{list-accepted}

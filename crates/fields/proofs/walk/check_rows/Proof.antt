@@ -1,4 +1,4 @@
--- `fields::walk::check_rows` meets its contract: what is found is found in the rows to come.
+-- `fields::walk::check_rows` meets its contract: no row so far refuses its value, so the rows left decide.
 -- Assumes nothing.
 use borrow.Author.Needs.{needs}
 use Prim.Native.Nat.{_-_}

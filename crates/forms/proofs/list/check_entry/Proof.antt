@@ -1,4 +1,4 @@
--- `forms::list::check_entry` meets its contract: the number, 14, the elements, 15, each as it is found.
+-- `forms::list::check_entry` meets its contract: the number, 14, the elements, 15, in this order.
 -- Assumes nothing.
 use borrow.Author.Needs.{needs}
 use Rattle.forms.proofs.ListEntryLaws.{refuses, no-number, number-there, object-there, falling, bad-elements, unchanged, changed}

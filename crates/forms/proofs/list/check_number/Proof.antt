@@ -9,7 +9,7 @@ use Rattle.forms.proofs.list.check_number.Tie as tie
 returns : tie.Need-returns
 returns c = no-object (c .refused .ensures) (search number-cut)
 
--- right at the count and above it, whichever of the two was tested
+-- 13 is right both at the count and above it, so either test (`<=`, `<`) passes here
 returns-2 : tie.Need-returns-2
 returns-2 c = no-object (c .refused-at .ensures) (search (beyond, le-of-lt))
 

@@ -1,4 +1,4 @@
--- `forms::objects::place_of` meets its contract: the widths of the objects before.
+-- `forms::objects::place_of` meets its contract: the widths of the objects before it.
 -- Assumes nothing.
 use Rattle.forms.proofs.ElementPlaces.{place-sum}
 use borrow.Author.Needs.{needs}

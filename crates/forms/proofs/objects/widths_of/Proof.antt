@@ -1,4 +1,4 @@
--- `forms::objects::widths_of` meets its contract: the sum so far and the widths left are all widths.
+-- `forms::objects::widths_of` meets its contract: the sum so far and the widths left make up all widths.
 -- Assumes nothing.
 use Prim.Native.Nat.{_-_}
 use native.Mathlib.Omega.{arith}

@@ -1,4 +1,4 @@
--- `outputs::image::put_element` meets its contract: the element goes through its own part, and then the image is finished.
+-- `outputs::image::put_element` meets its contract: the element is put through a part of the image, then the position is set.
 -- Assumes nothing.
 use borrow.Author.Needs.{needs}
 use Rattle.outputs.proofs.Images.{put-inside, put-head, put-done}

@@ -1,4 +1,4 @@
--- `outputs::image::take_entries` meets its contract: the entries are taken into the elements, and then the image is finished.
+-- `outputs::image::take_entries` meets its contract: the entries are taken into the elements, then the position is set.
 -- Assumes nothing.
 use borrow.Author.Needs.{needs}
 use Rattle.outputs.proofs.Images.{taken-inside, taken}

@@ -1,4 +1,4 @@
--- `panel::write::write_state` meets its contract: a refused table's answer is the answer and the output stays; an accepted one's plan decides.
+-- `panel::write::write_state` meets its contract: a refused table's answer is the answer and the output stays; under an accepted one the image and the state decide.
 -- Assumes nothing.
 use Rattle.forms.proofs.UnderPlan.{table-leaves, kinds-inside, few-kinds}
 use Rattle.history.proofs.OutputLaws.{leaves-as}
