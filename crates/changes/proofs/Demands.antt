@@ -72,7 +72,7 @@ demand-3 T A B C ha hb hc ea eb ec =
       back = gives (turned-difference T A B ha hb (l .1) ∙ n .1) n-short;
     }
 
--- "three lists that some image takes in turn join to the same bytes, whichever pair is joined first"; no join takes more room than its lists
+-- "three lists that some image takes in turn join to the same bytes, whichever pair is joined first"; no join takes more room than the lists joined
 pub record ThreeLists (T L M N : List ℕ) : Type 0 where
   pub LM : List ℕ
   pub MN : List ℕ

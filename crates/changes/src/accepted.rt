@@ -20,7 +20,7 @@ ghost use Rattle.history.specs.Image.{AcceptedImage};
 ghost use Rattle.history.specs.Changes.{AcceptedList};
 ghost use Rattle.tables.specs.Outlines.{planAs};
 
-// The list from image a to image b.
+// Writes the list from image a to image b.
 pub fn write_difference(x: u8, y: u8, kinds: &[u8], a: &[u8], b: &[u8], out: &mut [u8]) -> Answer
     requires { ⌜ length (now kinds) ≤ 1024 ⌝ }
     requires { ⌜ AcceptedImage (planAs x y (now kinds)) (now a) ⌝ }
@@ -35,7 +35,7 @@ pub fn write_difference(x: u8, y: u8, kinds: &[u8], a: &[u8], b: &[u8], out: &mu
     outputs::write_list(Walk::Difference, x, y, kinds, from, to, old, new, size, out)
 }
 
-// The image after the list: 16, 17, 18.
+// Writes the image after the list: 16, 17, 18.
 pub fn write_applied(
     x: u8,
     y: u8,
@@ -57,7 +57,7 @@ pub fn write_applied(
     outputs::write_image(kinds, image, to, entries_of(list), out)
 }
 
-// The join of two lists: 19, 20.
+// Writes the join of two lists: 19, 20.
 pub fn write_joined(
     x: u8,
     y: u8,
@@ -99,7 +99,7 @@ pub fn write_joined(
     )
 }
 
-// The list turned back. It is as long as the list, so nothing is measured; there is no second form, so that slice is empty.
+// Writes the list turned back. That is as long as the list, so nothing is measured; there is no second form, so that slice is empty.
 pub fn write_turned(x: u8, y: u8, kinds: &[u8], list: &[u8], out: &mut [u8]) -> Answer
     requires { ⌜ length (now kinds) ≤ 1024 ⌝ }
     requires { ⌜ AcceptedList (planAs x y (now kinds)) (now list) ⌝ }

@@ -13,7 +13,7 @@ pub use under::turn_under;
 ghost use Rattle.history.specs.Verdict.{Leaves};
 ghost use Rattle.history.specs.Calls.{differenceCall, applyCall, joinCall, turnCall};
 
-// The list from image a to image b.
+// Writes the list from image a to image b.
 pub fn difference(table: &[u8], a: &[u8], b: &[u8], out: &mut [u8]) -> Answer
     ensures { λ r. ⌜ Leaves (differenceCall (now (table .entry)) (now (a .entry)) (now (b .entry))) (now (out .entry)) r (now (out .exit)) ⌝ }
 {
@@ -28,7 +28,7 @@ pub fn difference(table: &[u8], a: &[u8], b: &[u8], out: &mut [u8]) -> Answer
     difference_under(x, y, first_kinds(&known.kinds, count), a, b, out)
 }
 
-// The image after the list: 16, 17, 18.
+// Writes the image after the list: 16 if the list is late, 17 if there is a gap, 18 if an old element is not the image's.
 pub fn apply(table: &[u8], image: &[u8], list: &[u8], out: &mut [u8]) -> Answer
     ensures { λ r. ⌜ Leaves (applyCall (now (table .entry)) (now (image .entry)) (now (list .entry))) (now (out .entry)) r (now (out .exit)) ⌝ }
 {
@@ -43,7 +43,7 @@ pub fn apply(table: &[u8], image: &[u8], list: &[u8], out: &mut [u8]) -> Answer
     apply_under(x, y, first_kinds(&known.kinds, count), image, list, out)
 }
 
-// The join of two lists: 19, 20.
+// Writes the join of two lists: 19 if the second does not start where the first ends, 20 if they do not agree on an object.
 pub fn join(table: &[u8], first: &[u8], second: &[u8], out: &mut [u8]) -> Answer
     ensures { λ r. ⌜ Leaves (joinCall (now (table .entry)) (now (first .entry)) (now (second .entry))) (now (out .entry)) r (now (out .exit)) ⌝ }
 {
@@ -58,7 +58,7 @@ pub fn join(table: &[u8], first: &[u8], second: &[u8], out: &mut [u8]) -> Answer
     join_under(x, y, first_kinds(&known.kinds, count), first, second, out)
 }
 
-// The list turned back.
+// Writes the list turned back.
 pub fn turn_back(table: &[u8], list: &[u8], out: &mut [u8]) -> Answer
     ensures { λ r. ⌜ Leaves (turnCall (now (table .entry)) (now (list .entry))) (now (out .entry)) r (now (out .exit)) ⌝ }
 {

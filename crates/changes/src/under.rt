@@ -12,7 +12,7 @@ ghost use Rattle.history.specs.Verdict.{Leaves};
 ghost use Rattle.history.specs.Calls.{differenceUnder, applyUnder, joinUnder, turnUnder};
 ghost use Rattle.tables.specs.Outlines.{planAs};
 
-// The list from image a to image b.
+// Checks image a, then image b; then writes the list from a to b.
 pub fn difference_under(x: u8, y: u8, kinds: &[u8], a: &[u8], b: &[u8], out: &mut [u8]) -> Answer
     requires { ⌜ length (now kinds) ≤ 1024 ⌝ }
     ensures { λ r. ⌜ Leaves (differenceUnder (planAs x y (now (kinds .entry))) (now (a .entry)) (now (b .entry))) (now (out .entry)) r (now (out .exit)) ⌝ }
@@ -28,7 +28,7 @@ pub fn difference_under(x: u8, y: u8, kinds: &[u8], a: &[u8], b: &[u8], out: &mu
     write_difference(x, y, kinds, a, b, out)
 }
 
-// The image after the list.
+// Checks the image, then the list; then writes the image after the list.
 pub fn apply_under(x: u8, y: u8, kinds: &[u8], image: &[u8], list: &[u8], out: &mut [u8]) -> Answer
     requires { ⌜ length (now kinds) ≤ 1024 ⌝ }
     ensures { λ r. ⌜ Leaves (applyUnder (planAs x y (now (kinds .entry))) (now (image .entry)) (now (list .entry))) (now (out .entry)) r (now (out .exit)) ⌝ }
@@ -44,7 +44,7 @@ pub fn apply_under(x: u8, y: u8, kinds: &[u8], image: &[u8], list: &[u8], out: &
     write_applied(x, y, kinds, image, list, out)
 }
 
-// The join of two lists.
+// Checks the first list, then the second; then writes their join.
 pub fn join_under(x: u8, y: u8, kinds: &[u8], first: &[u8], second: &[u8], out: &mut [u8]) -> Answer
     requires { ⌜ length (now kinds) ≤ 1024 ⌝ }
     ensures { λ r. ⌜ Leaves (joinUnder (planAs x y (now (kinds .entry))) (now (first .entry)) (now (second .entry))) (now (out .entry)) r (now (out .exit)) ⌝ }
@@ -60,7 +60,7 @@ pub fn join_under(x: u8, y: u8, kinds: &[u8], first: &[u8], second: &[u8], out: 
     write_joined(x, y, kinds, first, second, out)
 }
 
-// The list turned back.
+// Checks the list; then writes it turned back.
 pub fn turn_under(x: u8, y: u8, kinds: &[u8], list: &[u8], out: &mut [u8]) -> Answer
     requires { ⌜ length (now kinds) ≤ 1024 ⌝ }
     ensures { λ r. ⌜ Leaves (turnUnder (planAs x y (now (kinds .entry))) (now (list .entry))) (now (out .entry)) r (now (out .exit)) ⌝ }

@@ -32,7 +32,7 @@ use Rattle.fields.specs.declared.Plain.{Plain}
 use Rattle.fields.specs.Fields.{shownOf, plainOf, valuesIn, named}
 use Rattle.fields.specs.Calls.{writeFieldsCall, stateRefused}
 
--- ---- a refusal that is told is settled, and the output stays
+-- ---- a call that refuses: its answer is told, and the output stays
 
 abbrev pub Refuses : Verdict (List ℕ) → Type 0
 Refuses v = (out : List ℕ) → Leaves v out (told v) out

@@ -1,5 +1,5 @@
-// An image changed in place: a list's entries are taken into it, or one element is put; then its position is set. To write the changed
-// image to the front of an output, it is copied there first and the copy is changed.
+// An image changed in place: a list's entries are taken into it, or one element is put; then its position is set. An image for
+// an output is first copied to its front, and the copy is changed.
 use forms::kind_at;
 use forms::place_of;
 use history::Answer;

@@ -32,7 +32,7 @@ pub fn answer_of(reading: Reading) -> Answer
     }
 }
 
-// The state of an object in an image, under its table.
+// Reads the state of an object in an image, under its table.
 pub fn read_state(table: &[u8], image: &[u8], object: u16) -> Reading
     ensures { λ r. ⌜ r ≡ readingOf (readStateCall (now (table .entry)) (now (image .entry)) object) ⌝ }
 {

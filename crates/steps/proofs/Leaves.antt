@@ -219,7 +219,7 @@ module _ (part : List ℕ) (w : ℕ) {old new : ℕ} {c : Change} (l : length pa
   pub number-inside : 2 ≤ length part
   number-inside = omega (arith, long)
 
-  -- puts keep the part's length
+  -- a put keeps the part's length
   pub old-inside : (b : List ℕ) → length b ≡ length part → 2 + w ≤ length b
   old-inside b p = omega (arith, long)
 

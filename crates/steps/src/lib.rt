@@ -21,7 +21,7 @@ pub enum Walk {
 
 // ---- which object is next
 
-// The first object, from the given one on, that either list names next, or the end.
+// The next object, from the given one on, that either list names; or the end.
 pub fn next(
     object: usize,
     end: usize,
@@ -140,7 +140,7 @@ pub fn meet_at(
     new == old
 }
 
-// Whether the join names the object: if both do, not where the first's old is the second's new.
+// Whether the join names the object: not if neither list does, nor if both do and the first's old is the second's new.
 pub fn joins_at(
     one: bool,
     other: bool,
@@ -164,7 +164,7 @@ pub fn joins_at(
     old != new
 }
 
-// In both: the first's old and the second's new, dropped if these are equal; in one: copied.
+// The object's change in the join. In both lists: the first's old and the second's new, dropped if these are equal; in one: copied.
 pub fn joined_at(
     one: bool,
     other: bool,

@@ -1,4 +1,4 @@
--- `changes::turn_back` meets its contract: a refused table's answer is the whole answer; under an accepted one the other forms decide.
+-- `changes::turn_back` meets its contract: a refused table's answer is the whole answer; under an accepted one the list decides.
 -- Assumes nothing.
 use borrow.Author.Needs.{needs}
 use Rattle.history.proofs.OutputLaws.{leaves-as}

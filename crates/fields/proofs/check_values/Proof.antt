@@ -1,4 +1,4 @@
--- `fields::check_values` meets its contract: the rows of the kind's layout.
+-- `fields::check_values` meets its contract: the rows walked are those of the kind's layout.
 -- Assumes nothing.
 use mathlib.Core.Path.{_∙_, ap}
 use borrow.Author.Needs.{needs}

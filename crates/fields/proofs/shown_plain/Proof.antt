@@ -1,4 +1,4 @@
--- `fields::shown_plain` meets its contract: the rows of the layout of the state's kind.
+-- `fields::shown_plain` meets its contract: the rows walked are those of the state's layout.
 -- Assumes nothing.
 use borrow.Author.Needs.{needs}
 use Rattle.elements.proofs.Answers.{in-table}

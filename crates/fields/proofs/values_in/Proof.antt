@@ -1,4 +1,4 @@
--- `fields::values_in` meets its contract: the rows of the kind's layout.
+-- `fields::values_in` meets its contract: the rows walked are those of the kind's layout.
 -- Assumes nothing.
 use mathlib.Core.Path.{_∙_, ap}
 use borrow.Author.Needs.{needs}
