@@ -8,8 +8,8 @@ fields.tsv has a line for each row of each layout: layout number, mnemonic of th
 lowest bit, width, highest admitted value, English name, type (bool, an enum of cases.tsv, or - where reserved).
 cases.tsv has a line for each named case of each enum: enum, value, case, meaning.
 types.tsv has a line for each type that is carried: X of the catalogue, type, number of its layout.
-A line that doesn't fit is refused. The names are held to the annex by law files that are kept by hand: proofs/Annex.antt of cases, states
-and elements is left as it is.
+A line that doesn't fit is refused. Law files kept by hand, proofs/Annex.antt of cases, states and elements, check the names against
+the annex; this program leaves them alone.
 """
 import itertools
 import os
@@ -20,14 +20,14 @@ import tempfile
 
 HERE = os.path.dirname(os.path.abspath(__file__))
 ROOT = os.path.dirname(HERE)
-CRATES = ['rows', 'cases', 'states', 'kinds', 'elements']  # which have files that are written
+CRATES = ['rows', 'cases', 'states', 'kinds', 'elements']  # with files written here
 BY_HAND = 'Annex.antt'
-# folders in which nothing else stands but BY_HAND
+# folders in which every file but BY_HAND is written here
 WHOLE = [f'{crate}/{part}' for crate in ('cases', 'states', 'kinds') for part in ('src', 'specs', 'proofs')] + ['elements/proofs/types']
 
 
 class Line(dict):
-    """A line of a table by its columns, which says where it stands if something is wrong with it."""
+    """A line of a table by its columns. If something is wrong with it, it says where it is."""
 
     def __init__(self, file, place, head, cells):
         super().__init__(zip(head, cells))
@@ -161,7 +161,7 @@ LISTED = '(λ c κs. lit< tt)'
 
 
 def told(n):
-    """In which arm of a match on an enum the code is: of each of the n arms, by its key."""
+    """For each of the n arms of a match on an enum: the key by which the code is in that arm."""
     return [f'(λ c. c .match .keys{i})' for i in range(1, n + 1)]
 
 
@@ -184,10 +184,10 @@ def rows_source():
             body += f'    {l.number}, {r.low}, {r.width}, {r.top}, // {l.mnemonic} {"reserved" if r.reserved else r.field}\n'
     return f'''// Every row of every layout. Written by catalogue/write.py from catalogue/fields.tsv.
 
-// How many rows there are.
+// The number of rows of all layouts together.
 pub const ROW_TOTAL: usize = {TOTAL};
 
-// Their numbers: of each row the layout, the lowest bit, the width and the highest admitted value (0: reserved).
+// Four numbers for each row: its layout, lowest bit, width and highest admitted value (0: reserved).
 pub type Cells = [u8; 4 * ROW_TOTAL];
 
 pub const ROWS: Cells = [
@@ -199,8 +199,8 @@ def rows_table():
     rows = '\n'.join(f'    {l.number} ∷ {r.low} ∷ {r.width} ∷ {r.top} ∷' for l in LAYOUTS for r in l.rows)
     layouts = ''.join(
         f'    layout {l.number} {l.first} {len(l.rows)} {l.bytes} {"true" if l.dat else "false"} ∷\n' for l in LAYOUTS)
-    return f'''-- Every row of every layout, {TOTAL} rows of layout, lowest bit, width and highest admitted value (0: reserved), in one constant
--- table; and the layouts, each with its number, its first row, how many, its width in bytes and whether bit 0 is DAT.
+    return f'''-- Every row of every layout in one constant table: {TOTAL} rows of layout, lowest bit, width and highest admitted value (0: reserved).
+-- Then the layouts: number, first row, number of rows, width in bytes, and whether bit 0 is DAT.
 -- Written by catalogue/write.py.
 use mathlib.Core.Bool.{{Bool, true, false}}
 use mathlib.Core.List.{{List, [], _∷_}}
@@ -223,7 +223,7 @@ unfoldable pub layouts : List Layout
 layouts =
 {layouts}    []
 
--- the layout at a place; none past the end
+-- the layout at a place; past the end, one without rows
 abbrev pub layoutAt : ℕ → Layout
 layoutAt i = getD layouts i (layout 0 0 0 0 false)
 
@@ -233,13 +233,15 @@ pub record Row : Type 0 where
   pub width : ℕ
   pub top : ℕ
 
--- the number at a place of the table; the row i; the number of the layout that it belongs to
+-- the number at a place of the table
 abbrev pub cellAt : ℕ → ℕ
 cellAt place = getD table place 0
 
+-- row i
 abbrev pub rowAt : ℕ → Row
 rowAt i = record {{ low = cellAt (4 * i + 1); width = cellAt (4 * i + 2); top = cellAt (4 * i + 3) }}
 
+-- the number of the layout that row i belongs to
 abbrev pub numberAt : ℕ → ℕ
 numberAt i = cellAt (4 * i)
 
@@ -254,9 +256,9 @@ rowsFrom i (suc n) = rowAt i ∷ rowsFrom (suc i) n
 
 def cases_source():
     uses = names(low(e) + x for e in ENUMS for x in ('Of', 'No'))
-    text = f'''// The floor of cases: the named cases of every field that is wider than one bit, each enum with its reading of a value and the
-// value of a case. Written by catalogue/write.py from catalogue/cases.tsv. It checks nothing: a value that has no case
-// is read as the first. Each arm of a match returns, which spares its check a local and a step.
+    text = f'''// The floor of cases: the named cases of every field wider than one bit. Each enum has `of`, the case of a value, and `number`, the
+// value of a case. Written by catalogue/write.py from catalogue/cases.tsv. It checks nothing: a value without a case is read as the
+// first. Each arm of a match returns, which spares the check a local and a step.
 ghost use mathlib.Core.Path.{{_≡_}};
 ghost use Rattle.cases.specs.Cases.{{{uses}}};
 '''
@@ -284,7 +286,8 @@ impl {e} {{
 
 
 def cases_specs():
-    text = '''-- Each multi-valued field's own named cases, in the order of their values; a case's value, and the case of a value.
+    text = '''-- For every field wider than one bit: its named cases in the order of their values, the case of a value (the first if it has none),
+-- and the value of a case.
 -- Written by catalogue/write.py.
 use mathlib.Core.List.{List, [], _∷_}
 use Prim.Native.Nat.{ℕ}
@@ -301,7 +304,7 @@ use lib.ListN.{getD}
 
 
 def cases_laws():
-    text = '''-- The value of the case of a value is that value where it is listed and else 0; the case of a case's value is that case.
+    text = '''-- A value read as a case and written back is the same if it is listed, and else 0; a case written as a value is read back.
 -- Written by catalogue/write.py. Assumes nothing.
 use mathlib.Core.Path.{_≡_, refl}
 use Prim.Native.Nat.{ℕ}
@@ -321,7 +324,7 @@ use Rattle.rows.proofs.Listed.{listed, named}
 def case_of_proof(e):
     n, l = len(ENUMS[e]), low(e)
     keys = [f'(λ c. sym (ap {l}Of (c .match .keys{i})))' for i in range(1, n + 1)]
-    return f'''-- `cases::{e}::of` meets its contract, arm by arm: a value that has no case is read as the first.
+    return f'''-- `cases::{e}::of` meets its contract, arm by arm: a value without a case is read as the first.
 -- Written by catalogue/write.py. Assumes nothing.
 use mathlib.Core.Path.{{sym, ap}}
 use lib.ListN.{{List·getD-eq-default}}
@@ -341,11 +344,11 @@ def module(struct):
 
 
 def states_source():
-    text = '''// The floor of states: a struct for each layout with its named fields, its width in bytes and its state without data, and the
-// way between a state and its fields' values in the rows' order, each in a module of its own. Written by catalogue/write.py from
-// catalogue/fields.tsv. It checks nothing. Beside a field stands its mnemonic in the first annex that prints the layout. All bits are
-// read in one place, `bits_of`: the check of a function costs its steps times its locals, and a field that is copied from there
-// costs neither.
+    text = '''// The floor of states: for each layout a module with its struct of named fields, its width in bytes, its state without data if bit 0
+// is DAT, and the way from a state to its fields' values in the rows' order and back. Written by catalogue/write.py from
+// catalogue/fields.tsv. It checks nothing. The comment beside a field is its mnemonic in the first annex that prints the layout. All
+// bits are read in one place, `bits_of`: the check of a function takes its steps times its locals, and a field copied from there adds
+// to neither.
 '''
     text += ''.join(f'mod {module(s)};\n' for s in sorted(STRUCTS)) + '\n'
     text += ''.join(f'pub use {module(s)}::{s};\n' for s in sorted(STRUCTS))
@@ -355,7 +358,7 @@ ghost use lib.Dec.{{eqb}};
 ghost use lib.ListN.{{getD}};
 ghost use Rattle.states.specs.States.{{bitsOf}};
 
-// The value at a place.
+// The value of the row at a place among its layout's rows.
 fn value(values: [u32; 24], place: usize) -> u32
     requires {{ ⌜ place < 24 ⌝ }}
     ensures {{ λ r. ⌜ r ≡ getD values place 0 ⌝ }}
@@ -363,7 +366,7 @@ fn value(values: [u32; 24], place: usize) -> u32
     values[place]
 }}
 
-// The bit at a place.
+// Whether that value is 1.
 fn bit(values: [u32; 24], place: usize) -> bool
     requires {{ ⌜ place < 24 ⌝ }}
     ensures {{ λ r. ⌜ r ≡ eqb (getD values place 0) 1 ⌝ }}
@@ -371,7 +374,7 @@ fn bit(values: [u32; 24], place: usize) -> bool
     values[place] == 1
 }}
 
-// The bits at the places where a layout has one.
+// The fields of one bit by their place among the rows, for each place at which some layout has one.
 struct Bits {{
 {''.join(f"    b{k}: bool,{chr(10)}" for k in BITS)}}}
 
@@ -423,7 +426,7 @@ pub struct {l.struct} {{
 
 
 def states_specs():
-    text = '''-- Each layout's state from its fields' values in the rows' order, and a state's values (a reserved row's is 0).
+    text = '''-- For each layout: the state from its fields' values in the rows' order, and a state's values (a reserved row's is 0).
 -- Written by catalogue/write.py.
 use mathlib.Core.List.{List, [], _∷_}
 use Prim.Native.Nat.{ℕ}
@@ -435,7 +438,7 @@ use Rattle.rows.specs.Fields.{bitNo}
     text += 'use Rattle.states.specs.declared.Bits.{Bits}\n'
     for s in STRUCTS:
         text += f'use Rattle.states.specs.declared.{module(s)}.{s}.{{{s}}}\n'
-    text += '\n-- b3 is whether the value of row 3 is 1: for each place among the rows at which some type has a field of one bit\nabbrev pub bitsOf : List ℕ → Bits\nbitsOf vs = record {\n'
+    text += '\n-- b3 says whether the value at place 3 is 1, and so for each place at which some layout has a field of one bit\nabbrev pub bitsOf : List ℕ → Bits\nbitsOf vs = record {\n'
     text += ''.join(f'  b{k} = eqb (getD vs {k} 0) 1;\n' for k in BITS) + '}\n'
     for l in LAYOUTS:
         text += f'\nabbrev pub {l.key}Of : List ℕ → {l.struct}\n{l.key}Of vs = record {{\n'
@@ -451,7 +454,7 @@ use Rattle.rows.specs.Fields.{bitNo}
 
 
 def states_laws():
-    text = '''-- Of each layout: the values of a state that is made of values are the listed ones, and a state's own values make it again.
+    text = '''-- For each layout: a state made from values keeps the listed ones (the others become 0), and a state's values make that state again.
 -- Written by catalogue/write.py. Assumes nothing.
 use mathlib.Core.Path.{_≡_}
 use mathlib.Core.List.{List, [], _∷_}
@@ -479,7 +482,7 @@ use Rattle.rows.proofs.Listed.{listedFrom, bit-listed, bit-back, reserved-liste
 
 
 def moments(read, step=1):
-    """The place right after each reading, and the lines that name it: from the last, c, back, each by way of the next."""
+    """The moment right after each read, and the lines that name it: from the last, c, backwards, each reached from the next."""
     at = [f'at-{name.replace("_", "-")}' for name in read[:-1]] + ['c']
     return at, ''.join(f'    let {earlier} = {later}{before(step)} in\n' for earlier, later in reversed(list(zip(at, at[1:]))))
 
@@ -555,16 +558,16 @@ returns c =
 {spec_end('values', answers + ['returns'])}'''
 
 
-# ---- kinds: what goes by the kind
+# ---- kinds: what depends on the kind
 
 def kinds_source():
     def match(on, value, arm):
         return f'    match {on} {{\n' + ''.join(f'        {arm(l)} => return {value(l)},\n' for l in LAYOUTS) + '    }\n}\n'
 
     kind = lambda l: f'Kind::{l.struct}'
-    text = f'''// The floor of kinds: the kinds of element, one for each layout, the state of any kind, and every function that goes by the kind.
-// Written by catalogue/write.py from catalogue/fields.tsv, where a type is added. It refuses nothing; the floors above go by the
-// layout.
+    text = f'''// The floor of kinds: the kinds of element, one for each layout, the state of any kind, and every function that has an arm
+// for each kind. Written by catalogue/write.py from catalogue/fields.tsv, where a layout is added. It refuses nothing. The floors above
+// read what they need of a kind from its layout.
 use rows::Layout;
 use rows::Marks;
 {''.join(f"use states::{s};{chr(10)}" for s in sorted(STRUCTS))}
@@ -597,7 +600,7 @@ pub struct Glance {{
     pub listed: bool,
 }}
 
-// A kind's layout.
+// A kind's layout: where its rows are in the table, its width, and whether it has DAT.
 pub fn layout(kind: Kind) -> Layout
     ensures {{ λ r. ⌜ r ≡ layoutOf kind ⌝ }}
 {{
@@ -610,12 +613,12 @@ pub fn layout(kind: Kind) -> Layout
             dat: {'true' if l.dat else 'false'},
         }}''', kind)
     text += '''
-// A kind's marks.
+// A kind's marks. The contract checks them against its rows.
 fn marks(kind: Kind) -> Marks
     ensures { λ r. ⌜ T (marked (r .add) (r .carry) (rowsOf kind)) ⌝ }
 {
 ''' + match('kind', lambda l: f'Marks {{ add: {l.add:#x}, carry: {l.carry:#x} }}', kind) + '''
-// Whether a glance shows that each field of an element's number has a listed value. Where it doesn't, the rows tell.
+// Whether a glance at an element's number shows that each field has a listed value. If it doesn't, the rows decide.
 pub fn shows_listed(word: u32, kind: Kind) -> bool
     ensures { λ r. ⌜ Shows (rowsOf kind) word r ⌝ }
 {
@@ -628,7 +631,7 @@ pub fn glance_at(s: &[u8], at: usize, kind: Kind) -> Glance
     ensures { λ r. ⌜ Glanced kind (now (s .entry)) at r ⌝ }
 {
 ''' + match('kind', lambda l: f'glance_by(s, at, kind, {l.struct}::WIDTH)', kind) + '''
-// The same, by the kind's width.
+// One arm of `glance_at`: the kind, and its width as a constant.
 fn glance_by(s: &[u8], at: usize, kind: Kind, width: usize) -> Glance
     requires { ⌜ (width ≡ widthOf kind) × (width ≤ 4) × (at + widthOf kind ≤ length (now s)) ⌝ }
     ensures { λ r. ⌜ Glanced kind (now (s .entry)) at r ⌝ }
@@ -638,7 +641,7 @@ fn glance_by(s: &[u8], at: usize, kind: Kind, width: usize) -> Glance
     Glance { word, listed }
 }
 
-// The kind whose layout has a number, if there is one.
+// The kind whose layout has this number, if there is one.
 pub fn sort_numbered(number: u8) -> Sort
     ensures { λ r. ⌜ r ≡ sortNumbered number ⌝ }
 {
@@ -652,12 +655,12 @@ pub fn kind_in(element: Element) -> Kind
     ensures { λ r. ⌜ r ≡ kindIn element ⌝ }
 {
 ''' + match('element', kind, lambda l: f'Element::{l.struct}(_)') + '''
-// A kind's state from its fields' values.
+// A kind's state from its fields' values in the rows' order.
 pub fn element_of(kind: Kind, values: [u32; 24]) -> Element
     ensures { λ r. ⌜ r ≡ elementOf kind values ⌝ }
 {
 ''' + match('kind', lambda l: f'Element::{l.struct}({l.struct}::of_values(values))', kind) + '''
-// The values of a state's fields.
+// A state's fields' values in the rows' order, padded with zeros.
 pub fn values_of(element: Element) -> [u32; 24]
     ensures { λ r. ⌜ r ≡ padded (elementValues element) ⌝ }
 {
@@ -667,8 +670,7 @@ pub fn values_of(element: Element) -> [u32; 24]
 
 def kinds_specs():
     kinds = ' ∷ '.join(f'Kind.{s}' for s in STRUCTS)
-    text = '''-- An element state is one of the layouts, each with its own struct: the kinds, the layout of each, and the state of any kind from
--- its fields' values.
+    text = '''-- The kinds of element, one for each layout; the layout of each; the state of any kind, from its fields' values and back.
 -- Written by catalogue/write.py.
 use mathlib.Core.Bool.{cond}
 use mathlib.Core.List.{List, [], _∷_, map}
@@ -686,7 +688,7 @@ use Rattle.kinds.specs.declared.Sort.{{Sort}}
 abbrev pub kinds : List Kind
 kinds = {kinds} ∷ []
 
--- a kind's place among them, by which its layout is found
+-- a kind's place among them, which is its layout's place among the layouts
 abbrev pub place : Kind → ℕ
 {''.join(f"place Kind.{l.struct} = {l.place}{chr(10)}" for l in LAYOUTS)}
 abbrev pub layoutOf : Kind → Layout
@@ -709,12 +711,12 @@ pub record Line : Type 0 where
 abbrev pub line : ℕ → Kind → Line
 line number kind = record {{ number = number; kind = kind }}
 
--- the kind of a number
+-- the kind that a number stands for, by the first line that has it
 abbrev pub sortIn : ℕ → List Line → Sort
 sortIn n [] = Sort.Other
 sortIn n (l ∷ ls) = cond (eqb n (l .number)) (Sort.Carried (l .kind)) (sortIn n ls)
 
--- each kind by the number of its layout
+-- a line for each kind, with the number of its layout
 abbrev pub numbered : List Line
 numbered = map (λ (k : Kind). line (layoutNo k) k) kinds
 
@@ -731,7 +733,7 @@ abbrev pub kindIn : Element → Kind
 
 
 def glance_specs():
-    return '''-- A glance at the element at a place: a device of the code, nothing to believe.
+    return '''-- A glance at the element at a place: a shortcut of the code, nothing to believe.
 -- Written by catalogue/write.py.
 use mathlib.Core.Path.{_≡_}
 use mathlib.Core.List.{List}
@@ -751,7 +753,7 @@ pub record Glanced (k : Kind) (b : List ℕ) (at : ℕ) (r : Glance) : Type 0 wh
 
 
 def lookup_law():
-    return '''-- A number is looked up among lines: in vain where it is none of theirs; and what a test says of every line holds of what is found.
+    return '''-- Looking up a number among lines: if no line has it, nothing is found; what a test says of every line holds of the line found.
 -- Written by catalogue/write.py. Assumes nothing.
 use mathlib.Core.Path.{_≡_, _∙_, refl, sym, ap, subst, subst⁻¹}
 use mathlib.Core.Bool.{Bool, true, false, cond, _&&_}
@@ -791,7 +793,8 @@ every-line test n (l ∷ ls) t {k} e = at (eqb n (l .number)) refl (every-line t
 
 
 def kinds_laws():
-    text = '''-- Of each kind: its place, that its number finds it, and that a state keeps the listed values and its own values make it again.
+    text = '''-- For each kind: it has a layout, the layout's number finds it, a state made from values keeps the listed ones, and a state's values
+-- make that state again.
 -- Written by catalogue/write.py. Assumes nothing.
 use mathlib.Core.Path.{_≡_, refl, ap}
 use mathlib.Core.List.{List, [], map}
@@ -808,7 +811,7 @@ use Rattle.kinds.specs.declared.Kind.{{Kind}}
 use Rattle.kinds.specs.declared.Element.{{Element}}
 use Rattle.kinds.specs.declared.Sort.{{Sort}}
 
--- two functions that agree on the list of all kinds agree on each: a table of a line per kind is one computation
+-- two functions that agree on the list of all kinds agree on each, so a table with a line for each kind is one computation
 pub every-kind : {{A : Type 0}} (f g : Kind → A) → map f kinds ≡ map g kinds → (k : Kind) → f k ≡ g k
 {''.join(f"every-kind {{A}} f g e Kind.{l.struct} = ap (λ (l : List A). getD l {l.place} (f Kind.{l.struct})) e{chr(10)}" for l in LAYOUTS)}
 pub placed : (k : Kind) → place k < length layouts
@@ -824,7 +827,7 @@ pub element-back : (e : Element) → elementOf (kindIn e) (padded (elementValues
 {''.join(f"element-back (Element.{l.struct} s) = ap Element.{l.struct} ({l.key}-back s){chr(10)}" for l in LAYOUTS)}
 pub element-kind : (k : Kind) (vs : List ℕ) → kindIn (elementOf k vs) ≡ k
 {''.join(f"element-kind Kind.{s} vs = refl{chr(10)}" for s in STRUCTS)}
--- the number 0 is read as the state of no values, which is the one without data
+-- the number 0 is read as the state of no values, the one without data
 pub zero-state : (k : Kind) → elementOf k (padded (valuesOf 0 (rowsOf k))) ≡ elementOf k []
 unfolding table layouts
 {''.join(f"zero-state Kind.{s} = refl{chr(10)}" for s in STRUCTS)}'''
@@ -845,7 +848,7 @@ use mathlib.Core.Path.{{sym, ap}}
 
 
 def refuted(n):
-    """In the last arm of a match on a number: that it is none of the n before, the first in front."""
+    """In the last arm of a match on a number: that it is none of the n before, beginning with the first."""
     rest = 'tt'
     for i in reversed(range(n)):
         rest = f'(c .match .rest{" .0" * (n - 1 - i)} .1, {rest})'
@@ -853,7 +856,7 @@ def refuted(n):
 
 
 def lookup_proof(crate, fn, says, uses, lines, n, opens, number):
-    """Of a match on a number that has an arm for each of n lines, and one for what is looked up in vain."""
+    """The proof of a match on a number with an arm for each of n lines, and one for a number that no line has."""
     answers = [f'(λ c. sym (ap (λ (n : ℕ). sortIn n {lines}) (c .match .keys{i + 1})))' for i in range(n)]
     opened = f'unfolding {opens}\n' if opens else ''
     name = fn.split('.')[-1].replace('_', '-')
@@ -870,7 +873,7 @@ other : tie.Need-{returns(n + 1)}
 
 def sort_numbered_proof():
     return lookup_proof(
-        'kinds', 'sort_numbered', "a number that is none of the layouts' is looked up in vain",
+        'kinds', 'sort_numbered', "a number that no layout has finds no kind",
         'use Rattle.rows.specs.Table.{layouts}\nuse Rattle.kinds.specs.Kinds.{sortIn, numbered}\nuse Rattle.kinds.proofs.Lookup.{vain}\n',
         'numbered', len(LAYOUTS), 'layouts', 'number')
 
@@ -899,7 +902,7 @@ def values_of_answer(i, l):
 
 def marks_proof():
     n = len(LAYOUTS)
-    text = f'''-- `kinds::marks` meets its contract: each kind's marks are held against its rows.
+    text = f'''-- `kinds::marks` meets its contract: each kind's marks are checked against its rows.
 -- Written by catalogue/write.py. Assumes nothing.
 use mathlib.Core.Path.{{_≡_, subst⁻¹}}
 use Prim.Native.Nat.{{ℕ}}
@@ -945,7 +948,7 @@ use Rattle.kinds.specs.Kinds.{{widthOf}}
 
 
 def glance_by_proof():
-    return f'''-- `kinds::glance_by` meets its contract: the number of as many bytes as the kind is wide, and what is shown of it.
+    return f'''-- `kinds::glance_by` meets its contract: the number of as many bytes as the kind is wide, and what a glance shows of it.
 -- Written by catalogue/write.py. Assumes nothing.
 use mathlib.Core.Path.{{_∙_, ap}}
 use Prim.Native.Nat.{{ℕ}}
@@ -969,7 +972,7 @@ returns c =
 # ---- elements: which types are carried
 
 def types_source():
-    text = f'''// Which types are carried under which catalogue's X, and by which kind. Written by catalogue/write.py from catalogue/types.tsv.
+    text = f'''// Which types are carried under each catalogue's X, and as which kind. Written by catalogue/write.py from catalogue/types.tsv.
 use kinds::Kind;
 use kinds::Sort;
 ghost use mathlib.Core.Path.{{_≡_}};
@@ -999,7 +1002,7 @@ fn under_{x}(ty: u8) -> Sort
 
 
 def types_specs():
-    text = '''-- Which types are carried under which catalogue's X, and by which kind. All others are not carried.
+    text = '''-- Which types are carried under each catalogue's X, and as which kind. No others are.
 -- Written by catalogue/write.py.
 use mathlib.Core.Bool.{cond}
 use mathlib.Core.List.{List, [], _∷_}
@@ -1010,10 +1013,10 @@ use Rattle.kinds.specs.declared.Kind.{Kind}
 use Rattle.kinds.specs.declared.Sort.{Sort}
 '''
     for x, types in CATALOGUES.items():
-        text += f'\n-- the types that are carried under X = {x}, each with its kind\nabbrev pub typesUnder{x} : List Line\ntypesUnder{x} =\n'
+        text += f'\n-- the types carried under X = {x}, each with its kind\nabbrev pub typesUnder{x} : List Line\ntypesUnder{x} =\n'
         text += ''.join(f'    line {t} Kind.{l.struct} ∷\n' for t, l in types.items()) + '    []\n'
     text += f'''
--- catalogues by their X, each with its types
+-- a catalogue: its X and the types carried under it
 pub record Catalogue : Type 0 where
   pub x : ℕ
   pub types : List Line
@@ -1037,14 +1040,14 @@ sortOf x type = sortUnder x type catalogues
 
 def under_proof(x):
     return lookup_proof(
-        'elements', f'types.under_{x}', 'a type that is not carried is looked up in vain',
+        'elements', f'types.under_{x}', 'a type that is not carried finds no kind',
         f'use Rattle.kinds.specs.Kinds.{{sortIn}}\nuse Rattle.kinds.proofs.Lookup.{{vain}}\nuse Rattle.elements.specs.Types.{{typesUnder{x}}}\n',
         f'typesUnder{x}', len(CATALOGUES[x]), '', 'ty')
 
 
 def sort_of_proof():
     n = len(CATALOGUES)
-    text = f'''-- `elements::types::sort_of` meets its contract: each catalogue by its own function, and an X that is none's is looked up in vain.
+    text = f'''-- `elements::types::sort_of` meets its contract: each catalogue by its own function, and an X that no catalogue has finds no kind.
 -- Written by catalogue/write.py. Assumes nothing.
 use mathlib.Core.Path.{{_∙_, sym, ap}}
 use Prim.Native.Nat.{{ℕ}}
@@ -1112,7 +1115,7 @@ def files():
 
 
 def remove_left(root, paths):
-    """Removes what is no longer written in the folders that are written whole, but for the law files kept by hand, and gives its paths."""
+    """Removes what is no longer written from the folders in WHOLE, except the law files kept by hand, and returns its paths."""
     crates, removed = os.path.join(root, 'crates'), []
     for part in WHOLE:
         for folder, _, found in os.walk(os.path.join(crates, part), topdown=False):

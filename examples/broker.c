@@ -35,7 +35,7 @@ int main(void)
     size_t image_len = answer[LENGTH];
     show("applied to A", image, image_len, answer);
 
-    /* the first time it is applied; once more, to the image it led to, it is late */
+    /* the first time it is applied; received again, over the image it led to, it is late */
     shefumbari_receive(table, sizeof table, a, sizeof a, list, list_len, image, sizeof image, standing, answer);
     show("received", NULL, 0, answer);
     shefumbari_receive(table, sizeof table, b, sizeof b, list, list_len, image, sizeof image, standing, answer);

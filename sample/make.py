@@ -1,7 +1,7 @@
 #!/usr/bin/env python3
-"""Writes from each station's text, NAME.txt, what stands beside it: NAME.bin, the table followed by its image, and
-NAME.listing, the text that the listing program has to write. The elements in the text are made by hand from the norm's annexes, and
-the listing is made from the text: neither is the program's. Other texts: make.py FILE.."""
+"""Writes two files beside each station's text, NAME.txt: NAME.bin, the table followed by its image, and NAME.listing, the text that
+the listing program has to write. The elements in the text are made by hand from the norm's annexes, and the listing is made from the
+text: neither comes from the program. Other texts: make.py FILE.."""
 import glob
 import os
 import sys

@@ -1,5 +1,5 @@
-/* One call under catalogue 1.0, some times over: benchmark FACE CALL OBJECTS ENTRIES REPEATS. Of check_element, OBJECTS
-   is the kind, and 31 is type 1 under 3.0.
+/* Makes one call under catalogue 1.0, REPEATS times: benchmark FACE CALL OBJECTS ENTRIES REPEATS. For check_element,
+   OBJECTS is the kind, and 31 is type 1 under 3.0.
    check_first_byte is check_table on labels that differ in the first byte only, check_colliding on labels of one hash.
    Prints the bytes of the table and of the other forms; what runs is counted from outside. */
 #include "faces.h"
@@ -29,7 +29,8 @@ static void station_table(uint32_t objects)
     }
 }
 
-/* Labels of one length that differ in the first byte only. Of each type there are 93 such; one more is a byte longer. */
+/* Labels of one length that differ in the first byte only. Each type has 93 of them; further ones are a byte
+   longer. */
 static void first_byte_table(uint32_t objects)
 {
     static const uint8_t types[] = {1, 2, 3, 4, 5, 6, 7, 8, 9, 22, 23};
@@ -44,7 +45,7 @@ static void first_byte_table(uint32_t objects)
     }
 }
 
-/* The next image differs in so many elements, spread over the table, from both that came before. */
+/* The next image: it differs in this many elements, spread over the table, from both that came before. */
 static void change(struct form *image, const struct form *before, const struct form *earlier, uint32_t entries)
 {
     uint32_t objects = objects_of(&table);

@@ -1,5 +1,5 @@
-/* The library and the handmade calls against the reference on random and damaged requests, and the paper's laws on the
-   library itself:
+/* Compares the library and the handmade C with the reference on random and damaged requests, and tests the paper's laws
+   on the library itself:
    compare [REQUESTS [SEED]] */
 #include "laws.h"
 #include "requests.h"
@@ -11,7 +11,7 @@
 
 enum { REQUESTS = 120000, SEED = 831, REQUESTS_A_ROUND = 60, IMAGES = 4, LISTS = 7 };
 
-/* What a round works on: a table, four images one after the other, and lists between them. */
+/* What a round works on: a table, four images that follow one another, and lists between them. */
 static struct form table, images[IMAGES], lists[LISTS];
 static const struct {
     uint8_t from, to;
@@ -73,7 +73,7 @@ static const struct form *list_from(uint8_t image)
 
 static void choose_forms(struct request *request)
 {
-    bool any = once_in(4); /* else they fit one another */
+    bool any = once_in(4); /* else they fit each other */
     if (takes_images(request->call)) {
         uint8_t image = (uint8_t)draw(3);
         request->first = &images[image];
@@ -112,7 +112,7 @@ static void damage_forms(struct request *request)
     *(which == 0 ? &request->table : which == 1 ? &request->first : &request->second) = form;
 }
 
-/* A table followed by its image; now and then cut, lengthened, or as long as data may be and one more. */
+/* A table followed by its image; now and then cut, lengthened, or as long as data may be, or one byte more. */
 static void join_data(struct request *request)
 {
     static struct form data;
@@ -159,7 +159,7 @@ static void choose_state(struct request *request)
     request->object = (uint16_t)(once_in(12) ? count + draw(2) : once_in(30) ? 65535 : draw(count));
     uint8_t x = table.bytes[CATALOGUE];
     uint8_t type = request->object < count ? table.bytes[entry_of(&table, request->object)] : draw_type(x);
-    uint8_t kind = catalogues[once_in(4) ? draw_catalogue() : x][type]; /* the type's own, or by another catalogue */
+    uint8_t kind = catalogues[once_in(4) ? draw_catalogue() : x][type]; /* of the type under its own catalogue or another */
     request->kind = kind;
     memcpy(request->fields, pool_fields(kind, pool_element(kind)), 128);
     uint32_t *field = &request->fields[draw(FIELDS_MOST)];
@@ -168,7 +168,7 @@ static void choose_state(struct request *request)
     if (once_in(8))
         request->fields[0] = 0;
     if (once_in(2))
-        memset(request->fields + FIELDS_MOST, 0xFF, (32 - FIELDS_MOST) * sizeof(uint32_t)); /* beyond every kind's */
+        memset(request->fields + FIELDS_MOST, 0xFF, (32 - FIELDS_MOST) * sizeof(uint32_t)); /* beyond the fields of every kind */
     if (once_in(8))
         request->kind = once_in(3) ? request->kind + 256 : draw(KINDS);
     request->position = draw_position();
@@ -192,7 +192,7 @@ static size_t ample_room(const struct request *request)
     }
 }
 
-/* An output of nothing or with room, and then one near the length the answer told. */
+/* First an output of no bytes or with ample room, then one near the length that the answer gave. */
 static void compare_rooms(struct request *request)
 {
     request->room = once_in(4) ? 0 : ample_room(request);
@@ -233,7 +233,7 @@ static void make_single(uint8_t x, uint8_t type)
     first_image(&images[0], &table);
 }
 
-/* Every field of a type, written with each value up to 17 and read again, with and without data. */
+/* Writes every field of a type with each value up to 17 and reads it back, with and without data. */
 static void sweep_states(uint8_t x, uint8_t type, uint8_t kind)
 {
     static struct form written;
@@ -252,8 +252,8 @@ static void sweep_states(uint8_t x, uint8_t type, uint8_t kind)
     }
 }
 
-/* A state of every kind for an object of a type, with and without data, and with another field set: 22 comes before
-   12. */
+/* Writes a state of every kind to an object of a type, with and without data, and with another field set: 22 comes
+   before 12. */
 static void sweep_kinds(uint8_t x, uint8_t type, uint8_t own)
 {
     make_single(x, type);
@@ -269,7 +269,7 @@ static void sweep_kinds(uint8_t x, uint8_t type, uint8_t own)
 }
 
 /* Two objects of one type, and one of another between them: labels of each length that are the same, differ in one byte
-   at each place, or of which one has a byte more in front or behind. Then an object that repeats for certain. */
+   at each place, or of which one has an extra byte at the front or the end. Then an object that repeats in any case. */
 static void sweep_labels(void)
 {
     for (size_t len = 3; len <= 32; len++)
@@ -298,7 +298,7 @@ static void sweep_labels(void)
             }
 }
 
-/* Objects that only their first bytes tell apart, all of one hash; and then one of them once more. */
+/* Objects of one hash that differ in their first bytes only; and then one of them again. */
 static void sweep_collisions(void)
 {
     const struct request request = {.call = CHECK_TABLE, .table = &bent_table};
@@ -317,7 +317,7 @@ static void sweep_collisions(void)
 
 static unsigned long elements, elements_differing;
 
-/* The answers of one element alone */
+/* Compares the answers to one element by itself. */
 static void compare_element(uint8_t x, uint8_t y, uint8_t type, const uint8_t *bytes, size_t len)
 {
     uint32_t expected[8], found[8], made[8];
@@ -329,7 +329,7 @@ static void compare_element(uint8_t x, uint8_t y, uint8_t type, const uint8_t *b
         memcmp(expected, found, sizeof expected) != 0 || memcmp(expected, made, sizeof expected) != 0;
 }
 
-/* Every element of one and two bytes, and many of the longer. */
+/* Every element of one or two bytes, and many of the longer ones. */
 static void sweep_elements(uint8_t x, uint8_t type, uint8_t kind)
 {
     size_t width = layouts[kind].width;
@@ -363,7 +363,7 @@ int main(int argc, char **argv)
     seed(start);
     open_buffers();
     fill_pool();
-    setvbuf(stdout, NULL, _IOLBF, 0); /* what was printed stays, should a call be stopped */
+    setvbuf(stdout, NULL, _IOLBF, 0); /* so that nothing printed is lost if a call is stopped */
     printf("compare: %lu requests, seed %" PRIu64 "\n", requests, start);
     unsigned long laws[256] = {0}; /* by the table's X */
     for (unsigned long round = 0; compared < requests; round++) {

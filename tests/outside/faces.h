@@ -1,4 +1,5 @@
-/* The three that are run alike: the library by its header, the C made for speed by hand, and the reference. */
+/* The three implementations that are run alike: the library by its header, the C made by hand for speed, and the
+   reference. */
 #ifndef FACES_H
 #define FACES_H
 
@@ -29,7 +30,7 @@ struct face {
 
 extern const struct face library, handmade, reference;
 
-/* By name, NULL where there is none. */
+/* The face of that name, or NULL. */
 const struct face *face_named(const char *name);
 
 #endif

@@ -2,7 +2,7 @@
 
 #include "faces.h"
 
-/* The norm's catalogues and types are below these. */
+/* The numbers of the norm's catalogues and types are below these. */
 enum { CATALOGUES = 4, TYPES = 26, POOL = 128 };
 
 /* Random numbers: splitmix64 */
@@ -58,7 +58,7 @@ uint8_t draw_type(uint8_t x)
     return type;
 }
 
-/* The first behind the last */
+/* The next type after this one, and the first after the last. */
 static uint8_t next_type(uint8_t x, uint8_t type)
 {
     do
@@ -114,7 +114,7 @@ void flip_bit(uint8_t *bytes, size_t len)
 static uint8_t pool[KINDS][POOL][4];
 static uint32_t fields[KINDS][POOL][32];
 
-/* The fields by a table and an image of one object. */
+/* Reads the fields through a table and an image of one object. */
 static void fill_kind(uint8_t x, uint8_t type, uint8_t kind)
 {
     uint32_t answer[8];
@@ -184,7 +184,7 @@ static uint8_t printable_not_colon(void)
     return byte >= ':' ? (uint8_t)(byte + 1) : byte;
 }
 
-/* A label that is the object's own by the byte before its colon and the last one. */
+/* A label that no other object has: the byte before its first colon and the last byte depend on the object. */
 static size_t put_label(uint8_t *label, uint32_t object)
 {
     size_t before = once_in(2) ? 0 : draw(15), after = once_in(2) ? 0 : draw(15), len = 0;
@@ -245,8 +245,8 @@ void add_object(struct form *table, uint8_t type, const char *label, size_t len)
     refit(table);
 }
 
-/* At most 822 labels of one hash are alike behind their third byte. So here 822 have 33 as their fourth, and the others
-   34. */
+/* At most 822 labels of one hash are alike after their third byte. So 822 of these have 33 as their fourth byte, and the
+   others 34. */
 void colliding_table(struct form *table, uint32_t objects)
 {
     enum { TYPE = 4, CROWDED = 529, VALUES = 94 };
@@ -292,14 +292,14 @@ void next_image(struct form *image, const struct form *table, const struct form 
     put_number(image->bytes + 7, 4, draw_position());
     for (uint32_t object = 0; object < objects_of(table); object++) {
         uint8_t kind = kind_at(table, entry);
-        if (once_in(rate)) /* back to what it was, or to anything */
+        if (once_in(rate)) /* to what it was earlier, or to anything */
             memcpy(image->bytes + at, once_in(3) ? earlier->bytes + at : pool_element(kind), layouts[kind].width);
         at += layouts[kind].width;
         entry += 2 + (size_t)table->bytes[entry + 1];
     }
 }
 
-/* Damage. Places are looked up within the form's length, since an earlier damage may have cut it. */
+/* Damage. Places are chosen within the form's length, since earlier damage may have cut it. */
 
 static void put_byte(struct form *form, size_t at, uint8_t byte)
 {
@@ -318,7 +318,7 @@ static void resize(struct form *form, size_t len)
         refit(form);
 }
 
-/* What can happen to any form; count_at is where its count stands, 0 where it has none. */
+/* What can happen to any form; count_at is where its count is, 0 if it has none. */
 static void damage_any(struct form *form, size_t count_at)
 {
     static const uint32_t lengths[] = {0, 4, 5, 6, 7, 12, 13, 0x7FFFFFFFu, 0xFFFFFFFBu, 0xFFFFFFFCu, 0xFFFFFFFFu};
@@ -361,14 +361,14 @@ void damage_table(struct form *table)
     case 0: put_byte(table, at, once_in(2) ? draw_type(draw_catalogue()) : (uint8_t)draw(KINDS)); break;
     case 1: put_byte(table, at + 1, once_in(2) ? label_lengths[draw(10)] : (uint8_t)(label_len + draw(3) - 1)); break;
     case 2: put_byte(table, place, label_bytes[draw(9)]); break;
-    case 3: /* the colon moved to an edge, the others taken away */
+    case 3: /* the colons removed, and mostly one put at an edge or next to it */
         for (size_t i = 0; i < label_len; i++)
             if (table->bytes[at + 2 + i] == ':')
                 table->bytes[at + 2 + i] = 'x';
         if (!once_in(3))
             put_byte(table, at + 2 + (once_in(2) ? draw(2) : label_len - 1 - draw(2)), ':');
         break;
-    default: /* the entry once more at the end, whole or with a byte of its label or its type changed */
+    default: /* the entry repeated at the end, whole or with a byte of its label or its type changed */
         if (count == OBJECTS_MOST || table->len + 2 + label_len > FORM_MOST)
             break;
         memcpy(table->bytes + table->len, table->bytes + at, 2 + label_len);
@@ -408,7 +408,7 @@ void damage_image(struct form *image, const struct form *table)
     switch (draw(4)) {
     case 0: nudge_position(image, 7); break;
     case 1: memcpy(image->bytes + at, pool_element(kind), width); break;
-    case 2: image->bytes[at + width - 1] &= 0xFE; break; /* DAT, but for type 22 */
+    case 2: image->bytes[at + width - 1] &= 0xFE; break; /* DAT, except for type 22 */
     case 3: flip_bit(image->bytes + at, width); break;
     }
 }

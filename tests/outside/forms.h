@@ -11,7 +11,7 @@ struct form {
     uint8_t bytes[FORM_MOST];
 };
 
-/* Random numbers, the same for the same seed; two draws stand in two statements, so that their order is fixed. */
+/* Random numbers, the same for the same seed. Two draws take two statements, so that their order is fixed. */
 void seed(uint64_t start);
 uint32_t draw(uint32_t below);
 bool once_in(uint32_t n);
@@ -21,7 +21,7 @@ uint32_t draw_position(void);
 uint8_t draw_catalogue(void);
 uint8_t draw_type(uint8_t x);
 
-/* Goes to every type of every catalogue. */
+/* Visits every type of every catalogue. */
 void each_type(void (*visit)(uint8_t x, uint8_t type, uint8_t kind));
 
 uint32_t number(const uint8_t *bytes, size_t width);
@@ -34,14 +34,14 @@ void fill_pool(void);
 const uint8_t *pool_element(uint8_t kind);
 const uint32_t *pool_fields(uint8_t kind, const uint8_t *element);
 
-/* Accepted forms, tables of any catalogue or of X. An image that follows another differs in some of its elements, and
-   takes some from a third. */
+/* Accepted forms; a table is of any catalogue or of that of X. An image that follows another differs in some elements,
+   some of them taken from an earlier image. */
 void random_table(struct form *table, uint32_t objects);
 void empty_table(struct form *table, uint8_t x);
 void add_object(struct form *table, uint8_t type, const char *label, size_t len);
 
-/* Objects of one type, of 32 bytes and of one hash: h is the type, and then (9 h + b) mod 1,024 for each byte b of the
-   label. They differ in the first four bytes only, and most of them in the first three. */
+/* Objects of one type, with labels of 32 bytes and one hash: h begins as the type and becomes (9 h + b) mod 1,024 for
+   each byte b of the label. The labels differ in the first four bytes only, and most of them in the first three. */
 void colliding_table(struct form *table, uint32_t objects);
 
 void first_image(struct form *image, const struct form *table);
@@ -49,7 +49,7 @@ void next_image(struct form *image, const struct form *table, const struct form 
 void put_image(struct form *image, const struct form *table, uint32_t position,
                const uint8_t *(*element)(uint8_t kind));
 
-/* Damage in one or some places; what stands in the form need not be whole. */
+/* Damages a form in one or more places; the form need not be whole. */
 void damage_table(struct form *table);
 void damage_image(struct form *image, const struct form *table);
 void damage_list(struct form *list, const struct form *table);
@@ -58,7 +58,7 @@ void damage_list(struct form *list, const struct form *table);
 void refit(struct form *form);
 
 /* The table's count of objects; in an accepted table, where an object's entry begins, and the kind of the object whose
-   entry begins there. */
+   entry begins at a place. */
 uint32_t objects_of(const struct form *table);
 size_t entry_of(const struct form *table, uint32_t object);
 uint8_t kind_at(const struct form *table, size_t entry);

@@ -1,11 +1,11 @@
-/* The calls in C as one would make them by hand for speed: repeated objects are found by a hash table, an element is
-   checked by one addition and one mask, and an answer is written in one pass. A refused element goes to the reference
-   for its code and bit. */
+/* The calls in C as one would write them by hand for speed: repeated objects are found by a hash table, an element is
+   checked by one addition and one mask, and an output is written in one pass. The reference gives the code and bit of a
+   refused element. */
 #include "handmade.h"
 
 #include "paper.h"
 
-/* The longest answers: a list that names every object, and the lines of a listing. */
+/* The longest outputs: a list that names every object, and the lines of a listing. */
 enum {
     LIST_MOST = LIST_ENTRIES + OBJECTS_MOST * (2 + 4 + 4),
     TEXT_MOST = sizeof "255.255 4294967295 1024" + OBJECTS_MOST * (sizeof "1023 23  01234567" + LABEL_MOST)
@@ -41,7 +41,7 @@ static void put4(uint8_t *bytes, uint32_t value)
 #define ADDED(low, width, top) ((((uint64_t)1 << (width)) - 1 - (top)) << (low))
 #define CARRY(low, width, top) ((uint64_t)1 << ((low) + (width)))
 
-/* By kind, the fields that don't admit every value; reserved ones have 0 alone. */
+/* By kind, the fields that don't admit every value; a reserved one admits only 0. */
 #define SIG(part) part(1, 3, 3) | part(4, 4, 12) | part(31, 1, 0)
 #define IC(part) part(3, 5, 0)
 #define PV(part) part(1, 2, 2) | part(4, 4, 0)
@@ -58,7 +58,7 @@ static void put4(uint8_t *bytes, uint32_t value)
 #define BITS(width) (0xFFFFFFFFu >> (32 - 8 * (width)))
 #define KIND(width, limits) {limits(ADDED), limits(CARRY), BITS(width), BITS(width), width}
 
-/* Silent are the bits that are 0 where DAT is: none of the kind without it. */
+/* silent: the bits that must be 0 if DAT is 0; none for the kind without DAT. */
 static const struct kind {
     uint64_t added, carries;
     uint32_t bits, silent;
@@ -78,7 +78,7 @@ static const struct kind {
     [31] = KIND(4, SIG_OF_3),
 };
 
-/* An element as a number, by the four bytes that end with it: of every form more than these come before an element. */
+/* An element as a number, read from the four bytes that end with it: every form has enough bytes before an element. */
 static uint32_t word_of(const uint8_t *element, const struct kind *kind)
 {
     return number4(element + kind->width - 4) & kind->bits;
@@ -165,8 +165,8 @@ static bool check_label(const uint8_t *label, size_t len, uint32_t *hash)
     return colon != NULL && colon != label && colon != end - 1;
 }
 
-/* The slot for an entry that is not yet there, NULL where it is. Entries of one hash stand one after the other; 0 is
-   free. */
+/* The slot for an entry that is not there yet, NULL if it is. Entries of one hash are in consecutive slots; 0 is a free
+   slot. */
 static uint16_t *free_slot(uint16_t *slots, uint32_t mask, uint32_t hash, const uint8_t *table, const uint8_t *entry)
 {
     for (;; hash++) {
@@ -189,7 +189,7 @@ static bool check_table(const uint8_t *bytes, size_t len, struct table *table, u
     uint32_t count = number2(bytes + TABLE_COUNT);
     if (count > OBJECTS_MOST)
         return refused(answer, 4);
-    /* the hash table has where entries begin. At least half is free, and a short table has little to clear. */
+    /* the hash table holds where entries begin. At least half is free, and a short table has little to clear. */
     uint16_t slots[2 * OBJECTS_MOST];
     uint32_t size = 1;
     while (size < 2 * count)
@@ -352,7 +352,7 @@ void handmade_read_state(const uint8_t *table, size_t table_len, const uint8_t *
     answer[5] = t.kinds[object];
 }
 
-/* The element of a state handed in, where it is admitted. */
+/* The element of a given state, if it is admitted. */
 static bool check_state(uint8_t kind, const uint32_t *fields, uint32_t object, uint32_t *word, uint32_t *answer)
 {
     *word = 0;
@@ -430,7 +430,7 @@ static void put_list_head(uint8_t *list, size_t len, const struct table *table, 
     put2(list + LIST_COUNT, count);
 }
 
-/* An answer of which the length is known only now, made in the output or in a buffer of its own. */
+/* For an output whose length is known only now; it was made in out or in a separate buffer. */
 static void hand_over(const uint8_t *made, size_t len, uint8_t *out, size_t out_len, uint32_t *answer)
 {
     if (!room(out_len, len, answer))
@@ -506,7 +506,7 @@ void handmade_join(const uint8_t *table, size_t table_len, const uint8_t *first,
                    const uint8_t *second, size_t second_len, uint8_t *out, size_t out_len, uint32_t answer[8])
 {
     struct table t;
-    uint8_t list[LIST_MOST]; /* never in the output, since 20 may come half-way */
+    uint8_t list[LIST_MOST]; /* never in the output, since 20 may be found half-way */
     uint8_t *to = list + LIST_ENTRIES;
     uint32_t count = 0;
     if (!check_table(table, table_len, &t, answer) || !check_list(&t, first, first_len, answer) ||
@@ -622,7 +622,7 @@ static uint8_t *put_listing(uint8_t *to, const struct table *table, const uint8_
     return to;
 }
 
-/* The data split by the table's own length, and both forms checked. */
+/* Splits the data by the table's length, and checks both forms. */
 static bool check_data(const uint8_t *data, size_t len, struct table *table, const uint8_t **image, uint32_t *answer)
 {
     if (len > LISTED_MOST || len < 4 || len - 4 < number4(data))

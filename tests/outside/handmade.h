@@ -1,4 +1,4 @@
-/* The paper in C, by hand for speed: each call of shefumbari.h under the name handmade_, with the same parameters. */
+/* The paper in C, made by hand for speed: each call of shefumbari.h under the name handmade_, with the same parameters. */
 #ifndef HANDMADE_H
 #define HANDMADE_H
 

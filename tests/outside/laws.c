@@ -7,7 +7,7 @@
 static const struct form *under;
 static uint32_t answer[8];
 
-/* The library's answer with room for any, its code given back and the bytes in made. */
+/* Makes a call of the library with room for any output; returns the code, with the output in made. */
 static uint32_t make(struct form *made, enum call call, const struct form *first, const struct form *second)
 {
     struct request request = {.call = call, .table = under, .first = first, .second = second};
@@ -53,7 +53,7 @@ static void hold_differences(const struct form *a, const struct form *b, const s
     hold(makes(&ad, JOIN, &ac, &cd) && makes(&ad, JOIN, &ab, &bd), "three lists join alike, whichever pair is first");
 }
 
-/* Any image and list: where it applies, it is the difference. */
+/* Any image and list: if the list applies, it is the difference. */
 static void hold_only_list(const struct form *image, const struct form *list)
 {
     static struct form reached;
@@ -127,7 +127,7 @@ static void hold_states(const struct form *image, uint16_t object)
          "a label is the object's own bytes in the table");
 }
 
-/* Receive calls since fresh: the tallies sum to them, and each call is apply with one tally more. */
+/* Receives from a fresh standing: the tallies sum to the number of calls, and each call is apply plus one in a tally. */
 static void hold_tallies(const struct form images[4], const struct form *lists[3])
 {
     struct request receive = {.call = RECEIVE, .table = under, .room = images[0].len};

@@ -4,7 +4,7 @@
 
 #include "forms.h"
 
-/* Images that follow one another under an accepted table, and two lists in any state. */
+/* Takes images that follow one another under an accepted table, and two lists, accepted or not. */
 void hold_laws(const struct form *table, const struct form images[4], const struct form *first,
                const struct form *second);
 

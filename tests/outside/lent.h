@@ -1,5 +1,5 @@
-/* Buffers lent to a call: each ends where memory ends, so that a byte touched behind it stops the program, and has
-   guard bytes before it. */
+/* Buffers lent to a call. Each ends at a page that can't be accessed, so that touching a byte after it stops the
+   program, and has guard bytes before it. */
 #ifndef LENT_H
 #define LENT_H
 
@@ -13,14 +13,14 @@ struct lent {
     uint8_t guard;
 };
 
-/* A buffer of up to most bytes, with the guard byte before it. */
+/* A buffer of up to most bytes, with copies of the guard byte before it. */
 struct lent lent_new(size_t most, uint8_t guard);
 
-/* Lends len bytes; gives where they begin. */
+/* Lends len bytes; returns where they begin. */
 uint8_t *lend(struct lent *lent, size_t len);
 uint8_t *lend_copy(struct lent *lent, const void *bytes, size_t len);
 
-/* Whether the guard bytes stand. */
+/* Whether the guard bytes are as they were. */
 bool guard_stands(const struct lent *lent);
 
 #endif

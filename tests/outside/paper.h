@@ -27,13 +27,13 @@ enum {
     LIST_TO = 11,
     LIST_COUNT = 15,
     LIST_ENTRIES = 17,
-    /* kinds of element: above their numbers, the most fields of one, and the one without DAT */
+    /* kinds of element: a number above all of theirs, the most fields of one, and the one without DAT */
     KINDS = 32,
     FIELDS_MOST = 24,
     KIND_WITHOUT_DAT = 22
 };
 
-/* A field from bit low up: the highest value admitted is 0 where it is reserved. */
+/* A field from bit low up; its highest admitted value, top, is 0 if it is reserved. */
 struct row {
     uint8_t low, width, top;
 };
@@ -46,7 +46,7 @@ struct layout {
 
 extern const struct layout layouts[KINDS];
 
-/* By X, with 0 as Y: the kind of each type, 0 where it isn't carried. NULL where the catalogue isn't. */
+/* By X, for Y = 0: the kind of each type, 0 if it isn't carried. NULL if the catalogue isn't. */
 extern const uint8_t *const catalogues[256];
 
 static inline const uint8_t *kinds_under(uint8_t x, uint8_t y)
@@ -54,7 +54,7 @@ static inline const uint8_t *kinds_under(uint8_t x, uint8_t y)
     return y == 0 ? catalogues[x] : NULL;
 }
 
-/* 10, 11 and 12, field by field */
+/* Checks 10, 11 and 12, field by field. */
 bool check_fields(uint8_t kind, const uint8_t *element, uint32_t object, uint32_t *answer);
 
 /* Answers */
@@ -73,7 +73,7 @@ static inline void succeed(uint32_t *answer, size_t length)
     give(answer, 0, NO_OBJECT, NO_BIT, length);
 }
 
-/* The refusals are false, so that a check can return them. */
+/* Refusals return false, so that a check can return them. */
 static inline bool refused_bit(uint32_t *answer, uint32_t code, uint32_t object, uint32_t bit)
 {
     give(answer, code, object, bit, 0);
@@ -90,7 +90,7 @@ static inline bool refused(uint32_t *answer, uint32_t code)
     return refused_bit(answer, code, NO_OBJECT, NO_BIT);
 }
 
-/* 21 comes last: false where the output is shorter than the answer. */
+/* 21 comes last: false if the output is shorter than what is to be written. */
 static inline bool room(size_t out_len, size_t length, uint32_t *answer)
 {
     if (out_len >= length)

@@ -140,7 +140,7 @@ static bool label_good(const uint8_t *label, size_t len)
     return colon != NULL && colon != label && colon != label + len - 1;
 }
 
-/* Two labels of one length, from the last byte to the first. */
+/* Compares two labels of one length, from the last byte to the first. */
 static bool same_label(const uint8_t *label, const uint8_t *earlier, size_t len)
 {
     for (size_t i = len; i > 0; i--)
@@ -149,7 +149,7 @@ static bool same_label(const uint8_t *label, const uint8_t *earlier, size_t len)
     return true;
 }
 
-/* Whether the entry at has type and label of an earlier one. Lengths are compared first. */
+/* Whether the entry at this place has the type and label of an earlier one. Lengths are compared first. */
 static bool repeated(const uint8_t *table, size_t at)
 {
     for (size_t earlier = TABLE_ENTRIES; earlier < at; earlier += 2 + table[earlier + 1])
@@ -276,7 +276,7 @@ static bool next_entry(struct cursor *cursor, struct entry *entry)
     return true;
 }
 
-/* A list being written, or only measured where out is null. */
+/* A list being written, or only measured if out is null. */
 struct draft {
     uint8_t *out;
     size_t len;
@@ -366,7 +366,7 @@ void reference_read_state(const uint8_t *table, size_t table_len, const uint8_t 
     answer[5] = t.kinds[object];
 }
 
-/* The element of a state handed in, where it is admitted. */
+/* The element of a given state, if it is admitted. */
 static bool check_state(uint8_t kind, const uint32_t *fields, uint32_t object, uint32_t *word, uint32_t *answer)
 {
     *word = 0;
@@ -483,7 +483,7 @@ void reference_apply(const uint8_t *table, size_t table_len, const uint8_t *imag
     succeed(answer, image_len);
 }
 
-/* Walks both lists by ascending object; 20 names the lowest that doesn't meet. */
+/* Walks both lists by ascending object; 20 names the lowest object whose elements don't meet. */
 static bool joined(struct cursor first, struct cursor second, struct draft *draft, uint32_t *answer)
 {
     struct entry f, s;
@@ -642,7 +642,7 @@ static void put_listing(uint8_t *to, const struct table *table, const uint8_t *i
     }
 }
 
-/* The data split by the table's own length, and both forms checked. */
+/* Splits the data by the table's length, and checks both forms. */
 static bool check_data(const uint8_t *data, size_t len, struct table *table, const uint8_t **image, uint32_t *answer)
 {
     if (len > LISTED_MOST || len < 4 || len - 4 < number(data, 4))

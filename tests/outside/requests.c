@@ -36,9 +36,9 @@ static const uint32_t codes[CALLS] = {
 };
 
 unsigned long compared, passed, failed;
-static unsigned long counts[256][CALLS][CODES]; /* by X, 0 where the catalogue isn't carried or can't be read */
+static unsigned long counts[256][CALLS][CODES]; /* by X, 0 if the catalogue isn't carried or can't be read */
 
-/* What each face is lent. The guards differ, so that a look before a buffer shows. */
+/* What each face is lent. The guards differ, so that a read before a buffer shows. */
 static struct buffers {
     struct lent table, first, second, out, fields, standing, answer;
 } buffers[3];
@@ -198,7 +198,7 @@ struct outcome perform(const struct face *face, const struct request *request)
     return outcome;
 }
 
-/* Runs a request on a face and holds what it leaves to what the reference left. */
+/* Runs a request on a face and compares what it leaves with what the reference left. */
 static void compare_face(const struct face *face, const struct request *request, const struct outcome *expected)
 {
     struct outcome found = perform(face, request);
@@ -217,7 +217,7 @@ static void compare_face(const struct face *face, const struct request *request,
         fail(request, "standing");
 }
 
-/* X of the catalogue under which a request is looked at, 0 where there is none. */
+/* X of the catalogue that a request is under, 0 if there is none. */
 static uint8_t catalogue_of(const struct request *request)
 {
     const uint8_t named[] = {request->x, request->y}, *at = named;

@@ -1,4 +1,4 @@
-/* A request to any of the calls, run on the reference, the library and the handmade calls, and compared. */
+/* A request to any of the calls, run on the reference, the library and the handmade C, and compared. */
 #ifndef REQUESTS_H
 #define REQUESTS_H
 
@@ -22,7 +22,7 @@ enum call {
     CALLS
 };
 
-/* table is the element of check_element and the data of listing; calls look only at what they take. */
+/* table is also the element of check_element and the data of listing; a call uses only what it takes. */
 struct request {
     enum call call;
     const struct form *table, *first, *second;
@@ -39,23 +39,23 @@ struct outcome {
 };
 
 extern const char *const call_names[CALLS];
-/* Requests compared; and of requests and laws, those as they should be and the faults found. */
+/* Requests compared; and of requests and laws, those that passed and the faults found. */
 extern unsigned long compared, passed, failed;
 
 void open_buffers(void);
 bool writes(enum call call);
 
-/* Runs a request on one face; what touches anything but its outputs is counted as failed. */
+/* Runs a request on one face; touching anything but its outputs counts as failed. */
 struct outcome perform(const struct face *face, const struct request *request);
 
-/* Runs a request on all three and compares; gives the reference's outcome. */
+/* Runs a request on all three and compares; returns the reference's outcome. */
 struct outcome compare(const struct request *request);
 
 /* One law: counted as passed or failed. */
 void hold(bool law, const char *name);
 
-/* How many requests there were by catalogue, call and code; a code that a call can give under a catalogue and that none
-   reached is counted as failed. */
+/* Prints how many requests there were by catalogue, call and code. If all_reached, a code that a call can give under a
+   catalogue and that no request reached counts as failed. */
 void print_counts(bool all_reached);
 
 #endif

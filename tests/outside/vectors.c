@@ -1,9 +1,9 @@
 /* Runs the requests of a vectors file against a face: vectors library|handmade|reference FILE.
    A line is: CALL name=value .. > CODE OBJECT BIT LENGTH name=value .., inputs on the left, outputs on the right.
-   Bytes are lower-case hex, - where empty; a lent output stands whole, at entry on the left and at exit on the right. A
+   Bytes are lower-case hex, - if empty; a lent output is given whole, at entry on the left and at exit on the right. A
    state is KIND:v,v,.. or none, where the kind is the type, or 301 for the signal of catalogue 3.0; a standing is
-   applied,late,gap,other. An element's catalogue is 1.0 where none is named. A listing's text is what the program
-   prints: of a refusal the line that is made from its numbers. */
+   applied,late,gap,other. An element's catalogue is 1.0 if none is named. A listing's text is what the program
+   prints: for a refusal, the line made from its numbers. */
 #include "faces.h"
 
 #include <inttypes.h>
@@ -14,7 +14,7 @@
 
 enum { WORDS_MOST = 16, GUARD = 16, GUARD_BYTE = 0xE7 };
 
-/* One side of a line: its words, as they stand. */
+/* One side of a line: its words in order. */
 struct side {
     char *words[WORDS_MOST];
     size_t count;
@@ -38,7 +38,7 @@ static void malformed(const char *what)
 
 /* Values by name */
 
-/* NULL where there is none. */
+/* NULL if there is none. */
 static const char *text_if_any(const struct side *side, const char *name)
 {
     size_t len = strlen(name);
@@ -61,7 +61,7 @@ static uint32_t number_of(const struct side *side, const char *name)
     return (uint32_t)strtoull(text_of(side, name), NULL, 10);
 }
 
-/* Numbers with commas between; gives how many. */
+/* Reads numbers with commas between; returns how many. */
 static size_t numbers_in(const char *text, uint32_t *numbers, size_t most)
 {
     size_t count = 0;
@@ -76,7 +76,7 @@ static size_t numbers_in(const char *text, uint32_t *numbers, size_t most)
     }
 }
 
-/* A state's fields, and its kind by the face's number */
+/* A state's fields; returns its kind as a face numbers it, 31 for 301. */
 static uint32_t state_in(const char *text, uint32_t *fields)
 {
     char *values;
@@ -87,7 +87,7 @@ static uint32_t state_in(const char *text, uint32_t *fields)
     return kind == 301 ? 31 : kind;
 }
 
-/* Bytes with a guard before and behind */
+/* Bytes with a guard before and after them */
 struct lent {
     uint8_t *whole, *bytes;
     size_t len;
@@ -138,7 +138,7 @@ static void print_bytes(const char *what, const struct lent *lent)
     printf("\n");
 }
 
-/* Compares what was lent with what is expected there at exit, and takes both back. */
+/* Compares what was lent with what is expected there at exit, and frees both. */
 static void hold(struct lent lent, struct lent expected, const char *what)
 {
     if (lent.len != expected.len || memcmp(lent.bytes, expected.bytes, lent.len) != 0) {
@@ -180,7 +180,7 @@ static void run_label(const struct face *face, const struct side *in, const stru
     hold(table, bytes_of(in, "table"), "table");
 }
 
-/* What the program prints is the text, or the line of these numbers. */
+/* What the program prints is the text, or the line made from these numbers. */
 static void hold_printed(const struct lent *text, const uint32_t *numbers)
 {
     char line[64];
@@ -190,7 +190,7 @@ static void hold_printed(const struct lent *text, const uint32_t *numbers)
         differs("text and numbers of the line");
 }
 
-/* The text with room to spare, with none, one byte short and into nothing; a refusal is the same in each. */
+/* The text with room to spare, with none to spare, one byte short, and with no room; a refusal is the same in each. */
 static void run_listing(const struct face *face, const struct side *in, const struct side *out, const uint32_t *numbers)
 {
     struct lent text = bytes_of(out, "text");
@@ -251,7 +251,7 @@ static void run(const struct face *face, const struct side *in, const struct sid
         return;
     }
 
-    /* the others take a table and one or two forms more */
+    /* the others take a table and up to two more forms */
     memset(answer, 0xFF, sizeof answer);
     static const struct {
         const char *call, *first, *second;

@@ -1,5 +1,5 @@
 -- The named cases of each field wider than one bit, from value 0 up, as annexes 1 and 3 of NAS 831 print them.
--- Kept by hand and typed from the annex, whose line stands beside each case; catalogue/write.py leaves this file as it is.
+-- Kept by hand and typed from the annex, whose line is beside each case; catalogue/write.py leaves this file alone.
 -- A value that the annex reserves has no case: it is read as the first, and refused with 11 before it is read.
 -- Assumes nothing.
 use mathlib.Core.Path.{_≡_, refl}

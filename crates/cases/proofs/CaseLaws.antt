@@ -1,4 +1,4 @@
--- The value of the case of a value is that value where it is listed and else 0; the case of a case's value is that case.
+-- A value read as a case and written back is the same if it is listed, and else 0; a case written as a value is read back.
 -- Written by catalogue/write.py. Assumes nothing.
 use mathlib.Core.Path.{_≡_, refl}
 use Prim.Native.Nat.{ℕ}

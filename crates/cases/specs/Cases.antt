@@ -1,4 +1,5 @@
--- Each multi-valued field's own named cases, in the order of their values; a case's value, and the case of a value.
+-- For every field wider than one bit: its named cases in the order of their values, the case of a value (the first if it has none),
+-- and the value of a case.
 -- Written by catalogue/write.py.
 use mathlib.Core.List.{List, [], _∷_}
 use Prim.Native.Nat.{ℕ}

@@ -1,6 +1,6 @@
-// The floor of cases: the named cases of every field that is wider than one bit, each enum with its reading of a value and the
-// value of a case. Written by catalogue/write.py from catalogue/cases.tsv. It checks nothing: a value that has no case
-// is read as the first. Each arm of a match returns, which spares its check a local and a step.
+// The floor of cases: the named cases of every field wider than one bit. Each enum has `of`, the case of a value, and `number`, the
+// value of a case. Written by catalogue/write.py from catalogue/cases.tsv. It checks nothing: a value without a case is read as the
+// first. Each arm of a match returns, which spares the check a local and a step.
 ghost use mathlib.Core.Path.{_≡_};
 ghost use Rattle.cases.specs.Cases.{signalKindOf, signalKindNo, signalAspectOf, signalAspectNo, mixedGaugeIndicationOf, mixedGaugeIndicationNo, autoRouteIndicationOf, autoRouteIndicationNo, changerAspectOf, changerAspectNo, boardAspectOf, boardAspectNo, sectionOccupancyOf, sectionOccupancyNo, overlapOf, overlapNo, gaugePresenceOf, gaugePresenceNo, pointsSectionOccupancyOf, pointsSectionOccupancyNo, legOccupancyOf, legOccupancyNo, legShownOf, legShownNo, pointsDetectionOf, pointsDetectionNo, pointsLockingOf, pointsLockingNo, heaterIndicationOf, heaterIndicationNo, earthFaultIndicationOf, earthFaultIndicationNo, boundaryMovementOf, boundaryMovementNo, autoRouteOf, autoRouteNo, routerIndicationOf, routerIndicationNo};
 

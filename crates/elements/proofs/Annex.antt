@@ -1,5 +1,5 @@
--- Which types are carried; a word of each, by the number that annex 1 or 3 of NAS 831 gives the type, is the state that the annex's bits
--- say; and which types two catalogues read alike.
+-- Which types are carried; that a word of each type, by its number in annex 1 or 3 of NAS 831, is read as the state that the annex's bits
+-- say; which bits are reserved; and which types two catalogues read alike.
 -- Kept by hand and typed from the papers and the annexes' tables of types; the bits and the cases are in `Annex` of `states` and of `cases`.
 -- Assumes nothing.
 use mathlib.Core.Path.{_≡_, refl, ap}
@@ -25,7 +25,7 @@ abbrev oneOf : List ℕ → ℕ → Bool
 oneOf [] type = false
 oneOf (t ∷ ts) type = cond (eqb type t) true (oneOf ts type)
 
--- among catalogues, each an X and its types
+-- whether one of these catalogues, each an X and its types, carries a type
 abbrev pub carriedBy : List (ℕ × List ℕ) → ℕ → ℕ → Bool
 carriedBy [] x type = false
 carriedBy (c ∷ cs) x type = cond (eqb x (c .0)) (oneOf (c .1) type) (carriedBy cs x type)
@@ -56,7 +56,7 @@ carried-exactly x type = carried-under x type catalogues
 
 -- ---- a word of each type
 
--- under X the type is carried by the state's kind, and the word is read as the state
+-- under X the type is carried as the state's kind, and the word is read as the state
 abbrev pub Reads : ℕ → ℕ → ℕ → Element → Type 0
 Reads x type w e = (sortOf x type ≡ Sort.Carried (kindIn e)) × (stateOf (kindIn e) w ≡ e)
 
@@ -91,7 +91,7 @@ by-type w = (
 
 -- ---- what is reserved
 
--- the reserved rows among rows, each by its lowest bit, which 10 names, and its highest
+-- the reserved rows, each by its lowest bit, which code 10 names, and its highest
 abbrev reservedIn : List Row → List (ℕ × ℕ)
 reservedIn [] = []
 reservedIn (r ∷ rs) = cond (eqb (r .top) 0) ((r .low, (r .low + r .width) - 1) ∷ reservedIn rs) (reservedIn rs)
@@ -124,7 +124,7 @@ rows-counted = (refl, refl)
 abbrev agree : Bool → Bool → Bool
 agree a b = cond a b (not b)
 
--- of one type, alike under both or, if it is type 1, under one catalogue alone
+-- one type has one kind under both catalogues, but type 1 has one only where they are the same
 abbrev alikeUnder : ℕ → ℕ → Kind → ℕ → ℕ → Kind → Bool
 alikeUnder x type k y type′ j = not (eqb type type′) || agree (sameKind k j) (eqb x y || not (eqb type 1))
 
@@ -135,14 +135,14 @@ agreed false false t = refl
 same-type : (type : ℕ) (b : Bool) → T (not (eqb type type) || b) → T b
 same-type type b t = rw (eq-eqb type type refl) at t
 
--- "Type 1 .. has a state of its own. Types 2 to 7 keep their admitted values": but for type 1 they are of one kind
+-- "Type 1 .. has a state of its own. Types 2 to 7 keep their admitted values": every type but 1 is of one kind in both
 pub one-kind : (x y type : ℕ) → carried x type ≡ true → carried y type ≡ true → sameKind (kindOf x type) (kindOf y type) ≡ (eqb x y || not (eqb type 1))
 unfolding layouts
 one-kind x y type cx cy =
     let other = every-carried (λ (x : ℕ) (type : ℕ) (k : Kind). allTypes (alikeUnder x type k) catalogues) tt x type cx in
     agreed _ _ (same-type type _ (every-carried (alikeUnder x type (kindOf x type)) other y type cy))
 
--- a kind's number is the type's, but that of type 1 under catalogue 3.0, which is 31: what C sees
+-- a kind's number, which C sees, is the type's, except that of type 1 under catalogue 3.0, which is 31
 pub kind-number : (x type : ℕ) → carried x type ≡ true → layoutNo (kindOf x type) ≡ cond (eqb x 3) (cond (eqb type 1) 31 type) type
 unfolding layouts
 kind-number x type c = eqb→eq _ _ (every-carried (λ (x : ℕ) (type : ℕ) (k : Kind). eqb (layoutNo k) (cond (eqb x 3) (cond (eqb type 1) 31 type) type)) tt x type c)

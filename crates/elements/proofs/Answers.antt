@@ -52,7 +52,7 @@ pub shown : (k : Kind) {w : ℕ} {listed stale : Bool} → Shows (rowsOf k) w li
 unfolding elementCheck
 shown k s on e off = rw (s .accepted on, e, off)
 
--- .. of the number that was read at a place
+-- .. and so of the number that was read at a place
 pub number-at : (k : Kind) {b : List ℕ} {at : ℕ} {g : Glance} {f : Finding} → Glanced k b at g → f ≡ elementCheck k (g .word) → f ≡ elementCheck k (number (take (widthOf k) (drop at b)))
 number-at k s e = e ∙ ap (elementCheck k) (s .read)
 

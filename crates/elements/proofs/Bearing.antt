@@ -1,4 +1,4 @@
--- The rows that bear the number of a kind's layout, from its first row on, are the kind's rows.
+-- The rows with the number of a kind's layout, from its first row on, are the kind's rows.
 -- Assumes nothing.
 use Prim.Native.Nat.{_-_}
 use mathlib.Core.Path.{_≡_, refl}

@@ -1,4 +1,4 @@
--- The covering rule at each kind; a kind is known by its layout's number.
+-- The covering rule for each kind; and kinds with the same layout number are the same.
 -- Assumes nothing.
 use mathlib.Core.Path.{_≡_, ap}
 use Prim.Native.Nat.{ℕ, _*_, _<_}
@@ -12,7 +12,7 @@ use Rattle.kinds.proofs.KindLaws.{placed, kind-found}
 pub cover : (k : Kind) → Covered (layoutOf k)
 cover k = layout-covered (place k) (placed k)
 
--- each bit of a kind's element is held by exactly one of its rows
+-- each bit of a kind's element is in exactly one of its rows
 pub bit-once : (k : Kind) (b : ℕ) → b < 8 * widthOf k → holding b (rowsOf k) ≡ 1
 bit-once k b h = held-once (layoutOf k) (cover k) b h
 

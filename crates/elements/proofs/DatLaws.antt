@@ -1,5 +1,5 @@
--- "Where DAT is 0, all other bits must be 0": a state is accepted unless it breaks this, and then refused with 12; a number is accepted
--- where it keeps this and its fields have listed values.
+-- "Where DAT is 0, all other bits must be 0": a state that breaks this is refused with 12, any other is accepted; a number is
+-- accepted exactly if it keeps this and its fields have listed values.
 -- Assumes nothing.
 use mathlib.Core.Path.{_≡_, refl, _∙_}
 use mathlib.Core.Bool.{Bool, true, false}
@@ -44,7 +44,7 @@ module _ (k : Kind) (w : ℕ) where
   unfolding datRule
   dat-stale s = rw (s .dat, ne-eqb _ _ (s .silent), ne-eqb _ _ (s .other))
 
-  -- ---- accepted exactly where it is not stale
+  -- ---- accepted exactly if it is not stale
 
   pub dat-either : ((Stale k w → ⊥) × (datRule k w ≡ Finding.Accepted)) ⊎ Stale k w
   dat-either = go (layoutOf k .dat) (eqb (w % 2) 1) (eqb w 0) refl refl refl
@@ -70,7 +70,7 @@ module _ (e : Element) where
   pub state-stale : Stale (kindIn e) (wordOf e) → elementCheck (kindIn e) (wordOf e) ≡ Finding.Refused (codeAt 12 0)
   state-stale s = state-check e ∙ dat-stale (kindIn e) (wordOf e) s
 
--- a number is accepted exactly where each field has a listed value and it is not stale
+-- a number is accepted exactly if each field has a listed value and it is not stale
 pub element-exactly : (k : Kind) (w : ℕ) → (elementCheck k w ≡ Finding.Accepted) ↔ (Within (rowsOf k) (valuesOf w (rowsOf k)) × (Stale k w → ⊥))
 unfolding elementCheck
 element-exactly k w = (
@@ -78,7 +78,7 @@ element-exactly k w = (
   (λ h. rw (within-accepted w (rowsOf k) (h .0)) (not-stale k w (h .1))),
 )
 
--- .. and is refused exactly where a field has not: the lowest such is named; or else where it is stale, with 12
+-- .. and is refused exactly if a field has not, naming the lowest such field, or else if it is stale, with 12
 pub element-first : (k : Kind) (w : ℕ) {x : Refusal} → FirstUnlisted w (rowsOf k) x → elementCheck k w ≡ Finding.Refused x
 unfolding elementCheck
 element-first k w q = rw (refuses-first w (rowsOf k) q)

@@ -1,4 +1,4 @@
--- What the check of an element can find, and with which bit: nothing, 10, 11 or 12; of 0 nothing.
+-- What the check of an element can find: nothing, or 10, 11 or 12, and with which bit; and nothing in the number 0.
 -- Assumes nothing.
 use mathlib.Core.Path.{_≡_, refl}
 use mathlib.Core.Bool.{Bool, true, false, cond}
@@ -23,7 +23,8 @@ pub record RowOf (k : Kind) (r : Row) : Type 0 where
   pub above : List Row
   pub parts : rowsOf k ≡ below ++ (r ∷ above)
 
--- how an element of a kind may be refused: with the lowest bit of a reserved field, with that of another field, with bit 0, which is DAT
+-- how an element of a kind may be refused: 10 with the lowest bit of a reserved field, 11 with that of another field, 12 with bit 0,
+-- which is DAT
 pub data Refuses (k : Kind) : (code bit : ℕ) → Type 0 where
   reserved : {r : Row} → RowOf k r → r .top ≡ 0 → Refuses k 10 (r .low)
   unlisted : {r : Row} → RowOf k r → (r .top ≡ 0 → ⊥) → Refuses k 11 (r .low)
@@ -40,7 +41,7 @@ element-refuses k w {x} e = go (element-names k w e)
     go (inl q) = rw (q .told) (field (q .row) (record { below = q .below; above = q .above; parts = q .parts }) (eqb (q .row .top) 0) refl)
     go (inr q) = rw (q .2) (silent (q .1 .dat))
 
--- 0 is an element of every kind
+-- the number 0 is an accepted element of every kind
 pub zero-found : (k : Kind) → elementCheck k 0 ≡ Finding.Accepted
 unfolding elementCheck
 zero-found k = rw (zero-accepted (rowsOf k)) (not-stale k 0 (λ s. s .other refl))

@@ -1,5 +1,5 @@
--- The paper's known elements, all at once by computation: what is found of each, and the two states that it names; elements with two
--- faults, of which the lower is named, 12 last; words of the signal of catalogue 3.0; and which kinds lack DAT.
+-- By computation: what is found of each of the paper's known elements, and the two states that the paper names; elements with two
+-- faults, of which the lower is named, and 12 last; words of the signal of catalogue 3.0; and which kinds lack DAT.
 -- Assumes nothing.
 use mathlib.Core.Path.{_≡_, refl}
 use mathlib.Core.Bool.{true, false, cond}
@@ -41,14 +41,14 @@ unfolding table layouts datRule elementCheck
 two-faults = (refl, refl, refl, refl, refl)
 
 -- 3.0's signal: EAR alone, low, a router in automatic block, every highest listed value, without data; IND 13, GRP_ARS 3, EAR where DAT is 0.
--- Two of these words are none of 1.0's signal: TIPO 4 and the reserved bit 31
+-- 1.0's signal refuses two of these words: TIPO 4 and the reserved bit 31
 pub new-signal : (map (elementCheck (kindOf 3 1)) (0x00000009 ∷ 0x00000007 ∷ 0x80000001 ∷ 0xBFFFFFCF ∷ 0x00000000 ∷ 0x000000D1 ∷ 0xC0000001 ∷ 0x00000008 ∷ []) ≡
     Finding.Accepted ∷ Finding.Accepted ∷ Finding.Accepted ∷ Finding.Accepted ∷ Finding.Accepted ∷ Finding.Refused (codeAt 11 4) ∷ Finding.Refused (codeAt 11 30) ∷ Finding.Refused (codeAt 12 0) ∷ [])
     × (map (elementCheck (kindOf 1 1)) (0x00000009 ∷ 0x80000001 ∷ []) ≡ Finding.Refused (codeAt 11 1) ∷ Finding.Refused (codeAt 10 31) ∷ [])
 unfolding table layouts kindOf datRule elementCheck
 new-signal = (refl, refl)
 
--- typed from the annexes: of which kinds bit 0 is no DAT
+-- the kinds whose bit 0 is not DAT; which they are is typed from the annexes
 abbrev lacking : List Kind → List Kind
 lacking [] = []
 lacking (k ∷ ks) = cond (layoutOf k .dat) (lacking ks) (k ∷ lacking ks)

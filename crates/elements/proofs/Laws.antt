@@ -1,4 +1,4 @@
--- Legal states and accepted numbers are in bijection: both round trips, over any kind; and the laws that a caller goes by.
+-- Legal states and accepted numbers correspond one to one: both round trips, for any kind; and the laws that callers use.
 -- Assumes nothing.
 use mathlib.Core.Path.{_≡_, _∙_, refl, sym, ap, ap₂, subst}
 use mathlib.Core.List.{List, []}
@@ -19,7 +19,7 @@ use Rattle.kinds.specs.declared.Element.{Element}
 use Rattle.elements.proofs.Covering.{cover}
 use Rattle.kinds.proofs.KindLaws.{element-listed, element-back, element-kind, zero-state}
 
--- the values of any state are such as its rows admit
+-- the values of any state are admitted by its rows
 pub state-within : (e : Element) → Within (rowsOf (kindIn e)) (elementValues e)
 state-within e =
     subst (Within (rowsOf (kindIn e)))
@@ -36,7 +36,7 @@ word-fits e =
 pub word-small : (e : Element) → wordOf e < 4294967296
 word-small e = lt-of-lt-of-le (word-fits e) (pow-mono {j = 32} (let g = cover (kindIn e) .narrow in omega arith))
 
--- a state's kind is the one that it is read as
+-- a state that is read as a kind is of that kind
 pub state-kind : (k : Kind) (w : ℕ) → kindIn (stateOf k w) ≡ k
 unfolding stateOf
 state-kind k w = element-kind k _
@@ -53,7 +53,7 @@ pub state-word-state : (e : Element) → stateOf (kindIn e) (wordOf e) ≡ e
 unfolding stateOf
 state-word-state e = ap (λ (vs : List ℕ). elementOf (kindIn e) (padded vs)) (own-values e) ∙ element-back e
 
--- number, state, number: the same number, where the fields are accepted
+-- number, state, number: the same number, if the fields are accepted
 fields-word : (k : Kind) (w : ℕ) → w < 2 ^ (8 * widthOf k) → checkRows w (rowsOf k) ≡ Finding.Accepted → wordOf (stateOf k w) ≡ w
 unfolding wordOf stateOf
 fields-word k w h ok =
@@ -78,11 +78,11 @@ pub accepted-state : (k : Kind) (w : ℕ) → elementCheck k w ≡ Finding.Accep
 unfolding stateRead stateOf
 accepted-state k w ok = ap (λ (f : Finding). elementOf k (onFinding f (padded (valuesOf w (rowsOf k))) (λ r. replicate 24 0))) (accepted-fields k w ok)
 
--- .. so a legal state, written and read, is that state
+-- .. so a legal state that is written and read is the same state
 pub read-written : (e : Element) → elementCheck (kindIn e) (wordOf e) ≡ Finding.Accepted → stateRead (kindIn e) (wordOf e) ≡ e
 read-written e ok = accepted-state (kindIn e) (wordOf e) ok ∙ state-word-state e
 
--- .. and those of a number with a refused field as zeros
+-- .. and those of a number with a refused field are read as zeros
 pub refused-state : (k : Kind) (w : ℕ) {r : Refusal} → checkRows w (rowsOf k) ≡ Finding.Refused r → stateRead k w ≡ elementOf k (replicate 24 0)
 unfolding stateRead
 refused-state k w bad = ap (λ (f : Finding). elementOf k (onFinding f (padded (valuesOf w (rowsOf k))) (λ r. replicate 24 0))) bad
@@ -102,7 +102,7 @@ pub zero-word : (k : Kind) → wordOf (elementOf k []) ≡ 0
 unfolding stateOf
 zero-word k = ap wordOf (sym (zero-state k)) ∙ fields-word k 0 (pow-pos (8 * widthOf k)) (zero-accepted (rowsOf k))
 
--- the number with zeros behind the values
+-- the zeros after the values don't change the number
 pub compose-padded : (e : Element) → composeOf (rowsOf (kindIn e)) (padded (elementValues e)) ≡ wordOf e
 unfolding wordOf
 compose-padded e = compose-append (rowsOf (kindIn e)) (elementValues e) (replicate (24 - length (elementValues e)) 0) (state-within e)

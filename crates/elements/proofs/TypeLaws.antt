@@ -1,5 +1,5 @@
--- A catalogue is looked up by its X: in vain where it is none's. What a test says of every type that is carried, by its line in the
--- catalogue, holds of each and its kind.
+-- Looking up a catalogue by its X: if none has this X, no kind is found. And what a test says of every line of the catalogues holds of
+-- every type that is carried and its kind.
 -- Assumes nothing.
 use mathlib.Core.Path.{_≡_, _∙_, refl, sym, ap, subst⁻¹}
 use mathlib.Core.Bool.{Bool, true, false, cond, _&&_}

@@ -16,17 +16,19 @@ abbrev pub isCarried : Sort → Bool
 isCarried (Sort.Carried k) = true
 isCarried Sort.Other = false
 
--- the kind (of what is not carried: any)
+-- the kind; of what is not carried, one that means nothing
 abbrev pub carriedKind : Sort → Kind
 carriedKind (Sort.Carried k) = k
 carriedKind Sort.Other = Kind.Signal
 
+-- whether a type is carried under a catalogue's X, and its kind
 unfoldable pub carried : ℕ → ℕ → Bool
 carried x type = isCarried (sortOf x type)
 
 unfoldable pub kindOf : ℕ → ℕ → Kind
 kindOf x type = carriedKind (sortOf x type)
 
+-- the kind whose layout has a number
 unfoldable pub kindNumbered : ℕ → Kind
 kindNumbered n = carriedKind (sortNumbered n)
 
@@ -35,7 +37,7 @@ sameKind j k = eqb (layoutNo j) (layoutNo k)
 
 -- ---- the check of an element
 
--- where DAT is 0, all other bits must be 0; a kind without DAT is free of this rule
+-- where DAT is 0, all other bits must be 0; a kind without DAT has no such rule
 unfoldable pub datRule : Kind → ℕ → Finding
 datRule k w =
     cond (layoutOf k .dat)
@@ -48,13 +50,14 @@ elementCheck k w = onFinding (checkRows w (rowsOf k)) (datRule k w) Finding.Refu
 
 -- ---- states
 
--- the state of an accepted number; the number of a state
+-- the state of an accepted number
 unfoldable pub stateOf : Kind → ℕ → Element
 stateOf k w = elementOf k (padded (valuesOf w (rowsOf k)))
 
+-- the number of a state
 unfoldable pub wordOf : Element → ℕ
 wordOf e = composeOf (rowsOf (kindIn e)) (elementValues e)
 
--- a state by the fields as they are read: of an accepted number it is `stateOf`
+-- the state that is read from any number: zeros if a field is refused; of an accepted number it is `stateOf`
 unfoldable pub stateRead : Kind → ℕ → Element
 stateRead k w = elementOf k (fieldsRead w (rowsOf k) .values)

@@ -1,4 +1,4 @@
--- Which types are carried under which catalogue's X, and by which kind. All others are not carried.
+-- Which types are carried under each catalogue's X, and as which kind. No others are.
 -- Written by catalogue/write.py.
 use mathlib.Core.Bool.{cond}
 use mathlib.Core.List.{List, [], _∷_}
@@ -8,7 +8,7 @@ use Rattle.kinds.specs.Kinds.{Line, line, sortIn}
 use Rattle.kinds.specs.declared.Kind.{Kind}
 use Rattle.kinds.specs.declared.Sort.{Sort}
 
--- the types that are carried under X = 1, each with its kind
+-- the types carried under X = 1, each with its kind
 abbrev pub typesUnder1 : List Line
 typesUnder1 =
     line 1 Kind.Signal ∷
@@ -24,7 +24,7 @@ typesUnder1 =
     line 23 Kind.ControlBoundary ∷
     []
 
--- the types that are carried under X = 3, each with its kind
+-- the types carried under X = 3, each with its kind
 abbrev pub typesUnder3 : List Line
 typesUnder3 =
     line 1 Kind.SignalV3 ∷
@@ -36,7 +36,7 @@ typesUnder3 =
     line 7 Kind.DualDetection ∷
     []
 
--- catalogues by their X, each with its types
+-- a catalogue: its X and the types carried under it
 pub record Catalogue : Type 0 where
   pub x : ℕ
   pub types : List Line

@@ -1,6 +1,6 @@
-// The floor of elements: which types are carried, the check of an element, and a state as a number and back. It goes by the rows of a
-// kind's layout, at a glance where that is enough, and names no kind but the one that stands for none. It knows no image and writes
-// nothing.
+// The floor of elements: which types are carried, the check of an element, and a state as a number and back. It reads
+// the rows of a kind's layout, or only takes a glance where that is enough, and names no kind but the one it gives where there is none.
+// It knows no image and writes nothing.
 mod types;
 
 use kinds::Element;
@@ -20,7 +20,8 @@ ghost use Rattle.rows.specs.Fields.{codeAt, checkRows, fieldsRead};
 ghost use Rattle.kinds.specs.Kinds.{layoutNo, widthOf, rowsOf};
 ghost use Rattle.elements.specs.Elements.{carried, kindOf, kindNumbered, sameKind, datRule, elementCheck, stateRead, wordOf};
 
-// Fields from bit 0 up, then the rule of DAT. Only where a glance doesn't show that it is accepted are its rows gone through.
+// Checks an element's number: the fields from bit 0 up, then the rule of DAT. Its rows are read only if a glance doesn't show that it
+// is accepted.
 pub fn check_element(word: u32, kind: Kind) -> Finding
     ensures { λ r. ⌜ r ≡ elementCheck kind word ⌝ }
 {
@@ -30,7 +31,7 @@ pub fn check_element(word: u32, kind: Kind) -> Finding
     check_by_rows(word, kind)
 }
 
-// The same of the element at a place.
+// Checks the element whose bytes begin at a place.
 pub fn check_at(s: &[u8], at: usize, kind: Kind) -> Finding
     requires { ⌜ at + widthOf kind ≤ length (now s) ⌝ }
     ensures { λ r. ⌜ r ≡ elementCheck kind (number (take (widthOf kind) (drop at (now (s .entry))))) ⌝ }
@@ -42,7 +43,7 @@ pub fn check_at(s: &[u8], at: usize, kind: Kind) -> Finding
     check_by_rows(glance.word, kind)
 }
 
-// The state of a number; of one with a refused field that of zeros, so that no caller has a case for it.
+// The state of a number. If a field is refused, it is the state of zeros, so that no caller needs a case for it.
 pub fn state_of(word: u32, kind: Kind) -> Element
     ensures { λ r. ⌜ r ≡ stateRead kind word ⌝ }
 {
@@ -75,7 +76,7 @@ pub fn is_carried(x: u8, ty: u8) -> bool
     }
 }
 
-// The kind of a type under a catalogue's X; of one that is not carried, any.
+// The kind of a type under a catalogue's X; if it is not carried, a kind that means nothing.
 pub fn kind_of(x: u8, ty: u8) -> Kind
     ensures { λ r. ⌜ r ≡ kindOf x ty ⌝ }
 {
@@ -86,13 +87,14 @@ pub fn kind_of(x: u8, ty: u8) -> Kind
     kind
 }
 
-// A kind as its layout's number, and back.
+// A kind as its layout's number.
 pub fn layout_number(kind: Kind) -> u8
     ensures { λ r. ⌜ r ≡ layoutNo kind ⌝ }
 {
     kinds::layout(kind).number
 }
 
+// The kind whose layout has this number; if none has, a kind that means nothing.
 pub fn kind_numbered(number: u8) -> Kind
     ensures { λ r. ⌜ r ≡ kindNumbered number ⌝ }
 {
@@ -103,6 +105,7 @@ pub fn kind_numbered(number: u8) -> Kind
     kind
 }
 
+// Whether two kinds are the same, by their layouts' numbers.
 pub fn same_kind(one: Kind, other: Kind) -> bool
     ensures { λ r. ⌜ r ≡ sameKind one other ⌝ }
 {
@@ -116,7 +119,7 @@ pub fn width(kind: Kind) -> usize
     kinds::layout(kind).bytes
 }
 
-// The check of an element's number by its rows, which tell what is refused.
+// Checks an element's number by its rows, which say which field is refused.
 fn check_by_rows(word: u32, kind: Kind) -> Finding
     ensures { λ r. ⌜ r ≡ elementCheck kind word ⌝ }
 {
@@ -127,7 +130,7 @@ fn check_by_rows(word: u32, kind: Kind) -> Finding
     dat_rule(word, kind)
 }
 
-// What is found of the fields of an element's number.
+// What its rows find of an element's number.
 fn check_fields(word: u32, kind: Kind) -> Finding
     ensures { λ r. ⌜ r ≡ checkRows word (rowsOf kind) ⌝ }
 {
@@ -135,7 +138,7 @@ fn check_fields(word: u32, kind: Kind) -> Finding
     rows::check_rows(word, layout.number, layout.first)
 }
 
-// All fields of an element's number.
+// Reads all fields of an element's number.
 fn read_fields(word: u32, kind: Kind) -> Fields
     ensures { λ r. ⌜ r ≡ fieldsRead word (rowsOf kind) ⌝ }
 {
@@ -145,7 +148,7 @@ fn read_fields(word: u32, kind: Kind) -> Fields
     rows::read_rows(word, first, count)
 }
 
-// Where bit 0 is DAT and is 0, all other bits are 0.
+// The rule of DAT: where bit 0 is DAT and is 0, all other bits must be 0.
 fn dat_rule(word: u32, kind: Kind) -> Finding
     ensures { λ r. ⌜ r ≡ datRule kind word ⌝ }
 {

@@ -1,4 +1,4 @@
-// Which types are carried under which catalogue's X, and by which kind. Written by catalogue/write.py from catalogue/types.tsv.
+// Which types are carried under each catalogue's X, and as which kind. Written by catalogue/write.py from catalogue/types.tsv.
 use kinds::Kind;
 use kinds::Sort;
 ghost use mathlib.Core.Path.{_≡_};

@@ -1,5 +1,5 @@
--- What only C asks for, at each place where its answer is made; that a label's place fits 32 bits; the fields of a state that is read; and
--- the numbers that C is given.
+-- The check of an element by itself, at each return; that a label's offset and size fit 32 bits; the fields of a state that is read; and
+-- the numbers that C gets.
 -- Assumes nothing.
 use Prim.Native.Nat.{ℕ, zero, suc, _*_, _≤_, _<_}
 use native.Mathlib.Omega.{arith}
@@ -37,7 +37,7 @@ use Rattle.history.specs.Standing.{talliesOf}
 use Rattle.gateway.specs.Calls.{elementCall}
 use Rattle.gateway.specs.Slots.{slots, answerSlots, LeavesSlots, readSlots, fieldsAfter, standingIn}
 
--- ---- a label stands within 65,536 bytes
+-- ---- a label is within the first 65,536 bytes
 
 entries-few : (i : ℕ) (os : List Object) → ((j : ℕ) → j < length os → length (getD os j nobody .label) ≤ 48) → length (objectsBytes (take i os)) ≤ 50 * length os
 entries-few zero os h = omega arith
@@ -64,7 +64,7 @@ label-few b i = go (labelCall b i) refl
         let p-is : labelPlace (u .0) i ≡ p = cc (v .1) in
         rw (← p-is) few
 
--- of what the code has in hand
+-- in terms of what the code has
 module _ (b : List ℕ) (i : ℕ) {l : LabelAt} (is : l ≡ labelTold (labelCall b i)) where
   pub offset-few : l .offset < 65536
   offset-few = rw is (label-few b i .0)
@@ -131,18 +131,18 @@ module _ (T A : List ℕ) (i : ℕ) (fields : List ℕ) {p : Plain} (is : p ≡ 
   unfolding readSlots
   read-told e = e ∙ ap readSlots is
 
--- a code that is not 0 leaves the fields
+-- a code that is not 0 leaves the fields as they were
 pub refused-read : (T A : List ℕ) (i : ℕ) (before : List ℕ) {fields a : List ℕ} → fields ≡ fieldsAfter (readStateCall T A i) before → a ≡ readSlots (plainOf (readingOf (readStateCall T A i)))
     → (getD a 0 0 ≡ 0 → ⊥) → fields ≡ before
 unfolding readSlots
 refused-read T A i before e q n = e ∙ sym (fields-stay T A i before refl (λ z. n (ap (λ (l : List ℕ). getD l 0 0) q ∙ z)))
 
--- ---- the numbers that C is given
+-- ---- the numbers that C gets
 
 pub answered : {l : List ℕ} {a b : Answer} → l ≡ answerSlots a → a ≡ b → l ≡ answerSlots b
 answered e f = e ∙ ap answerSlots f
 
--- of a call that writes: its answer's, and its output
+-- for a call that writes: its answer's numbers, and its output
 pub wrote : (v : Verdict (List ℕ)) (out : List ℕ) {a : Answer} {l m : List ℕ} → l ≡ answerSlots a → Leaves v out a m → LeavesSlots v out l m
 wrote v out e q = (answered e (q .0), q .1)
 

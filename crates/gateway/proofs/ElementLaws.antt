@@ -1,5 +1,5 @@
--- Of an element by itself: 3 exactly where its catalogue is not carried, else 5 exactly where its type is not carried, else 8
--- exactly where it is not as long as its kind's; else what the element's check finds.
+-- The answer to an element by itself: 3 exactly if its catalogue is not carried, else 5 exactly if its type is not carried, else 8
+-- exactly if its length is not its kind's width, else what the element's check finds.
 -- Assumes nothing.
 use Prim.Native.Nat.{ℕ, _<_}
 use native.Mathlib.Omega.{arith}
@@ -23,7 +23,7 @@ use Rattle.history.proofs.CatalogueLaws.{CarriedCatalogue, catalogue-is, catalo
 use Rattle.gateway.specs.Calls.{elementCall}
 
 module _ (x y type : ℕ) (b : List ℕ) where
-  -- what follows 5
+  -- what is checked after 5
   abbrev typed : Verdict ℕ
   typed =
       refusal 8 unless eqb (length b) (widthOf (kindOf x type)) ⨾

@@ -11,7 +11,7 @@ use Rattle.history.specs.Standing.{talliesOf}
 use Rattle.gateway.specs.Slots.{answerSlots, readSlots, labelSlots, standingIn}
 use Rattle.gateway.specs.Calls.{elementCall}
 
--- code, object, bit, length, 0; the kind; the label's offset and size; applied, late, gap, other
+-- code, object, bit, length, 0, zeros; with the kind; with the label's offset and size; applied, late, gap, other
 pub places : (answerSlots (numbers (naming 11 4 10) 3) ≡ 11 ∷ 4 ∷ 10 ∷ 3 ∷ 0 ∷ 0 ∷ 0 ∷ 0 ∷ [])
     × (readSlots (record { answer = unnamed 0 0; kind = 5; count = 8; fields = [] }) ≡ 0 ∷ 65535 ∷ 255 ∷ 0 ∷ 0 ∷ 5 ∷ 0 ∷ 0 ∷ [])
     × (labelSlots (record { answer = unnamed 0 0; offset = 19; size = 6 }) ≡ 0 ∷ 65535 ∷ 255 ∷ 0 ∷ 0 ∷ 19 ∷ 6 ∷ 0 ∷ [])

@@ -1,4 +1,4 @@
-// What only C asks for: an element by itself.
+// The call that only C has: the check of an element by itself.
 use history::Answer;
 use rows::Finding;
 use tables::accepted;
@@ -9,7 +9,7 @@ ghost use mathlib.Core.Path.{_≡_};
 ghost use Rattle.history.specs.Verdict.{told};
 ghost use Rattle.gateway.specs.Calls.{elementCall};
 
-// An element of a type under a catalogue, by itself.
+// Checks an element of a type under a catalogue. It names no object.
 pub fn check_element(x: u8, y: u8, ty: u8, element: &[u8]) -> Answer
     ensures { λ r. ⌜ r ≡ told (elementCall x y ty (now (element .entry))) ⌝ }
 {

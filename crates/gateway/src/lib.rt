@@ -1,6 +1,5 @@
-// The gateway: the calls as C sees them. Each exported function checks its input itself through the call that it is thin over, and
-// fills eight numbers: code, object, bit, length, a place kept for a value, then what the call adds, then zeros. It keeps nothing of
-// its own.
+// The gateway: the calls as C sees them. Each exported function wraps one call, which checks its input, and fills eight numbers: code,
+// object, bit, length, a place kept for a value, then what the call adds, then zeros. It keeps nothing.
 mod calls;
 mod slots;
 
@@ -67,7 +66,7 @@ pub extern "C" fn shefumbari_check_list(table: &[u8], list: &[u8], answer: &mut 
 
 // ---- states and labels
 
-// The values that are not reserved, from bit 0 up; the kind is the sixth number. A refusal leaves the fields.
+// The fields are the values that are not reserved, from bit 0 up; the kind is the sixth number. A refusal leaves the fields as they were.
 #[no_mangle]
 pub extern "C" fn shefumbari_read_state(
     table: &[u8],

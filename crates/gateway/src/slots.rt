@@ -1,4 +1,4 @@
-// Answers, label places and tallies as rows of numbers.
+// Answers, label places and tallies as arrays of numbers.
 use history::Answer;
 use history::Standing;
 use tables::label_place;
@@ -22,7 +22,7 @@ pub fn read_slots(answer: Answer, kind: u32) -> [u32; 8]
     slots(answer, kind, 0)
 }
 
-// A label request's answer, and where the label stands.
+// The answer of finding a label, and the label's offset and size.
 pub fn label_slots(table: &[u8], object: u16) -> [u32; 8]
     ensures { λ r. ⌜ r ≡ labelSlots (labelTold (labelCall (now (table .entry)) object)) ⌝ }
 {
@@ -30,7 +30,7 @@ pub fn label_slots(table: &[u8], object: u16) -> [u32; 8]
     slots(found.answer, found.offset as u32, found.size as u32)
 }
 
-// Four numbers of an answer, a place kept for a value, two numbers more, and a zero.
+// An answer's four numbers, a place kept for a value, two more numbers, and a zero.
 fn slots(answer: Answer, sixth: u32, seventh: u32) -> [u32; 8]
     ensures { λ r. ⌜ r ≡ slots answer sixth seventh ⌝ }
 {
@@ -46,7 +46,7 @@ fn slots(answer: Answer, sixth: u32, seventh: u32) -> [u32; 8]
     ]
 }
 
-// A standing by its tallies, and back.
+// A standing from its tallies.
 pub fn standing_in(tallies: [u32; 4]) -> Standing
     ensures { λ r. ⌜ r ≡ standingIn tallies ⌝ }
 {
@@ -58,6 +58,7 @@ pub fn standing_in(tallies: [u32; 4]) -> Standing
     }
 }
 
+// A standing's tallies, in the same order.
 pub fn tallies_of(standing: Standing) -> [u32; 4]
     ensures { λ r. ⌜ r ≡ talliesOf standing ⌝ }
 {

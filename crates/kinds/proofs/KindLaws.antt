@@ -1,4 +1,5 @@
--- Of each kind: its place, that its number finds it, and that a state keeps the listed values and its own values make it again.
+-- For each kind: it has a layout, the layout's number finds it, a state made from values keeps the listed ones, and a state's values
+-- make that state again.
 -- Written by catalogue/write.py. Assumes nothing.
 use mathlib.Core.Path.{_≡_, refl, ap}
 use mathlib.Core.List.{List, [], map}
@@ -14,7 +15,7 @@ use Rattle.kinds.specs.declared.Kind.{Kind}
 use Rattle.kinds.specs.declared.Element.{Element}
 use Rattle.kinds.specs.declared.Sort.{Sort}
 
--- two functions that agree on the list of all kinds agree on each: a table of a line per kind is one computation
+-- two functions that agree on the list of all kinds agree on each, so a table with a line for each kind is one computation
 pub every-kind : {A : Type 0} (f g : Kind → A) → map f kinds ≡ map g kinds → (k : Kind) → f k ≡ g k
 every-kind {A} f g e Kind.Signal = ap (λ (l : List A). getD l 0 (f Kind.Signal)) e
 every-kind {A} f g e Kind.ChangerSignal = ap (λ (l : List A). getD l 1 (f Kind.ChangerSignal)) e
@@ -102,7 +103,7 @@ element-kind Kind.GeneralNotices vs = refl
 element-kind Kind.ControlBoundary vs = refl
 element-kind Kind.SignalV3 vs = refl
 
--- the number 0 is read as the state of no values, which is the one without data
+-- the number 0 is read as the state of no values, the one without data
 pub zero-state : (k : Kind) → elementOf k (padded (valuesOf 0 (rowsOf k))) ≡ elementOf k []
 unfolding table layouts
 zero-state Kind.Signal = refl

@@ -1,4 +1,4 @@
--- A number is looked up among lines: in vain where it is none of theirs; and what a test says of every line holds of what is found.
+-- Looking up a number among lines: if no line has it, nothing is found; what a test says of every line holds of the line found.
 -- Written by catalogue/write.py. Assumes nothing.
 use mathlib.Core.Path.{_≡_, _∙_, refl, sym, ap, subst, subst⁻¹}
 use mathlib.Core.Bool.{Bool, true, false, cond, _&&_}

@@ -1,4 +1,4 @@
--- A glance at the element at a place: a device of the code, nothing to believe.
+-- A glance at the element at a place: a shortcut of the code, nothing to believe.
 -- Written by catalogue/write.py.
 use mathlib.Core.Path.{_≡_}
 use mathlib.Core.List.{List}

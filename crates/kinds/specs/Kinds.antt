@@ -1,5 +1,4 @@
--- An element state is one of the layouts, each with its own struct: the kinds, the layout of each, and the state of any kind from
--- its fields' values.
+-- The kinds of element, one for each layout; the layout of each; the state of any kind, from its fields' values and back.
 -- Written by catalogue/write.py.
 use mathlib.Core.Bool.{cond}
 use mathlib.Core.List.{List, [], _∷_, map}
@@ -16,7 +15,7 @@ use Rattle.kinds.specs.declared.Sort.{Sort}
 abbrev pub kinds : List Kind
 kinds = Kind.Signal ∷ Kind.ChangerSignal ∷ Kind.VirtualBoard ∷ Kind.LineTrackCircuit ∷ Kind.PointsTrackCircuit ∷ Kind.CrossingTrackCircuit ∷ Kind.DualDetection ∷ Kind.Points ∷ Kind.ElectricLock ∷ Kind.GeneralNotices ∷ Kind.ControlBoundary ∷ Kind.SignalV3 ∷ []
 
--- a kind's place among them, by which its layout is found
+-- a kind's place among them, which is its layout's place among the layouts
 abbrev pub place : Kind → ℕ
 place Kind.Signal = 0
 place Kind.ChangerSignal = 1
@@ -51,12 +50,12 @@ pub record Line : Type 0 where
 abbrev pub line : ℕ → Kind → Line
 line number kind = record { number = number; kind = kind }
 
--- the kind of a number
+-- the kind that a number stands for, by the first line that has it
 abbrev pub sortIn : ℕ → List Line → Sort
 sortIn n [] = Sort.Other
 sortIn n (l ∷ ls) = cond (eqb n (l .number)) (Sort.Carried (l .kind)) (sortIn n ls)
 
--- each kind by the number of its layout
+-- a line for each kind, with the number of its layout
 abbrev pub numbered : List Line
 numbered = map (λ (k : Kind). line (layoutNo k) k) kinds
 

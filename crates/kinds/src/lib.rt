@@ -1,6 +1,6 @@
-// The floor of kinds: the kinds of element, one for each layout, the state of any kind, and every function that goes by the kind.
-// Written by catalogue/write.py from catalogue/fields.tsv, where a type is added. It refuses nothing; the floors above go by the
-// layout.
+// The floor of kinds: the kinds of element, one for each layout, the state of any kind, and every function that has an arm
+// for each kind. Written by catalogue/write.py from catalogue/fields.tsv, where a layout is added. It refuses nothing. The floors above
+// read what they need of a kind from its layout.
 use rows::Layout;
 use rows::Marks;
 use states::ChangerSignal;
@@ -68,7 +68,7 @@ pub struct Glance {
     pub listed: bool,
 }
 
-// A kind's layout.
+// A kind's layout: where its rows are in the table, its width, and whether it has DAT.
 pub fn layout(kind: Kind) -> Layout
     ensures { λ r. ⌜ r ≡ layoutOf kind ⌝ }
 {
@@ -160,7 +160,7 @@ pub fn layout(kind: Kind) -> Layout
     }
 }
 
-// A kind's marks.
+// A kind's marks. The contract checks them against its rows.
 fn marks(kind: Kind) -> Marks
     ensures { λ r. ⌜ T (marked (r .add) (r .carry) (rowsOf kind)) ⌝ }
 {
@@ -216,7 +216,7 @@ fn marks(kind: Kind) -> Marks
     }
 }
 
-// Whether a glance shows that each field of an element's number has a listed value. Where it doesn't, the rows tell.
+// Whether a glance at an element's number shows that each field has a listed value. If it doesn't, the rows decide.
 pub fn shows_listed(word: u32, kind: Kind) -> bool
     ensures { λ r. ⌜ Shows (rowsOf kind) word r ⌝ }
 {
@@ -244,7 +244,7 @@ pub fn glance_at(s: &[u8], at: usize, kind: Kind) -> Glance
     }
 }
 
-// The same, by the kind's width.
+// One arm of `glance_at`: the kind, and its width as a constant.
 fn glance_by(s: &[u8], at: usize, kind: Kind, width: usize) -> Glance
     requires { ⌜ (width ≡ widthOf kind) × (width ≤ 4) × (at + widthOf kind ≤ length (now s)) ⌝ }
     ensures { λ r. ⌜ Glanced kind (now (s .entry)) at r ⌝ }
@@ -254,7 +254,7 @@ fn glance_by(s: &[u8], at: usize, kind: Kind, width: usize) -> Glance
     Glance { word, listed }
 }
 
-// The kind whose layout has a number, if there is one.
+// The kind whose layout has this number, if there is one.
 pub fn sort_numbered(number: u8) -> Sort
     ensures { λ r. ⌜ r ≡ sortNumbered number ⌝ }
 {
@@ -295,7 +295,7 @@ pub fn kind_in(element: Element) -> Kind
     }
 }
 
-// A kind's state from its fields' values.
+// A kind's state from its fields' values in the rows' order.
 pub fn element_of(kind: Kind, values: [u32; 24]) -> Element
     ensures { λ r. ⌜ r ≡ elementOf kind values ⌝ }
 {
@@ -321,7 +321,7 @@ pub fn element_of(kind: Kind, values: [u32; 24]) -> Element
     }
 }
 
-// The values of a state's fields.
+// A state's fields' values in the rows' order, padded with zeros.
 pub fn values_of(element: Element) -> [u32; 24]
     ensures { λ r. ⌜ r ≡ padded (elementValues element) ⌝ }
 {

@@ -1,4 +1,4 @@
-// Lists the table and the image of standard input on standard output.
+// Reads a table followed by its image from standard input, and lists them on standard output.
 use libc::STDIN_FILENO;
 use libc::STDOUT_FILENO;
 

@@ -1,4 +1,4 @@
-// Lists each file of data/, after its name, on standard output.
+// Prints the name and then the listing of each file of data/ on standard output.
 use libc::STDOUT_FILENO;
 
 fn main() {
@@ -15,7 +15,7 @@ fn accepted() {
     case(b"largest");
 }
 
-// Inputs that cannot be split, or are too long; and those beside them.
+// Inputs that cannot be split or are too long, and inputs close to these.
 fn split() {
     case(b"no_bytes");
     case(b"three_bytes");
@@ -28,7 +28,7 @@ fn split() {
     case(b"length_under_least");
 }
 
-// Each code of a table or an image.
+// An input for each code of a table or an image.
 fn codes() {
     case(b"code_2");
     case(b"code_2_image");

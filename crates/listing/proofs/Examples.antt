@@ -1,5 +1,5 @@
--- The paper's listing of its table and image A, and its refusal line, where object 1's element is 09; the same of the call; a listing under
--- catalogue 3.0; input that is too short, and two faults.
+-- The paper's listing of its table and image A, and its refusal line where object 1's element is 09, printed and from the call; a listing
+-- under catalogue 3.0; input that is too short, and two faults.
 -- Assumes nothing.
 use Prim.Native.Nat.{ℕ}
 use mathlib.Core.Path.{_≡_, refl}
@@ -24,7 +24,7 @@ lines =
     ∷ 0x30 ∷ 0x20 ∷ 0x34 ∷ 0x20 ∷ 0x41 ∷ 0x41 ∷ 0x3A ∷ 0x43 ∷ 0x56 ∷ 0x31 ∷ 0x20 ∷ 0x30 ∷ 0x30 ∷ 0x30 ∷ 0x31 ∷ 0x0A
     ∷ 0x31 ∷ 0x20 ∷ 0x32 ∷ 0x20 ∷ 0x41 ∷ 0x41 ∷ 0x3A ∷ 0x53 ∷ 0x31 ∷ 0x20 ∷ 0x30 ∷ 0x33 ∷ 0x0A ∷ []
 
--- "refused (naming 10 1 3)" and its newline
+-- "refused 10 1 3" and its newline
 abbrev refusal : List ℕ
 refusal = 0x72 ∷ 0x65 ∷ 0x66 ∷ 0x75 ∷ 0x73 ∷ 0x65 ∷ 0x64 ∷ 0x20 ∷ 0x31 ∷ 0x30 ∷ 0x20 ∷ 0x31 ∷ 0x20 ∷ 0x33 ∷ 0x0A ∷ []
 
@@ -44,7 +44,7 @@ pub listings : (listingOf (T ++ A) ≡ lines)
 unfolding bytes table layouts carried kindOf datRule elementCheck isWhole readForm versionGood catalogueGood labelLimit labelGood checkObject readTable planOf imageVersionGood element elementsFrom readImage decimalIn decimal hexDigit readBoth readPanel firstLine objectLine refusedLine listingCall printed listingOf
 listings = (refl, refl, refl, refl, refl, refl)
 
--- "refused (naming 1 65535 255)" and "refused (naming 3 65535 255)", each with its newline
+-- "refused 1 65535 255" or "refused 3 65535 255", by the digit, with its newline
 abbrev unnamed : ℕ → List ℕ
 unnamed digit =
     0x72 ∷ 0x65 ∷ 0x66 ∷ 0x75 ∷ 0x73 ∷ 0x65 ∷ 0x64 ∷ 0x20 ∷ digit

@@ -1,5 +1,5 @@
--- Every listing fits 65,536 bytes, and nothing printed is empty. The numbers take at most 2,986 digits, a line beside its number at most 61 bytes, were
--- its label 48 bytes long, and the first line at most 44.
+-- Every listing fits 65,536 bytes, and nothing printed is empty. The objects' numbers take at most 2,986 digits, the rest of
+-- a line at most 61 bytes even if its label had 48, and the first line at most 44.
 -- Assumes nothing.
 use Prim.Native.Nat.{ℕ, suc, _+_, _*_, _-_, _≤_, _<_}
 use native.Mathlib.Omega.{arith}
@@ -31,7 +31,7 @@ use Rattle.listing.specs.Listing.{Panel, readBoth, tableSize, readPanel,
 use Rattle.listing.specs.Walk.{linesIn}
 use Rattle.listing.proofs.LineLaws.{first-length, refused-length, object-length}
 
--- ---- numbers: of the lines of n objects, the last below 1,024, each has a digit, at most 1,014 a second, 924 a third, 24 a fourth
+-- ---- numbers: of n objects, the last below 1,024, each number has a digit, at most 1,014 a second, 924 a third, 24 a fourth
 
 -- n, but no more than c
 abbrev upTo : ℕ → ℕ → ℕ
@@ -46,7 +46,7 @@ up-one c n h = omega arith
 digitsOf : ℕ → ℕ
 digitsOf n = n + (upTo 1014 n + (upTo 924 n + upTo 24 n))
 
--- from the test of each power of ten that a number may reach
+-- by whether the number is below each power of ten
 digits-at : (s t u : Bool) (i n : ℕ) → ltb i 10 ≡ s → ltb i 100 ≡ t → ltb i 1000 ≡ u → i + suc n ≤ 1024 → length (decimal i) + digitsOf n ≤ digitsOf (suc n)
 unfolding digitsOf
 digits-at true t u i n e f g h =
@@ -106,7 +106,7 @@ digits-all : (n : ℕ) → n ≤ 1024 → digitsOf n ≤ 2986
 unfolding digitsOf
 digits-all n h = omega arith
 
--- of a table that is read
+-- of each object of a table that is read
 each-few : {t : Table} → LegalTable t → (j : ℕ) → j < length (t .objects) → Few (t .x) (getD (t .objects) j nobody)
 unfolding labelLimit
 each-few h j m = record { type = h .each j m .type; label = omega (arith, h .each j m .few) }
@@ -148,7 +148,7 @@ unfolding linesIn
 below-few (refused r) h = omega arith
 below-few (done p) h = table-few (p .image) (h p refl)
 
--- the first line is written: there is room for the lines below, and where they end
+-- once the first line is written: the room for the lines below, and where they end
 module _ (b a : List ℕ) (x y position count : ℕ) {l m : List ℕ} {p : ℕ} (w : Wrote l 0 (firstLine x y position count) m p) where
   pub lines-room : 65536 ≤ length l → p + length (linesIn (readBoth b a)) ≤ length m
   lines-room h =

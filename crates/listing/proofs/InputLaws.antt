@@ -48,20 +48,20 @@ module _ (input : List ℕ) where
           let panel : readPanel input ≡ readBoth (take (tableSize input) input) (drop (tableSize input) input) = rw (le-leb (length input) 65536 few, le-leb 4 (length input) four, long) in
           ap₂ (λ (t a : List ℕ). textOf (readBoth t a)) (ap (λ (m : ℕ). take m input) size) rest ∙ sym (ap textOf panel)
 
--- ---- an output that every listing fits
+-- ---- an output that every listing fits in
 
 told-roomy : (v : Verdict (List ℕ)) (out : List ℕ) → ((text : List ℕ) → v ≡ done text → length text ≤ length out) → (settled v out .answer .code ≡ 0 → ⊥) → settled v out .answer ≡ told v
 unfolding told
 told-roomy (refused r) out fits n = refusal-told r out refl .0
 told-roomy (done text) out fits n = absurd (n (ap (λ (a : Answer). a .code) (succeeds out refl (fits text refl) .answer)))
 
--- so that what is not success is what is told of the input
+-- there a refusal comes from the input, never from a short output
 pub refusal-is : (input out : List ℕ) → 65536 ≤ length out → {r : Answer} → r ≡ settled (listingCall input) out .answer → (r .code ≡ 0 → ⊥) → r ≡ told (listingCall input)
 refusal-is input out room e n =
     let fits : (text : List ℕ) → listingCall input ≡ done text → length text ≤ length out = λ text q. omega (arith, text-fits input q) in
     e ∙ told-roomy (listingCall input) out fits (λ z. n (ap (λ (a : Answer). a .code) e ∙ z))
 
--- what success leaves
+-- what success leaves in the output
 settled-front : {v : Verdict (List ℕ)} {text : List ℕ} (out : List ℕ) → v ≡ done text → length text ≤ length out → settled v out .output ≡ text ++ drop (length text) out
 unfolding settled
 settled-front {text = text} out e h = rw (e, le-leb (length text) (length out) h)
@@ -78,7 +78,7 @@ front input out {r} e f z =
     let size : r .length ≡ length (q .0) = ap (λ (a : Answer). a .length) (e ∙ succeeds out (q .1) (q .2) .answer) in
     record { text = q .0; is = q .1; size = size; output = f ∙ settled-front out (q .1) (q .2) ∙ ap (λ (n : ℕ). q .0 ++ drop n out) (sym size) }
 
--- a text is taken out of a buffer
+-- after success: the text in the buffer
 module _ (input buffer : List ℕ) {r : Answer} {m : List ℕ} (left : Leaves (listingCall input) buffer r m) (z : r .code ≡ 0) where
   pub text-is : done (take (r .length - 0) m) ≡ listingCall input
   text-is =
@@ -92,7 +92,7 @@ module _ (input buffer : List ℕ) {r : Answer} {m : List ℕ} (left : Leaves (l
   pub text-inside : r .length ≤ length m
   text-inside = let w = front input buffer (left .0) (left .1) z in omega (arith, w .size, ap length (w .output), length-append (w .text) (drop (r .length) buffer))
 
--- the buffer's zeros
+-- the buffer of zeros is long enough
 pub zeros-room : 65536 ≤ length {A = ℕ} (replicate 65536 0)
 zeros-room = omega (arith, length-replicate {A = ℕ} 65536 0)
 
@@ -106,7 +106,7 @@ listed-room : (input out : List ℕ) → 65536 ≤ length out → listed input o
 unfolding listed
 listed-room input out h = rw (le-leb 65536 (length out) h)
 
--- with room the text stands in front, and the rest is as it was
+-- if there is room, the text is in front and the rest is as it was
 pub text-in-front : (input out : List ℕ) → 65536 ≤ length out
     → (take (listed input out .size) (listed input out .output) ≡ listingOf input) × (drop (listed input out .size) (listed input out .output) ≡ drop (listed input out .size) out)
 text-in-front input out h = rw (listed-room input out h) (take-append-seam (listingOf input) (drop (length (listingOf input)) out), drop-append-seam (listingOf input) (drop (length (listingOf input)) out))
@@ -135,7 +135,7 @@ module _ (input out₀ : List ℕ) {m : List ℕ} (room : 65536 ≤ length out�
       let text : w .text ≡ listingOf input = sym (ap printed (w .is)) in
       in-front room (w .size ∙ ap length text) (w .output ∙ ap (λ (b : List ℕ). b ++ drop (a .length) out₀) text)
 
-  -- a refusal has left the output, and its line is written
+  -- a refusal has left the output as it was, and its line is written
   pub line-printed : (a .code ≡ 0 → ⊥) → {n : List ℕ} {q : ℕ} → Wrote m 0 (refusedLine (a .code) (a .object) (a .bit)) n q → ListedInto input out₀ n q
   unfolding listingOf
   line-printed bad {n} {q} w =

@@ -1,4 +1,4 @@
--- The lines of the listing: writings one after the other make a line, and how long a line is.
+-- The lines of the listing: writes one after the other make a line, and how long a line is.
 -- Assumes nothing.
 use Prim.Native.Nat.{ℕ, zero, suc, _+_, _*_, _/_, _%_, _≤_}
 use native.Mathlib.Omega.{arith}
@@ -33,7 +33,7 @@ ten n = digits 10 n
 pub room : (n at size : ℕ) → at + 11 ≤ size → at + (length (decimal n) + 1) ≤ size
 room n at size h = omega (arith, ten n)
 
--- ---- a number and its mark, and the next
+-- ---- a number and the byte after it, and the next
 
 pub numbered : {l : List ℕ} {at : ℕ} (n mark : ℕ) {m₁ m : List ℕ} {p r : ℕ} → Wrote l at (decimal n) m₁ p → Wrote m₁ p (mark ∷ []) m r → Numbered l at n mark m r
 numbered n mark w v = record { written = then w v; place = omega (arith, w .next, v .next); few = omega (arith, w .next, v .next, ten n) }

@@ -1,4 +1,5 @@
--- What a refusal of a listing names: as the image's check under the table that the input begins with; input that can't be split names nothing.
+-- What a refusal of a listing names: what the image's check names, under the table that the input begins with; nothing if the input can't
+-- be split.
 -- Assumes nothing.
 use Prim.Native.Nat.{ℕ}
 use mathlib.Core.Path.{refl, ap, _∙_}

@@ -1,4 +1,4 @@
--- What an accepted table and image are read as, and where it stands in their bytes; and what a refusal of either tells.
+-- What an accepted table and image are read as, and where its parts are in their bytes; and the answer if either is refused.
 -- Assumes nothing.
 use Prim.Native.Nat.{ℕ, _+_, _-_, _≤_, _<_}
 use native.Mathlib.Omega.{arith}
@@ -52,7 +52,7 @@ pub image-in : (t a : List ℕ) → imageCall t a ≡ then (readBoth t a) (λ p.
 unfolding readBoth imageCall readPlan
 image-in t a = panel-image (readTable t) (λ p. readImage p a)
 
--- so a listing of both is told what it tells
+-- so a listing of both is refused as the image's check refuses
 pub both-told : (t a : List ℕ) → told (imageCall t a) ≡ told (textOf (readBoth t a))
 both-told t a = ap told (image-in t a) ∙ told-then (readBoth t a) (λ (p : Panel). p .image) ∙ sym (told-then (readBoth t a) (λ (p : Panel). panelText (p .table) (p .image)))
 
@@ -108,7 +108,7 @@ plan-length : (t : Table) → length (t .objects) ≡ length (planOf t .kinds)
 unfolding planOf
 plan-length t = sym (length-map (t .objects) (λ (o : Object). kindOf (t .x) (o .type)))
 
--- each byte is one, as the code knows it of a slice
+-- each number is a byte, as the code knows of a slice
 abbrev pub Held : List ℕ → Type 0
 Held b = (i : ℕ) → Fits w8 (getD b i 0)
 
@@ -136,7 +136,7 @@ read-as {b} {a} {ns} r hb ha =
       each = i .legal .words;
     }
 
--- ---- what the table's outline and the image's check tell
+-- ---- from the table's outline and the image's check
 
 module _ {b : List ℕ} {r : Outline} (o : Outlined b r) (z : r .answer .code ≡ 0) where
   -- the layout numbers as the code lends them
@@ -161,7 +161,7 @@ text-in {b} {a} {ns} r =
     ap textOf (r .reads)
     ∙ (λ j. done (firstLine (sym (r .x) j) (sym (r .y) j) (sym (r .position) j) (r .count j) ++ linesIn (sym (r .reads) j)))
 
--- a text written from the front on
+-- a text that is written from the front on and fits
 wrote-leaves : {v : Verdict (List ℕ)} {text l m : List ℕ} {q : ℕ} → v ≡ done text → Wrote l 0 text m q → q ≤ length l → {r : Answer} → r ≡ unnamed 0 q → Leaves v l r m
 wrote-leaves {text = text} {l} e w h q =
     let zero : 0 + length text ≡ length text = omega arith in

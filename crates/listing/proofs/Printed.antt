@@ -1,4 +1,4 @@
--- The listing by the calls: of a table and an image that are accepted it prints both, and a refusal is printed with the numbers that the
+-- The listing in terms of the other calls: an accepted table and image are printed, and a refusal is printed with the numbers that the
 -- image's check gives.
 -- Assumes nothing.
 use Prim.Native.Nat.{ℕ, _+_, _≤_}
@@ -50,11 +50,11 @@ module _ (t a : List ℕ) (four : 4 ≤ length t) (fills : length t ≡ 4 + numb
   unfolding listingOf
   listed-is = ap printed parted
 
-  -- a listing tells what the image's check tells, but for the length
+  -- but for the length, a listing answers as the image's check does
   pub listing-told : told (listingCall (t ++ a)) ≡ told (imageCall t a)
   listing-told = ap told parted ∙ sym (both-told t a)
 
--- ---- by the calls
+-- ---- in terms of the other calls
 
 pub line-is : (v : Verdict (List ℕ)) → (told v .code ≡ 0 → ⊥) → printed v ≡ refusedLine (told v .code) (told v .object) (told v .bit)
 unfolding told printed

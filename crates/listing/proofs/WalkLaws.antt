@@ -1,4 +1,4 @@
--- The walk over an accepted table and image, a turn at a time: the whole text is what is written and the lines of the objects left.
+-- The walk over an accepted table and image, a turn at a time: the whole text is what is written, followed by the lines of the objects left.
 -- Assumes nothing.
 use Prim.Native.Nat.{ℕ, suc, _+_, _-_, _*_, _≤_, _<_}
 use native.Mathlib.Omega.{arith}
@@ -24,7 +24,7 @@ use Rattle.listing.specs.Walk.{lineSize, Ready, linesIn}
 use Rattle.listing.proofs.LineLaws.{object-length}
 use Rattle.listing.proofs.PanelLaws.{Held, few, Read, read-as}
 
--- the objects left: their entries in the table from one place on, and in the image's elements theirs from another
+-- the objects left: their entries are in the table from one place on, their elements among the image's from another
 pub record Ahead (b a : List ℕ) (ks : List Kind) (os : List Object) (ws : List ℕ) (entry place : ℕ) : Type 0 where
   pub entries : drop entry b ≡ objectsBytes os
   pub elements : drop place a ≡ wordsBytes ks ws
@@ -32,7 +32,7 @@ pub record Ahead (b a : List ℕ) (ks : List Kind) (os : List Object) (ws : List
   pub count : length os ≡ length ks
   pub inside : place ≤ length a
 
--- the next object: where its entry and its element end, its line in front of the others', and those ahead of it
+-- the next object: where its entry and its element end, its line before those of the others, and the objects after it
 pub record Next (b a : List ℕ) (k : Kind) (ks : List Kind) (i entry place : ℕ) (lines : List ℕ) : Type 0 where
   pub objects : List Object
   pub words : List ℕ
@@ -120,7 +120,7 @@ module _ {b a ns elements out₀ : List ℕ} {at : ℕ} {out : List ℕ} {to ent
       let all : linesIn (readBoth b a) ≡ l .written = l .whole ∙ ap (λ (r : List ℕ). l .written ++ r) last ∙ append-nil (l .written) in
       rw all (l .so-far)
 
-  -- an entry has two bytes at least
+  -- an entry has at least two bytes
   pub entries-left : 2 * (length ns - i) ≤ length b - entry
   entries-left =
       omega (
@@ -139,7 +139,7 @@ module _ {b a ns elements out₀ : List ℕ} {at : ℕ} {out : List ℕ} {to ent
     here : Next b elements (kindAt (kindsOf ns) i) (drop (i + 1) (kindsOf ns)) i entry place (linesOf i (l .objects) (drop i (kindsOf ns)) (l .words))
     here = next b elements entry place i (kinds-next ns i h) (l .ahead)
 
-    -- over what the code has in hand: where the label ends
+    -- in terms of what the code has: where the label ends
     pub label-inside : {end : ℕ} → end ≡ entry + 2 + getD b (entry + 1) 0 → end ≤ length b
     label-inside e = omega (arith, here .entry-inside)
 

@@ -31,7 +31,7 @@ readBoth t a =
 abbrev pub tableSize : List ℕ → ℕ
 tableSize input = 4 + number (take 4 input)
 
--- above 65,536 bytes, too short to split; then the table and the image
+-- 1 for more than 65,536 bytes and for input too short to split; then the table and the image
 unfoldable pub readPanel : List ℕ → Verdict Panel
 readPanel input =
     refusal 1 unless leb (length input) 65536 ⨾

@@ -1,5 +1,5 @@
--- What is printed, in a lent buffer. All of it fits 65,536 bytes: a shorter buffer stays as it was, and 0 is given back, which is the length
--- of nothing printed (proofs/Fits).
+-- What is printed, in a lent buffer. Everything printed fits in 65,536 bytes. A shorter buffer stays as it was, and the length is 0; no
+-- printed text has length 0 (proofs/Fits).
 use Prim.Native.Nat.{ℕ, _≤_}
 use mathlib.Core.Path.{_≡_}
 use mathlib.Core.Bool.{cond}
@@ -19,7 +19,7 @@ inFront text out = record { size = length text; output = text ++ drop (length te
 unfoldable pub listed : List ℕ → List ℕ → Listed
 listed input out = cond (leb 65536 (length out)) (inFront (listingOf input) out) (record { size = 0; output = out })
 
--- the whole outcome, and what callers go by
+-- the whole outcome, and for callers that the length is inside the buffer
 pub record ListedInto (input out₀ out : List ℕ) (r : ℕ) : Type 0 where
   pub size : r ≡ listed input out₀ .size
   pub output : out ≡ listed input out₀ .output

@@ -1,4 +1,4 @@
--- What the writers of lines, and the walk over an accepted table and image, go by. A device of the code: the meaning is `Listing`'s.
+-- For the contracts of the writers of lines and of the walk over an accepted table and image. The meaning is in `Listing`.
 use Prim.Native.Nat.{ℕ, _+_, _*_, _≤_}
 use mathlib.Core.Path.{_≡_}
 use mathlib.Core.List.{List, [], _∷_, _++_}

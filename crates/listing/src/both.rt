@@ -17,7 +17,7 @@ ghost use Rattle.text.specs.Wrote.{Wrote};
 ghost use Rattle.listing.specs.Listing.{readBoth, textOf};
 ghost use Rattle.listing.specs.Walk.{Ready, linesIn};
 
-// The lines of both, or the first refusal.
+// Writes the lines of both, or returns the first refusal.
 pub fn put_panel(table: &[u8], image: &[u8], out: &mut [u8]) -> Answer
     requires { ⌜ 65536 ≤ length (now out) ⌝ }
     ensures { λ r. ⌜ Leaves (textOf (readBoth (now (table .entry)) (now (image .entry)))) (now (out .entry)) r (now (out .exit)) ⌝ }
@@ -38,7 +38,7 @@ pub fn put_panel(table: &[u8], image: &[u8], out: &mut [u8]) -> Answer
     put_accepted(table, image, &kinds[0..count], out)
 }
 
-// The first line, then a line for each object.
+// Writes the first line, then a line for each object.
 fn put_accepted(table: &[u8], image: &[u8], kinds: &[u8], out: &mut [u8]) -> Answer
     requires { ⌜ Ready (now table) (now image) (now kinds) ⌝ }
     requires { ⌜ 65536 ≤ length (now out) ⌝ }
@@ -50,7 +50,7 @@ fn put_accepted(table: &[u8], image: &[u8], kinds: &[u8], out: &mut [u8]) -> Ans
     written(put_objects(table, image, kinds, out, at) as u32)
 }
 
-// A line for each object: one place goes along the table's entries, one along the image's elements.
+// Writes a line for each object: `entry` moves along the table's entries, `place` along the image's elements.
 fn put_objects(table: &[u8], image: &[u8], kinds: &[u8], out: &mut [u8], at: usize) -> usize
     requires { ⌜ Ready (now table) (now image) (now kinds) ⌝ }
     requires { ⌜ at + length (linesIn (readBoth (now table) (now image))) ≤ length (now out) ⌝ }
@@ -80,7 +80,7 @@ fn put_objects(table: &[u8], image: &[u8], kinds: &[u8], out: &mut [u8], at: usi
     to
 }
 
-// Where a label ends that begins after its entry's two bytes.
+// Where an entry and its label end: the label follows the entry's two bytes.
 fn label_end(table: &[u8], entry: usize) -> usize
     requires { ⌜ entry + 2 + getD (now table) (entry + 1) 0 ≤ length (now table) ⌝ }
     ensures { λ r. ⌜ r ≡ entry + 2 + getD (now (table .entry)) (entry + 1) 0 ⌝ }

@@ -15,10 +15,11 @@ ghost use Rattle.history.specs.Verdict.{done, Leaves};
 ghost use Rattle.listing.specs.Listing.{listingCall};
 ghost use Rattle.listing.specs.Output.{ListedInto};
 
-// The most bytes of input that are taken; and the bytes of output that every listing fits.
+// The most bytes of input that are accepted; also the bytes that every listing fits in.
 const MOST: usize = 65536;
 
-// The text of a table and its image at the front of `out`. A short output is filled by way of a buffer that every listing fits.
+// Writes the text of a table and its image to the front of `out`. For a short `out` the text is first made in a buffer that every
+// listing fits in.
 pub fn list_into(input: &[u8], out: &mut [u8]) -> Answer
     ensures { λ r. ⌜ Leaves (listingCall (now (input .entry))) (now (out .entry)) r (now (out .exit)) ⌝ }
 {
@@ -33,8 +34,8 @@ pub fn list_into(input: &[u8], out: &mut [u8]) -> Answer
     put_front(out, &text[0..answer.length as usize])
 }
 
-// What the program prints, at the front of `out`, and its length: the text, or the line of its refusal; 0 where `out` is shorter than
-// every listing fits.
+// Writes what the program prints to the front of `out`, the text or the line of its refusal, and returns its length. An `out` that not
+// every listing fits in stays as it was, and the length is 0.
 pub fn print_into(input: &[u8], out: &mut [u8]) -> usize
     ensures { λ r. ⌜ ListedInto (now (input .entry)) (now (out .entry)) (now (out .exit)) r ⌝ }
 {
@@ -48,7 +49,7 @@ pub fn print_into(input: &[u8], out: &mut [u8]) -> usize
     answer.length as usize
 }
 
-// The input is split by the table's length.
+// Splits the input by the table's length, and lists the two parts.
 fn put_listing(input: &[u8], out: &mut [u8]) -> Answer
     requires { ⌜ 65536 ≤ length (now out) ⌝ }
     ensures { λ r. ⌜ Leaves (listingCall (now (input .entry))) (now (out .entry)) r (now (out .exit)) ⌝ }
@@ -67,7 +68,7 @@ fn put_listing(input: &[u8], out: &mut [u8]) -> Answer
     put_panel(&input[0..size], &input[size..all], out)
 }
 
-// The bytes at the front of the output, or 21.
+// Copies the text to the front of the output, or refuses with 21.
 fn put_front(out: &mut [u8], text: &[u8]) -> Answer
     requires { ⌜ length (now text) ≤ 65536 ⌝ }
     ensures { λ r. ⌜ Leaves (done (now (text .entry))) (now (out .entry)) r (now (out .exit)) ⌝ }

@@ -1,4 +1,4 @@
-// The lines of the listing, each from a place on: one space between, one newline after.
+// Writes the lines of the listing, with one space between the parts of a line and one newline after it.
 use history::Answer;
 ghost use Prim.Native.Nat.{_+_, _≤_};
 ghost use lib.ListN.{length};
@@ -55,7 +55,7 @@ pub fn put_refusal(out: &mut [u8], answer: Answer) -> usize
     put_number(out, bit, answer.bit as u32, NEWLINE)
 }
 
-// A number, and the byte after it.
+// Writes a number and the byte that follows it.
 fn put_number(out: &mut [u8], at: usize, n: u32, mark: u8) -> usize
     requires { ⌜ at + (length (decimal n) + 1) ≤ length (now out) ⌝ }
     ensures { λ r. ⌜ Numbered (now (out .entry)) at n mark (now (out .exit)) r ⌝ }

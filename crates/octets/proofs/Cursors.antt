@@ -1,4 +1,4 @@
--- The turns of the loops that write a number and copy bytes: what is done and what is left make up the whole.
+-- The steps of `put` and the turns of `copy`: what is done and what is left make up the whole.
 -- Assumes nothing.
 use Prim.Native.Nat.{ℕ, zero, suc, _+_, _-_, _/_, _%_, _≤_, _<_}
 use native.Mathlib.Omega.{arith}
@@ -24,7 +24,7 @@ drop-set [] i a h = absurd (not-suc-le-zero h)
 drop-set (x ∷ xs) zero a h = refl
 drop-set (x ∷ xs) (suc i) a h = drop-set xs i a (le-of-suc-le-suc h)
 
--- `put` goes down: bytes of w before the cursor i, and then what stands from there on, are the number's bytes
+-- `put` works from the last byte to the first: the i bytes of w, then what is written from the cursor i on, are the number's bytes
 record Putting (n v i w : ℕ) (part : List ℕ) : Type 0 where
   inside : i ≤ length part
   left : bytes n v ≡ bytes i w ++ drop i part
@@ -32,7 +32,7 @@ record Putting (n v i w : ℕ) (part : List ℕ) : Type 0 where
 put-begin : (part : List ℕ) (v : ℕ) → Putting (length part) v (length part) v part
 put-begin part v = record { inside = omega arith; left = rw (drop-length, append-nil) }
 
--- the last byte of what is left is stored before the cursor
+-- the lowest byte of what is left is stored just before the cursor
 put-step : {n v w j : ℕ} {part : List ℕ} → Putting n v (suc j) w part → Putting n v j (w / 256) (set part j (w % 256))
 put-step {w = w} {j = j} {part = part} z = record {
   inside = simp length-set (omega (arith, z .inside));
@@ -46,7 +46,7 @@ put-end z = sym (z .left)
 at-cursor : {n v i j w : ℕ} {part : List ℕ} → i ≡ j → Putting n v i w part → Putting n v j w part
 at-cursor e z = rw e at z
 
--- .. after none to four bytes
+-- `put` into a part of none to four bytes
 module _ (part : List ℕ) (v : ℕ) where
   abbrev n : ℕ
   n = length part

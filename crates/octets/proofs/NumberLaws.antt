@@ -1,4 +1,4 @@
--- Numbers in bytes: `number` and `bytes` are inverse to one another, and both grow by a byte at their end.
+-- Numbers in bytes: `number` and `bytes` are inverse to each other, and both grow by a byte at their end.
 -- Assumes nothing.
 use Prim.Native.Nat.{ℕ, zero, suc, _+_, _-_, _*_, _/_, _%_, _^_, _≤_, _<_}
 use native.Mathlib.Omega.{arith}
@@ -21,7 +21,7 @@ bytes-fit zero x i = omega arith
 bytes-fit (suc n) x zero = mod-lt (x / 256 ^ n) (omega arith)
 bytes-fit (suc n) x (suc i) = bytes-fit n x i
 
--- ---- one byte more at the end
+-- ---- one more byte at the end
 
 number-snoc : (xs : List ℕ) (b : ℕ) → number (xs ++ (b ∷ [])) ≡ number xs * 256 + b
 number-snoc [] b = omega arith
@@ -35,7 +35,7 @@ bytes-snoc zero x = rw (pow-zero, div-one)
 bytes-snoc (suc n) x =
     ap₂ _∷_ (ap (λ (d : ℕ). d % 256) (ap (λ (p : ℕ). x / p) (pow-succ' 256 n) ∙ sym (div-div-eq-div-mul x 256 (256 ^ n)))) (bytes-snoc n x)
 
--- ---- inverse to one another
+-- ---- inverse to each other
 
 pub number-bytes : (n x : ℕ) → x < 256 ^ n → number (bytes n x) ≡ x
 unfolding bytes
@@ -49,7 +49,7 @@ number-lt [] h = omega arith
 number-lt (x ∷ xs) h =
     omega (arith, number-lt xs (λ i. h (suc i)), pow-succ' 256 (length xs), mul-le-mul-right (256 ^ length xs) (h 0))
 
--- what lies above the lowest n bytes is not seen
+-- n bytes don't depend on what is above them
 bytes-low : (n a x : ℕ) → bytes n (a * 256 ^ n + x) ≡ bytes n x
 unfolding bytes
 bytes-low zero a x = refl
@@ -103,7 +103,7 @@ module _ (n : ℕ) (b : List ℕ) (s : n ≤ length b) (h : Bytes b) where
       let e : bytes n (number (take n b)) ≡ take n b = rw (length-take-le n b s) at (bytes-number (take n b) (take-is n b h)) in
       rw e (sym (take-append-drop n b))
 
--- ---- one byte more is read
+-- ---- one more byte is read
 
 pub number-next : (s : List ℕ) (at i v : ℕ) → at + i < length s → v ≡ number (take i (drop at s)) → v * 256 + getD s (at + i) 0 ≡ number (take (i + 1) (drop at s))
 number-next s at i v h e =
@@ -112,7 +112,7 @@ number-next s at i v h e =
 pub small-next : (i v x : ℕ) → v < 256 ^ i → x < 256 → v * 256 + x < 256 ^ (i + 1)
 small-next i v x h k = rw (add-one, pow-suc) (omega arith)
 
--- below four bytes there is room for one more
+-- a number of fewer than four bytes has room for one more
 pub fits-next : (i v x : ℕ) → i < 4 → v < 256 ^ i → x < 256 → v * 256 + x < 2 ^ 32
 fits-next i v x l h k =
     let n : i + 1 ≤ 4 = omega arith in

@@ -1,4 +1,4 @@
--- Writing at a cursor: the kit of every function that fills a lent slice from its front.
+-- Writing at a cursor: the laws for every function that fills a lent slice from its front.
 -- Assumes nothing.
 use mathlib.Core.Path.{_≡_, refl, sym, ap, _∙_}
 use mathlib.Core.List.{List, [], _∷_, _++_, append-assoc, append-nil}
@@ -37,14 +37,14 @@ module _ {out₀ done : List ℕ} {o : ℕ} {out : List ℕ} (w : Written out₀
         room = h;
       }
 
-  -- the same after `put`
+  -- a number was written by `put` in the part from o to e
   pub append-put : {ys : List ℕ} (v e : ℕ) → ys ≡ bytes (length (midOf o (e - o) out)) v → o ≤ e → e ≤ length out₀
       → Written out₀ (done ++ bytes (e - o) v) e (putMid o (e - o) out ys)
   append-put v e q s h =
       let n : length (midOf o (e - o) out) ≡ e - o = rw (length-take, length-drop, same-long) (omega arith) in
       append-at (q ∙ ap (λ (m : ℕ). bytes m v) n) e (rw (length-bytes (e - o) v) (omega arith)) h
 
-  -- one byte was stored
+  -- one byte was stored at the cursor
   pub append-store : (v : ℕ) → o < length out₀ → Written out₀ (done ++ (v ∷ [])) (o + 1) (set out o v)
   append-store v h = record {
     is = rw (w .is, drop-next out₀ o h, set-at done (getD out₀ o 0) (drop (o + 1) out₀) v o (w .len), append-assoc);
@@ -59,7 +59,7 @@ module _ {out₀ done : List ℕ} {o : ℕ} {out : List ℕ} (w : Written out₀
   pub filled : o ≡ length out₀ → out ≡ done
   filled e = w .is ∙ rw (e, drop-length, append-nil)
 
-  -- the front is written, and the rest stays
+  -- the front is written and the rest is as it was
   pub front : out ≡ done ++ drop (length done) out₀
   front = w .is ∙ rw (w .len)
 
@@ -80,7 +80,7 @@ module _ {whole part₀ : List ℕ} {o : ℕ} {part : List ℕ} where
   pub keeps : {r : List ℕ} → Filling whole part₀ r o part → length part ≡ length part₀
   keeps f = same-long (f .written)
 
-  -- what is left to write has just the room that is left
+  -- what is left to write fills exactly the room that is left
   pub has-room : {r : List ℕ} → Filling whole part₀ r o part → o + length r ≡ length part₀
   has-room {r} f = omega (arith, f .written .len, f .fits, simp length-append at (ap length (f .split)))
 
@@ -98,6 +98,6 @@ module _ {whole part₀ : List ℕ} {o : ℕ} {part : List ℕ} where
   pub ended : Filling whole part₀ [] o part → part ≡ whole
   ended f = filled (f .written) (omega (arith, has-room f)) ∙ sym (f .split ∙ append-nil (f .done))
 
--- what lies from the cursor on is still as it was
+-- from the cursor on, everything is still as it was
 pub untouched : {out₀ done : List ℕ} {o : ℕ} {out : List ℕ} → Written out₀ done o out → (k : ℕ) → midOf o k out ≡ midOf o k out₀
 untouched {out₀} {done} {o} w k = rw (w .is, drop-at done (drop o out₀) o (w .len))

@@ -15,11 +15,11 @@ abbrev pub number : List ℕ → ℕ
 number [] = 0
 number (b ∷ bs) = b * 256 ^ length bs + number bs
 
--- each is a byte
+-- each number is a byte
 abbrev pub Bytes : List ℕ → Type 0
 Bytes b = (i : ℕ) → getD b i 0 < 256
 
--- whether two are the same bytes
+-- whether two lists are the same bytes
 abbrev pub sameBytes : List ℕ → List ℕ → Bool
 sameBytes [] [] = true
 sameBytes [] (b ∷ bs) = false

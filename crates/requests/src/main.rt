@@ -1,13 +1,13 @@
-// Runs stored requests, a line each, and prints their answers.
+// Runs stored requests, one a line, and prints their answers.
 //
 //     CALL name=value ..                      a request
 //     CODE OBJECT BIT LENGTH name=value ..    its answer
 //
-// Bytes are lower-case hex, `-` where there are none; numbers are decimal. A lent output is given whole: in the request
+// Bytes are lower-case hex, `-` if there are none; numbers are decimal. A lent output is given whole: in the request
 // as it is before the call, in the answer as it is after. A state is KIND:v,v,.. (the fields that aren't reserved, from
-// bit 0 up) or none; KIND is the type, but 31 for the signal of catalogue 3.0, which is 301 in the outside vectors. A
-// standing is applied,late,gap,other. An element's catalogue is 1.0 where none is named. A line that begins with # is
-// printed as it is. It is proved safe and says no more.
+// bit 0 up) or none; KIND is the type, except 31 for the signal of catalogue 3.0, which is 301 in the outside vectors.
+// A standing is applied,late,gap,other. An element's catalogue is 1.0 if none is named. A line that begins with # is
+// printed as it is. The program is proved safe and no more.
 mod objects;
 mod operations;
 mod under_table;
@@ -23,9 +23,9 @@ use without_table::list;
 ghost use Prim.Native.Nat.{_≤_};
 ghost use lib.ListN.{length};
 
-// The bytes of text that are held at a time: every line is shorter.
+// The bytes of text that are held at a time; every line has to be shorter.
 const TEXT: usize = 200000;
-// How often text is read, 12 megabytes in all.
+// How often text is read: over 12 megabytes in all.
 const TURNS: usize = 64;
 // Room for a table.
 const TABLE: usize = 52000;
@@ -42,7 +42,7 @@ fn main() {
     }
 }
 
-// Reads on behind what is held and answers each line that ends. What is left is held at the front; how many bytes.
+// Reads on after what is held and answers each complete line. The rest is held at the front; returns its length.
 fn take_text(text: &mut [u8], held: usize) -> usize {
     if text.len() < held {
         return 0;
@@ -53,7 +53,7 @@ fn take_text(text: &mut [u8], held: usize) -> usize {
     keep_rest(text, done, end)
 }
 
-// Answers each line that ends; the place where what is left begins.
+// Answers each complete line; returns where the rest begins.
 fn answer_lines(text: &[u8]) -> usize
     ensures { λ r. ⌜ r ≤ length (now (text .entry)) ⌝ }
 {
@@ -70,7 +70,7 @@ fn answer_lines(text: &[u8]) -> usize
     at
 }
 
-// Copies what stands between two places to the front; how many bytes.
+// Copies what is between two places to the front; returns its length.
 fn keep_rest(text: &mut [u8], from: usize, to: usize) -> usize {
     let mut n = 0;
     let mut i = from;
@@ -101,7 +101,7 @@ fn answer(line: &[u8]) {
     }
 }
 
-// With the table, two forms and the output that the line names; what it doesn't name is empty.
+// Asks with the table, two forms and the output that the line names; what it doesn't name is empty.
 fn ask_with(line: &[u8], first: &[u8], second: &[u8]) {
     let mut table = [0u8; TABLE];
     let mut one = [0u8; FORM];

@@ -12,7 +12,7 @@ fn object_of(line: &[u8]) -> u16 {
     (number_of(line, b" number=") % 65536) as u16
 }
 
-// The numbers are those of the state's own call, and the values those of the call that gives plain numbers.
+// The answer is that of the call that gives a state, the values those of the call that gives plain numbers.
 pub fn read_state(line: &[u8], table: &[u8], image: &[u8]) {
     let object = object_of(line);
     print_answer(panel::answer_of(panel::read_state(table, image, object)));
@@ -32,7 +32,7 @@ fn print_state(kind: u32, count: usize, values: [u32; 32]) {
     print_numbers(values, count);
 }
 
-// Whatever stands behind a state's own values isn't looked at.
+// Whatever follows a state's own values is ignored.
 pub fn write_state(line: &[u8], table: &[u8], image: &[u8], out: &mut [u8]) {
     let object = object_of(line);
     let state = value_of(line, b" state=");
@@ -45,7 +45,7 @@ pub fn write_state(line: &[u8], table: &[u8], image: &[u8], out: &mut [u8]) {
     );
 }
 
-// Where in the table the label begins, and the label, as the table's own bytes.
+// Prints where in the table the label begins, and the label's bytes.
 pub fn label(line: &[u8], table: &[u8]) {
     let object = object_of(line);
     print_answer(view::label_answer(table, object));

@@ -1,4 +1,4 @@
-// The calls that make a list or an image out of two forms: the operations, and a list received.
+// The calls that make a list or an image from other forms: the operations, and a list received.
 use history::Answer;
 use history::Standing;
 use script::begins;
@@ -22,7 +22,7 @@ pub fn operate(line: &[u8], table: &[u8], one: &[u8], two: &[u8], out: &mut [u8]
     }
 }
 
-// The numbers, and the whole output as it is after the call.
+// Prints the answer's numbers, and the whole output as it is after the call.
 pub fn print_written(answer: Answer, out: &[u8]) {
     print_answer(answer);
     print(b" out=");

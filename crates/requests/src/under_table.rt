@@ -6,7 +6,7 @@ use super::operations::operate;
 use script::begins;
 use script::print_answer;
 
-// An image stands first and a list second; a difference has two images, a join two lists.
+// `one` is an image and `two` a list; for a difference both are images, for a join both are lists.
 pub fn ask(line: &[u8], table: &[u8], one: &[u8], two: &[u8], out: &mut [u8]) {
     if begins(line, b"check_table ") {
         print_answer(tables::check_table(table));

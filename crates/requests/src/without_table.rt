@@ -8,12 +8,12 @@ use script::value_of;
 
 // Room for an element.
 const ELEMENT: usize = 8;
-// Room for a listing's input, one byte more than is taken.
+// Room for a listing's input, one byte more than is accepted.
 const DATA: usize = 65537;
 // Room for its text.
 const LISTED: usize = 65536;
 
-// By the call for C, which alone takes a catalogue.
+// Uses the call for C, the only one that takes a catalogue.
 pub fn check_element(line: &[u8]) {
     let mut element = [0u8; ELEMENT];
     let n = bytes_of(line, b" word=", &mut element);
@@ -34,7 +34,7 @@ fn check_under(x: u8, y: u8, ty: u8, element: &[u8]) {
     print_four(answer[0], answer[1], answer[2], answer[3]);
 }
 
-// The numbers of the call, and the text that the program `list` prints.
+// Prints the answer of the call, and the text that the program `list` prints.
 pub fn list(line: &[u8]) {
     let mut data = [0u8; DATA];
     let n = bytes_of(line, b" data=", &mut data);

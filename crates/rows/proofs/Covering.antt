@@ -1,5 +1,5 @@
--- The covering rule and the range rule: one computed test over the whole table, carried to each layout and to each row; each bit of an
--- element is held by exactly one row of its layout.
+-- The covering rule and the range rule: one test, computed over the whole table, and what it says of each layout and each row. Each bit
+-- of an element is in exactly one row of its layout.
 -- Assumes nothing.
 use mathlib.Core.Path.{_≡_, _∙_, refl, sym, ap, ap₂}
 use mathlib.Core.Bool.{Bool, true, false, cond, _&&_}
@@ -18,7 +18,7 @@ use Rattle.rows.proofs.Tests.{both-left, both-right}
 use Rattle.rows.proofs.Rows.{Good}
 use Rattle.rows.proofs.Words.{Tiled, tiled}
 
--- the test passes, over all rows of the table
+-- the test passes over all rows of the table
 pub covered : T (covers 0 layouts)
 unfolding table layouts
 covered = tt
@@ -55,7 +55,7 @@ good l t =
 pub layout-covered : (i : ℕ) → i < length layouts → Covered (layoutAt i)
 layout-covered i h = good (layoutAt i) (at-place layouts 0 covered i h)
 
--- ---- the range rule at each row, since each is a row of some layout
+-- ---- the range rule for each row, since each is a row of some layout
 
 row-of : (n j at end : ℕ) → T (tiles at (rowsFrom j n) end) → (i : ℕ) → j ≤ i → i < j + n → Good (rowAt i)
 row-of zero j at end t i l h = absurd (omega arith)
@@ -90,7 +90,7 @@ row-in (x ∷ xs) at t i l h = go (ltb i (at + x .count)) refl (λ m. row-in xs 
 pub row-good : (i : ℕ) → i < rowTotal → Good (rowAt i)
 row-good i h = row-in layouts 0 covered i (omega arith) h
 
--- the numbers of a row, as they were read
+-- a row's numbers as they were read are below 32, so the machine can shift by them
 module _ (i : ℕ) (h : i < rowTotal) where
   pub low-small : {l : ℕ} → l ≡ rowAt i .low → l < 32
   low-small e = rw e (let g = row-good i h in omega arith)

@@ -1,4 +1,4 @@
--- A glance at all fields of a number at once: where nothing is carried into a marked bit, each field has a listed value.
+-- A glance at all fields of a number at once: if nothing is carried into a marked bit, each field has a listed value.
 -- Assumes nothing.
 use mathlib.Core.Path.{_≡_, _∙_, refl, sym, ap}
 use mathlib.Core.Bool.{Bool, true, false, _||_}
@@ -17,7 +17,7 @@ use Rattle.rows.proofs.Tests.{both-left, both-right}
 use Rattle.rows.proofs.Words.{Within}
 use Rattle.rows.proofs.Listed.{within-accepted}
 
--- a bit that is marked is 0 where no marked bit is 1
+-- if no marked bit is 1, each marked bit is 0
 bit-clear : (x c p : ℕ) → bitAnd x c ≡ 0 → c / 2 ^ p % 2 ≡ 1 → x / 2 ^ p % 2 ≡ 0
 bit-clear x c p h m =
     let b = x / 2 ^ p % 2 in
@@ -25,7 +25,7 @@ bit-clear x c p h m =
     let own : bitAnd (x / 2 ^ p) (c / 2 ^ p) % 2 ≡ b % 2 = and-mod (x / 2 ^ p) (c / 2 ^ p) 1 ∙ ap (bitAnd b) m ∙ and-mask b 1 in
     omega arith
 
--- where bit p of a sum is that of its parts, nothing is carried into it: what lies below doesn't overflow
+-- if bit p of a sum is the exclusive or of its parts' bits, nothing was carried into it: what is below didn't overflow
 no-carry : (w a p : ℕ) → bitXor (bitXor (w + a) w) a / 2 ^ p % 2 ≡ 0 → w % 2 ^ p + a % 2 ^ p < 2 ^ p
 no-carry w a p e = go (leb (2 ^ p) (w % 2 ^ p + a % 2 ^ p)) refl
   where
@@ -43,7 +43,7 @@ no-carry w a p e = go (leb (2 ^ p) (w % 2 ^ p + a % 2 ^ p)) refl
         let bits : bitXor (bitXor (w + a) w) a / 2 ^ p ≡ bitXor (bitXor s x) y = xor-shr (bitXor (w + a) w) a p ∙ ap (λ (n : ℕ). bitXor n y) (xor-shr (w + a) w p) in
         omega (arith, xor-add-and s x, xor-add-and (bitXor s x) y)
 
--- where nothing is carried out of a field, its value and what is added to it fit in it
+-- if nothing is carried out of a field, the sum of its value and what is added fits in it
 field-fits : (w a k d : ℕ) → w % 2 ^ (d + k) + a % 2 ^ (d + k) < 2 ^ (d + k) → w / 2 ^ k % 2 ^ d + a / 2 ^ k % 2 ^ d < 2 ^ d
 field-fits w a k d h =
     let v = w / 2 ^ k % 2 ^ d in

@@ -1,4 +1,4 @@
--- Values as their rows admit them: what a state keeps of any values, once over the rows and once over the named cases.
+-- Values and what their rows admit: which values a state keeps, by its rows and by its named cases; and which number is refused, and how.
 -- Assumes nothing.
 use mathlib.Core.Path.{_≡_, _∙_, refl, sym, ap, ap₂}
 use mathlib.Core.Bool.{Bool, true, false, cond, _&&_}
@@ -18,7 +18,7 @@ use Rattle.rows.specs.declared.Refusal.{Refusal}
 use Rattle.rows.proofs.Tests.{both-left, both-right}
 use Rattle.rows.proofs.Words.{Within}
 
--- a value that is listed, or 0
+-- the value if it is listed, else 0
 abbrev pub listed : ℕ → ℕ → ℕ
 listed top v = cond (leb v top) v 0
 
@@ -50,7 +50,7 @@ listed-from (r ∷ rs) pre (u ∷ us) post h =
     (ap (listed (r .top)) (getD-append-seam pre u (us ++ post) 0) ∙ listed-same (r .top) u (h .0))
     (ap₂ (λ (k : ℕ) (l : List ℕ). listedFrom k rs l) (sym n) (sym (append-snoc pre u (us ++ post))) ∙ listed-from rs (pre ++ (u ∷ [])) us post (h .1))
 
--- the fields of an accepted number are within their rows, and the other way round
+-- a number is accepted exactly if each field's value is one that its row admits
 within-step : (w : ℕ) (r : Row) (next : Finding) → onField (fieldRead w r) next ≡ Finding.Accepted → (fieldOf w r ≤ r .top) × (next ≡ Finding.Accepted)
 within-step w r next = go (leb (fieldOf w r) (r .top)) refl
   where
@@ -67,7 +67,7 @@ pub within-accepted : (w : ℕ) (rs : List Row) → Within rs (valuesOf w rs) �
 within-accepted w [] h = refl
 within-accepted w (r ∷ rs) h = ap (λ (b : Bool). onField (cond b (Field.Value (fieldOf w r)) (Field.Refused (codeAt (cond (eqb (r .top) 0) 10 11) (r .low)))) (checkRows w rs)) (le-leb _ _ (h .0)) ∙ within-accepted w rs (h .1)
 
--- ---- what is refused: the lowest field whose value is not listed, 10 where it is reserved and else 11, with its lowest bit
+-- ---- what is refused: the lowest field whose value is not listed, with code 10 if it is reserved and else 11, and its lowest bit
 
 pub record FirstUnlisted (w : ℕ) (rs : List Row) (x : Refusal) : Type 0 where
   pub below : List Row
@@ -97,7 +97,7 @@ refuses-at w (b ∷ bs) r as′ h u = rw (le-leb (fieldOf w b) (b .top) (h .0)) 
 pub refuses-first : (w : ℕ) (rs : List Row) {x : Refusal} → FirstUnlisted w rs x → checkRows w rs ≡ Finding.Refused x
 refuses-first w rs q = rw (q .parts, q .told) (refuses-at w (q .below) (q .row) (q .above) (q .listed) (q .unlisted))
 
--- the number 0 has nothing but zeros
+-- every field of the number 0 is 0, which every row admits
 zero-within : (rs : List Row) → Within rs (valuesOf 0 rs)
 zero-within [] = tt
 zero-within (r ∷ rs) =
@@ -106,14 +106,14 @@ zero-within (r ∷ rs) =
 pub zero-accepted : (rs : List Row) → checkRows 0 rs ≡ Finding.Accepted
 zero-accepted rs = within-accepted 0 rs (zero-within rs)
 
--- what stands behind the values does not matter
+-- what follows the values doesn't matter
 pub compose-append : (rs : List Row) (vs zs : List ℕ) → Within rs vs → composeOf rs (vs ++ zs) ≡ composeOf rs vs
 compose-append [] [] zs h = refl
 compose-append [] (v ∷ vs) zs h = absurd h
 compose-append (r ∷ rs) [] zs h = absurd h
 compose-append (r ∷ rs) (v ∷ vs) zs h = ap (λ (n : ℕ). v * 2 ^ r .low + n) (compose-append rs vs zs (h .1))
 
--- the named cases of a field bear the numbers from i on
+-- the named cases of a field have the numbers i, i + 1, ..
 abbrev pub numbered : {A : Type 0} → (A → ℕ) → ℕ → List A → Bool
 numbered num i [] = true
 numbered num i (a ∷ xs) = eqb (num a) i && numbered num (suc i) xs
@@ -124,7 +124,7 @@ numbered-at num (a ∷ xs) d i t zero h = eqb→eq _ _ (both-left (eqb (num a) i
 numbered-at num (a ∷ xs) d i t (suc v) h =
     numbered-at num xs d (suc i) (both-right (eqb (num a) i) (numbered num (suc i) xs) t) v (le-of-suc-le-suc h) ∙ suc-add i v ∙ sym (add-suc i v)
 
--- the number of the case that stands for v is v where v is listed, and 0 where not
+-- the number of the case of v is v if v is listed, else 0
 pub named : {A : Type 0} (num : A → ℕ) (xs : List A) (d : A) (top : ℕ) → T (numbered num 0 xs) → length xs ≡ suc top → num d ≡ 0 → (v : ℕ) → num (getD xs v d) ≡ listed top v
 named num xs d top t n z v = go (leb v top) refl
   where

@@ -1,4 +1,4 @@
--- What the loops over rows keep: of the loop that reads fields, and of the loop that composes a number.
+-- The invariants of the loops over rows: those that check and read fields, and the one that composes a number.
 -- Assumes nothing.
 use mathlib.Core.Path.{_≡_, _∙_, refl, sym, ap, ap₂}
 use mathlib.Core.Bool.{Bool, true, false, cond}
@@ -30,7 +30,7 @@ values-length : (w n i : ℕ) → length (valuesOf w (rowsFrom i n)) ≡ n
 values-length w zero i = refl
 values-length w (suc n) i = ap suc (values-length w n (suc i))
 
--- one more
+-- a store at the first place that is still free
 pub fill-store : (n : ℕ) (vs : List ℕ) (v : ℕ) → length vs < n
     → set (filled n vs) (length vs) v ≡ filled n (vs ++ (v ∷ []))
 fill-store n vs v h =
@@ -42,7 +42,7 @@ fill-store n vs v h =
     ∙ sym (append-snoc vs v (replicate m 0))
     ∙ ap (λ (n : ℕ). (vs ++ (v ∷ [])) ++ replicate n 0) (sym e′)
 
--- the rows that are left, with the next in front
+-- the rows that are left are the next row and those after it
 pub rows-next : (first count k : ℕ) → k < count → rowsFrom (first + k) (count - k) ≡ rowAt (first + k) ∷ rowsFrom (first + (k + 1)) (count - (k + 1))
 rows-next first count k h =
     let e : count - k ≡ suc (count - (k + 1)) = omega arith in
@@ -56,11 +56,11 @@ picked false x v r e = let z : _≡_ {A = ℕ} 0 1 = cc in omega arith
 value-is : (w : ℕ) (r : Row) (v : ℕ) → fieldRead w r ≡ Field.Value v → v ≡ fieldOf w r
 value-is w r v e = picked (leb (fieldOf w r) (r .top)) (fieldOf w r) v _ e
 
--- what both loops over fields keep: what is found is found in the rows to come
+-- what both loops over fields keep: the rows to come decide what is found
 pub record Checking (w : ℕ) (all rest : List Row) : Type 0 where
   pub to-come : checkRows w all ≡ checkRows w rest
 
--- where the field f of the next row has been read
+-- once the field f of the next row has been read
 module _ {w : ℕ} {all rest more : List Row} {r : Row} (c : Checking w all rest) (e : rest ≡ r ∷ more) {f : Field} (q : f ≡ fieldRead w r) where
   next : {g : Field} → f ≡ g → checkRows w all ≡ onField g (checkRows w more)
   next t = c .to-come ∙ ap (checkRows w) e ∙ ap (λ (f : Field). onField f (checkRows w more)) (sym q ∙ t)
@@ -71,7 +71,7 @@ module _ {w : ℕ} {all rest more : List Row} {r : Row} (c : Checking w all rest
 pub checked : {w : ℕ} {all rest : List Row} → Checking w all rest → rest ≡ [] → Finding.Accepted ≡ checkRows w all
 checked {w} c e = sym (c .to-come ∙ ap (checkRows w) e)
 
--- the rows that bear a number, with the next in front, or none
+-- the rows from i on that have this number: row i and those after it, or none
 module _ (number i : ℕ) where
   bears : (b : Bool) → eqb (numberAt i) number ≡ b → i < rowTotal
       → bearing number i (rowTotal - i) ≡ cond b (rowAt i ∷ bearing number (i + 1) (rowTotal - (i + 1))) []
@@ -97,7 +97,7 @@ module _ (number i : ℕ) where
       → f ≡ fieldRead w (rowAt i) → f ≡ Field.Refused x → findingOf f ≡ checkRows w all
   stops c h is e q t = ap findingOf t ∙ sym (next c (bears-next h is e) q t)
 
--- what the reading loop keeps
+-- what the reading loop keeps: the values so far
 pub record Reading (w first count : ℕ) (values : List ℕ) (k : ℕ) : Type 0 where
   pub bound : k ≤ count
   pub checking : Checking w (rowsFrom first count) (rowsFrom (first + k) (count - k))
@@ -124,7 +124,7 @@ turn {w} {first} {count} {values} {k} r h small q {v} t =
           ∙ ap padded (sym (values-snoc w (rowsFrom first k) (rowAt (first + k))) ∙ ap (valuesOf w) (sym (rows-snoc k first)) ∙ ap (λ (j : ℕ). valuesOf w (rowsFrom first j)) (sym (add-one k)));
     }
 
--- the answer by the finding
+-- the answer, given the finding
 answer : ℕ → List Row → Finding → Fields
 answer w rs v = record { finding = v; values = onFinding v (padded (valuesOf w rs)) (λ r. replicate 24 0) }
 
@@ -153,7 +153,7 @@ compose-starts vs first count =
     let e′ : count - 0 ≡ count = omega arith in
     record { bound = omega arith; whole = zero-add _ ∙ ap₂ (λ (i n : ℕ). composeOf (rowsFrom i n) vs) e e′ }
 
--- where the next row's lowest bit has been read: the machine's shift of a value that is part of a sum below 2^32, and the next turn
+-- once the next row's lowest bit has been read: the machine's shift loses nothing, since the sum is below 2^32, and the next turn
 module _ {vs : List ℕ} {first count word k : ℕ} (r : Composing vs first count word k) (h : k < count) (few : count ≤ 24) (long : length vs ≡ 24)
     (small : composeOf (rowsFrom first count) vs < 4294967296) {low : ℕ} (e : low ≡ rowAt (first + k) .low) where
   rest : ℕ

@@ -1,4 +1,4 @@
--- What a row that keeps the range rule tells.
+-- What the range rule says of a row, and the machine's `1 << width`.
 -- Assumes nothing.
 use mathlib.Core.Path.{_≡_, _∙_, ap}
 use mathlib.Core.Bool.{_&&_}

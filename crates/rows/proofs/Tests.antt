@@ -14,7 +14,7 @@ pub both-right : (a b : Bool) → T (a && b) → T b
 both-right true b t = t
 both-right false b t = absurd t
 
--- past the arms over 0, .., n - 1: v is none of them, so v is at least n
+-- after the arms for 0, .., n - 1: v is none of them, so v is at least n
 abbrev pub None : ℕ → ℕ → Type 0
 None v zero = Unit
 None v (suc n) = None v n × (v ≡ n → ⊥)

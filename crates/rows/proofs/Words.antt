@@ -1,5 +1,5 @@
--- The arithmetic of fields, once over any rows that tile the bits: a number is what its fields compose to, and the fields of a
--- composed number are the values.
+-- The arithmetic of fields, once for any rows that tile the bits: a number's fields compose to it, and the fields of a composed number
+-- are the values it was composed of.
 -- Assumes nothing.
 use mathlib.Core.Path.{_≡_, _∙_, refl, sym, ap, ap₂, subst}
 use mathlib.Core.Bool.{_&&_}
@@ -73,7 +73,7 @@ divides (r ∷ rs) (v ∷ vs) at end t =
           ∙ sym (add-mul v (y .0 * 2 ^ r .width) (2 ^ at)),
     )
 
--- a value that its row admits, at its place, stays below the next row's bit
+-- a value that fits its field, shifted to its place, stays below the next row's bit
 below-next : (v a d : ℕ) → v < 2 ^ d → v * 2 ^ a + 2 ^ a ≤ 2 ^ (a + d)
 below-next v a d h =
     subst (λ (p : ℕ). v * 2 ^ a + 2 ^ a ≤ p) (mul-comm (2 ^ d) (2 ^ a) ∙ sym (pow-add 2 a d))

@@ -1,5 +1,5 @@
--- The rows cover each element's bits once, without gap or overlap, and admit only values that their fields can hold: as one test
--- that is computed over the whole table.
+-- The rows cover each element's bits once, without gap or overlap, and admit only values that their fields can hold. Both as one test,
+-- computed over the whole table.
 use mathlib.Core.Bool.{Bool, true, cond, _&&_}
 use mathlib.Core.List.{List, [], _∷_}
 use Prim.Native.Nat.{ℕ, zero, suc, _+_, _*_, _^_}
@@ -25,7 +25,7 @@ allFrom test i (suc n) = test i && allFrom test (suc i) n
 abbrev pub layoutRows : Layout → List Row
 layoutRows l = rowsFrom (l .first) (l .count)
 
--- a layout has at most 24 rows and 4 bytes; its rows bear its number and cover its bits
+-- a layout has at most 24 rows and 4 bytes; its rows have its number and cover its bits
 abbrev pub layoutGood : Layout → Bool
 layoutGood l =
     (leb (l .first + l .count) rowTotal && leb (l .count) 24) &&

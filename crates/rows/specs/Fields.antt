@@ -1,4 +1,4 @@
--- Element: fields from bit 0 up. A field's value by its row, the refusals 10 and 11, and the number that is made of values.
+-- An element's fields, from bit 0 up: a field's value by its row, the refusals 10 and 11, and the number composed of values.
 use mathlib.Core.Bool.{Bool, true, false, cond}
 use mathlib.Core.List.{List, [], _∷_, _++_}
 use Prim.Native.Nat.{ℕ, zero, suc, _+_, _-_, _*_, _/_, _%_, _^_}
@@ -24,7 +24,7 @@ fieldRead w r =
     (Field.Value (fieldOf w r))
     (Field.Refused (codeAt (cond (eqb (r .top) 0) 10 11) (r .low)))
 
--- a refused field is passed up at once
+-- a refused field is the answer at once
 abbrev pub onField : Field → Finding → Finding
 onField (Field.Value v) rest = rest
 onField (Field.Refused r) rest = Finding.Refused r
@@ -34,7 +34,7 @@ abbrev pub checkRows : ℕ → List Row → Finding
 checkRows w [] = Finding.Accepted
 checkRows w (r ∷ rs) = onField (fieldRead w r) (checkRows w rs)
 
--- the rows that the check of a number goes through: at most n from row i on, as long as they bear a layout's number
+-- the rows that the check of a number reads: at most n from row i on, as long as they have the layout's number
 abbrev pub bearing : ℕ → ℕ → ℕ → List Row
 bearing number i zero = []
 bearing number i (suc n) = cond (eqb (numberAt i) number) (rowAt i ∷ bearing number (suc i) n) []
@@ -43,13 +43,13 @@ abbrev pub valuesOf : ℕ → List Row → List ℕ
 valuesOf w [] = []
 valuesOf w (r ∷ rs) = fieldOf w r ∷ valuesOf w rs
 
--- the number whose fields by the rows are the values
+-- the number whose fields, by the rows, are the values
 abbrev pub composeOf : List Row → List ℕ → ℕ
 composeOf [] vs = 0
 composeOf (r ∷ rs) [] = 0
 composeOf (r ∷ rs) (v ∷ vs) = v * 2 ^ r .low + composeOf rs vs
 
--- numbers in the first of n places, zeros behind them; an element's values have 24
+-- the values in the first of n places and zeros after them; an element has 24 places
 abbrev pub filled : ℕ → List ℕ → List ℕ
 filled n vs = vs ++ replicate (n - length vs) 0
 
@@ -60,7 +60,7 @@ abbrev pub onFinding : {A : Type 0} → Finding → A → (Refusal → A) → A
 onFinding Finding.Accepted good bad = good
 onFinding (Finding.Refused r) good bad = bad r
 
--- all fields: the values where all are accepted, and zeros where one is refused
+-- all fields: their values if all are accepted, zeros if one is refused
 abbrev pub fieldsRead : ℕ → List Row → Fields
 fieldsRead w rs =
     record {
@@ -68,14 +68,14 @@ fieldsRead w rs =
       values = onFinding (checkRows w rs) (padded (valuesOf w rs)) (λ r. replicate 24 0);
     }
 
--- what is found of one field, and what a refused one leaves of them all
+-- what is found of one field; and the answer for all fields if that one is refused
 abbrev pub findingOf : Field → Finding
 findingOf f = onField f Finding.Accepted
 
 abbrev pub refusedFields : Field → Fields
 refusedFields f = record { finding = findingOf f; values = replicate 24 0 }
 
--- one bit takes 0 or 1
+-- a bit as a number
 abbrev pub bitNo : Bool → ℕ
 bitNo true = 1
 bitNo false = 0

@@ -1,6 +1,6 @@
--- A glance at all fields of a number at once. Of each row that doesn't admit every value of its field two marks are kept: what is
--- added to the field, so that a value that isn't listed carries out of it, and the bit that it carries into.
--- A device of the code, nothing to believe.
+-- A glance at all fields of a number at once. Each row that doesn't admit every value of its field has two marks: what is added to the
+-- field, so that a value that isn't listed carries out of it, and the bit that it then carries into.
+-- A shortcut of the code, nothing to believe.
 use mathlib.Core.Path.{_≡_}
 use mathlib.Core.Bool.{Bool, true, _&&_, _||_}
 use mathlib.Core.List.{List, [], _∷_}
@@ -15,7 +15,7 @@ use Rattle.rows.specs.declared.Finding.{Finding}
 abbrev pub full : Row → Bool
 full r = eqb (suc (r .top)) (2 ^ r .width)
 
--- a row's marks: the highest listed value and what is added fill the field, and the bit above it is marked
+-- a row's marks: the highest listed value plus what is added fills the field, and the bit above the field is marked
 abbrev pub marks : ℕ → ℕ → Row → Bool
 marks add carry r = eqb (suc (add / 2 ^ r .low % 2 ^ r .width + r .top)) (2 ^ r .width) && eqb (carry / 2 ^ (r .width + r .low) % 2) 1
 
@@ -28,6 +28,6 @@ unfoldable pub carriesNone : ℕ → ℕ → ℕ → Bool
 carriesNone add carry w = eqb (bitAnd (bitXor (bitXor (w + add) w) add) carry) 0
 
 -- what a glance says: that each field has a listed value, or nothing. One direction is enough: where it says nothing, the rows are
--- gone through.
+-- read.
 pub record Shows (rs : List Row) (w : ℕ) (listed : Bool) : Type 0 where
   pub accepted : listed ≡ true → checkRows w rs ≡ Finding.Accepted

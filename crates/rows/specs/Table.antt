@@ -1,5 +1,5 @@
--- Every row of every layout, 131 rows of layout, lowest bit, width and highest admitted value (0: reserved), in one constant
--- table; and the layouts, each with its number, its first row, how many, its width in bytes and whether bit 0 is DAT.
+-- Every row of every layout in one constant table: 131 rows of layout, lowest bit, width and highest admitted value (0: reserved).
+-- Then the layouts: number, first row, number of rows, width in bytes, and whether bit 0 is DAT.
 -- Written by catalogue/write.py.
 use mathlib.Core.Bool.{Bool, true, false}
 use mathlib.Core.List.{List, [], _∷_}
@@ -164,7 +164,7 @@ layouts =
     layout 31 107 24 4 true ∷
     []
 
--- the layout at a place; none past the end
+-- the layout at a place; past the end, one without rows
 abbrev pub layoutAt : ℕ → Layout
 layoutAt i = getD layouts i (layout 0 0 0 0 false)
 
@@ -174,13 +174,15 @@ pub record Row : Type 0 where
   pub width : ℕ
   pub top : ℕ
 
--- the number at a place of the table; the row i; the number of the layout that it belongs to
+-- the number at a place of the table
 abbrev pub cellAt : ℕ → ℕ
 cellAt place = getD table place 0
 
+-- row i
 abbrev pub rowAt : ℕ → Row
 rowAt i = record { low = cellAt (4 * i + 1); width = cellAt (4 * i + 2); top = cellAt (4 * i + 3) }
 
+-- the number of the layout that row i belongs to
 abbrev pub numberAt : ℕ → ℕ
 numberAt i = cellAt (4 * i)
 

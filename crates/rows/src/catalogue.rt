@@ -1,9 +1,9 @@
 // Every row of every layout. Written by catalogue/write.py from catalogue/fields.tsv.
 
-// How many rows there are.
+// The number of rows of all layouts together.
 pub const ROW_TOTAL: usize = 131;
 
-// Their numbers: of each row the layout, the lowest bit, the width and the highest admitted value (0: reserved).
+// Four numbers for each row: its layout, lowest bit, width and highest admitted value (0: reserved).
 pub type Cells = [u8; 4 * ROW_TOTAL];
 
 pub const ROWS: Cells = [

@@ -1,6 +1,6 @@
-// The floor of rows: one constant table of every field of every layout, the reading of a field and of all fields of
-// an element's number by their rows, and the number that is made of values. All the arithmetic of elements is here,
-// once over rows. It knows no type by name, reads no bytes and writes nothing.
+// The floor of rows: one constant table of every field of every layout, reading one field or all fields of an element's number by
+// their rows, and composing a number of values. All arithmetic of elements is here, once for all rows. It knows no type by name, reads
+// no bytes and writes nothing.
 mod catalogue;
 
 pub use catalogue::Cells;
@@ -12,7 +12,7 @@ ghost use Rattle.rows.specs.Table.{table, rowTotal, cellAt, rowAt, rowsF
 ghost use Rattle.rows.specs.Fields.{fieldRead, findingOf, checkRows, fieldsRead, refusedFields, composeOf, bearing};
 ghost use Rattle.rows.specs.Marks.{carriesNone};
 
-// A layout: its number, where its rows stand in the table, its width in bytes, and whether its bit 0 is DAT.
+// A layout: its number, where its rows are in the table, its width in bytes, and whether its bit 0 is DAT.
 pub struct Layout {
     pub number: u8,
     pub first: usize,
@@ -28,7 +28,7 @@ pub struct Marks {
     pub carry: u64,
 }
 
-// What a refused element says: the code, and the lowest bit of its field.
+// Why an element is refused: the code, and the lowest bit of the field.
 pub struct Refusal {
     pub code: u8,
     pub bit: u8,
@@ -46,13 +46,13 @@ pub enum Finding {
     Refused(Refusal),
 }
 
-// What reading all fields of an element gives: the values in the rows' order where all are accepted.
+// What reading all fields of an element gives: the values in the rows' order if all are accepted, else zeros.
 pub struct Fields {
     pub finding: Finding,
     pub values: [u32; 24],
 }
 
-// The table, for whoever goes by many of its rows: a constant is copied wherever it is named.
+// The table. Whoever reads many rows takes it once, since a constant is copied wherever it is named.
 pub fn table() -> Cells
     ensures { λ r. ⌜ r ≡ table ⌝ }
 {
@@ -67,7 +67,7 @@ pub fn cell(rows: &Cells, place: usize) -> u8
     rows[place]
 }
 
-// The field of a row of the table in an element's number.
+// The field of an element's number that a row of the table describes.
 fn read_field(rows: &Cells, word: u32, row: usize) -> Field
     requires { ⌜ (now rows ≡ table) × (row < rowTotal) ⌝ }
     ensures { λ r. ⌜ r ≡ fieldRead word (rowAt row) ⌝ }
@@ -96,7 +96,7 @@ fn finding_of(field: Field) -> Finding
     }
 }
 
-// The answer of a refused field.
+// The answer for all fields when one is refused.
 fn refused_fields(field: Field) -> Fields
     ensures { λ r. ⌜ r ≡ refusedFields field ⌝ }
 {
@@ -128,7 +128,7 @@ pub fn read_rows(word: u32, first: usize, count: usize) -> Fields
     }
 }
 
-// What is found of the fields of the rows that bear a layout's number, from its first row on.
+// What is found of an element's number by its layout: the rows from the first on, as long as they have the layout's number.
 pub fn check_rows(word: u32, number: u8, first: usize) -> Finding
     ensures { λ r. ⌜ r ≡ checkRows word (bearing number first (rowTotal - first)) ⌝ }
 {
@@ -147,8 +147,8 @@ pub fn check_rows(word: u32, number: u8, first: usize) -> Finding
     Finding::Accepted
 }
 
-// Whether an element's number and what is added to its fields carry nothing into a marked bit. By the marks of its rows, each field
-// then has a listed value.
+// Whether adding the marks to an element's number carries nothing into a marked bit. With the marks of its rows, each field then has a
+// listed value.
 pub fn carries_none(word: u32, marks: Marks) -> bool
     ensures { λ r. ⌜ r ≡ carriesNone (marks .add) (marks .carry) word ⌝ }
 {
@@ -158,7 +158,7 @@ pub fn carries_none(word: u32, marks: Marks) -> bool
     carried & marks.carry == 0
 }
 
-// The number whose fields by the rows first, first + 1, .. are the values.
+// The number whose fields, by the rows first, first + 1, .., are the values.
 pub fn compose_rows(values: [u32; 24], first: usize, count: usize) -> u32
     requires { ⌜ (first + count ≤ rowTotal) × (count ≤ 24) × (composeOf (rowsFrom first count) values < 4294967296) ⌝ }
     ensures { λ r. ⌜ r ≡ composeOf (rowsFrom first count) values ⌝ }

@@ -1,13 +1,13 @@
-// Requests and answers as text, for the program that runs stored requests: a line's values by their names, bytes in hex
-// and decimal numbers read, and an answer's numbers and bytes printed. It is proved safe and says no more; it knows no
-// call of the product.
+// Requests and answers as text, for the program that runs stored requests: reads a line's values by their names, as bytes
+// in hex or decimal numbers, and prints an answer's numbers and bytes. It is proved safe and no more; it knows no call of
+// the product.
 use history::Answer;
 use libc::STDOUT_FILENO;
 ghost use Prim.Native.Nat.{_≤_};
 ghost use lib.ListN.{length};
 ghost use Rattle.io.specs.Counts.{Counts};
 
-// Where a byte stands first from a place on; the end where it doesn't.
+// The first place of a byte from a place on; the text's end if there is none.
 pub fn find(text: &[u8], from: usize, byte: u8) -> usize
     ensures { λ r. ⌜ (r ≤ length (now (text .entry))) × (from ≤ length (now (text .entry)) → from ≤ r) ⌝ }
 {
@@ -21,12 +21,12 @@ pub fn find(text: &[u8], from: usize, byte: u8) -> usize
     text.len()
 }
 
-// Does a line begin with a word, which has a byte at least?
+// Whether a line begins with a word of at least one byte.
 pub fn begins(line: &[u8], word: &[u8]) -> bool {
     0 < behind(line, 0, word)
 }
 
-// Where a value begins, behind ` name=`; the line's end where the line doesn't name it.
+// Where a value begins, after ` name=`; the line's end if the line doesn't name it.
 pub fn value_of(line: &[u8], name: &[u8]) -> usize
     ensures { λ r. ⌜ r ≤ length (now (line .entry)) ⌝ }
 {
@@ -41,7 +41,7 @@ pub fn value_of(line: &[u8], name: &[u8]) -> usize
     line.len()
 }
 
-// The place behind a word that stands at a place of a line; 0 where something else stands there.
+// The place after a word that is at a place of a line; 0 if it isn't there.
 fn behind(line: &[u8], at: usize, word: &[u8]) -> usize
     ensures { λ r. ⌜ r ≤ length (now (line .entry)) ⌝ }
 {
@@ -63,14 +63,14 @@ fn behind(line: &[u8], at: usize, word: &[u8]) -> usize
     place
 }
 
-// The bytes that a line names, in hex, as many as have room; how many.
+// Decodes the bytes that a line names, in hex, as many as there is room for; returns how many.
 pub fn bytes_of(line: &[u8], name: &[u8], out: &mut [u8]) -> usize
     ensures { λ r. ⌜ Counts r (now (out .exit)) ⌝ }
 {
     decode(line, value_of(line, name), out)
 }
 
-// The number that a line names, in 32 bits; 0 where it names none.
+// The number that a line names, modulo 2^32; 0 if it names none.
 pub fn number_of(line: &[u8], name: &[u8]) -> u32 {
     decimal(line, value_of(line, name))
 }
@@ -94,7 +94,7 @@ fn digit(byte: u8) -> u8
     16
 }
 
-// The bytes that stand in hex from a place on, as many as there are and as have room; how many.
+// Decodes the bytes in hex from a place on, as many as there are and as there is room for; returns how many.
 fn decode(text: &[u8], from: usize, out: &mut [u8]) -> usize
     ensures { λ r. ⌜ Counts r (now (out .exit)) ⌝ }
 {
@@ -122,7 +122,7 @@ fn decode(text: &[u8], from: usize, out: &mut [u8]) -> usize
     n
 }
 
-// The decimal number that stands from a place on, in 32 bits.
+// The decimal number from a place on, modulo 2^32; 0 if there are no digits.
 pub fn decimal(text: &[u8], from: usize) -> u32 {
     let mut value: u64 = 0;
     let mut i = from;
@@ -140,7 +140,7 @@ pub fn decimal(text: &[u8], from: usize) -> u32 {
     (value % 4294967296) as u32
 }
 
-// Numbers with commas between; places behind the last have what comes of reading on.
+// Numbers with commas between. Places after the last hold whatever reading on gives.
 pub fn numbers(text: &[u8], from: usize) -> [u32; 32] {
     let mut values = [0u32; 32];
     let mut at = from;
@@ -153,7 +153,7 @@ pub fn numbers(text: &[u8], from: usize) -> [u32; 32] {
     values
 }
 
-// Prints the four numbers of an answer, with a space between.
+// Prints the four numbers of an answer, with spaces between.
 pub fn print_answer(answer: Answer) {
     print_four(
         answer.code as u32,
@@ -173,7 +173,7 @@ pub fn print_four(code: u32, object: u32, bit: u32, length: u32) {
     print_number(length);
 }
 
-// Prints bytes in hex, `-` where there are none.
+// Prints bytes in hex, `-` if there are none.
 pub fn print_hex(bytes: &[u8]) {
     if bytes.len() == 0 {
         print(b"-");
@@ -189,7 +189,7 @@ fn print_byte(byte: u8) {
     io::print_hex(STDOUT_FILENO, byte as u64, 2);
 }
 
-// Prints the first numbers, with commas between.
+// Prints the first `count` numbers, with commas between.
 pub fn print_numbers(values: [u32; 32], count: usize) {
     let mut k: usize = 0;
     while k < 32 {

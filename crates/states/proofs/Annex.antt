@@ -1,6 +1,6 @@
 -- Each layout's state by the bits of its word, as annexes 1 and 3 of NAS 831 print them: every field by its name, with its bit or bits.
--- Kept by hand and typed from the annex, whose line stands beside each field; catalogue/write.py leaves this file as it is.
--- `..-bits`: the state is so at every word. `..-words`: in each field wider than one bit, a word with a middle value has that named case.
+-- Kept by hand and typed from the annex, whose line is beside each field; catalogue/write.py leaves this file alone.
+-- `..-bits`: every word is read as this state. `..-words`: in each field wider than one bit, a word with a middle value has that named case.
 -- Annex 3 prints types 2 to 7 with the same bits and values, some under other names: CV_EST, CVA_EST, CVX_EST, CVX_DIR, and CEJES of CV and CVX.
 -- Assumes nothing.
 use mathlib.Core.Path.{_≡_, refl}
@@ -54,7 +54,7 @@ bit w n = eqb (w / 2 ^ n % 2) 1
 abbrev bits : ℕ → ℕ → ℕ → ℕ
 bits w lowest highest = w / 2 ^ lowest % 2 ^ (suc highest - lowest)
 
--- the layout that has a number, and the values of a word's fields by its rows
+-- the layout with a number, and the values of a word's fields by its rows
 abbrev numbered : ℕ → List Layout → Layout
 numbered n [] = layout 0 0 0 0 false
 numbered n (l ∷ ls) = cond (eqb n (l .number)) l (numbered n ls)

@@ -1,4 +1,4 @@
--- Of each layout: the values of a state that is made of values are the listed ones, and a state's own values make it again.
+-- For each layout: a state made from values keeps the listed ones (the others become 0), and a state's values make that state again.
 -- Written by catalogue/write.py. Assumes nothing.
 use mathlib.Core.Path.{_≡_}
 use mathlib.Core.List.{List, [], _∷_}

@@ -1,4 +1,4 @@
--- Each layout's state from its fields' values in the rows' order, and a state's values (a reserved row's is 0).
+-- For each layout: the state from its fields' values in the rows' order, and a state's values (a reserved row's is 0).
 -- Written by catalogue/write.py.
 use mathlib.Core.List.{List, [], _∷_}
 use Prim.Native.Nat.{ℕ}
@@ -20,7 +20,7 @@ use Rattle.states.specs.declared.general_notices.GeneralNotices.{General
 use Rattle.states.specs.declared.control_boundary.ControlBoundary.{ControlBoundary}
 use Rattle.states.specs.declared.signal_v3.SignalV3.{SignalV3}
 
--- b3 is whether the value of row 3 is 1: for each place among the rows at which some type has a field of one bit
+-- b3 says whether the value at place 3 is 1, and so for each place at which some layout has a field of one bit
 abbrev pub bitsOf : List ℕ → Bits
 bitsOf vs = record {
   b0 = eqb (getD vs 0 0) 1;

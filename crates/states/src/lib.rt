@@ -1,8 +1,8 @@
-// The floor of states: a struct for each layout with its named fields, its width in bytes and its state without data, and the
-// way between a state and its fields' values in the rows' order, each in a module of its own. Written by catalogue/write.py from
-// catalogue/fields.tsv. It checks nothing. Beside a field stands its mnemonic in the first annex that prints the layout. All bits are
-// read in one place, `bits_of`: the check of a function costs its steps times its locals, and a field that is copied from there
-// costs neither.
+// The floor of states: for each layout a module with its struct of named fields, its width in bytes, its state without data if bit 0
+// is DAT, and the way from a state to its fields' values in the rows' order and back. Written by catalogue/write.py from
+// catalogue/fields.tsv. It checks nothing. The comment beside a field is its mnemonic in the first annex that prints the layout. All
+// bits are read in one place, `bits_of`: the check of a function takes its steps times its locals, and a field copied from there adds
+// to neither.
 mod changer_signal;
 mod control_boundary;
 mod crossing_track_circuit;
@@ -34,7 +34,7 @@ ghost use lib.Dec.{eqb};
 ghost use lib.ListN.{getD};
 ghost use Rattle.states.specs.States.{bitsOf};
 
-// The value at a place.
+// The value of the row at a place among its layout's rows.
 fn value(values: [u32; 24], place: usize) -> u32
     requires { ⌜ place < 24 ⌝ }
     ensures { λ r. ⌜ r ≡ getD values place 0 ⌝ }
@@ -42,7 +42,7 @@ fn value(values: [u32; 24], place: usize) -> u32
     values[place]
 }
 
-// The bit at a place.
+// Whether that value is 1.
 fn bit(values: [u32; 24], place: usize) -> bool
     requires { ⌜ place < 24 ⌝ }
     ensures { λ r. ⌜ r ≡ eqb (getD values place 0) 1 ⌝ }
@@ -50,7 +50,7 @@ fn bit(values: [u32; 24], place: usize) -> bool
     values[place] == 1
 }
 
-// The bits at the places where a layout has one.
+// The fields of one bit by their place among the rows, for each place at which some layout has one.
 struct Bits {
     b0: bool,
     b1: bool,

@@ -1,4 +1,4 @@
--- The digits of a number say it: read in decimal they give it back, each is 0 to 9, and the first is 0 only where it is the number's one digit.
+-- The digits of a number stand for it: read in decimal they give it back, each is 0 to 9, and the first is 0 only if it is the only one.
 -- Assumes nothing.
 use mathlib.Core.Path.{_≡_, refl, sym, _∙_}
 use mathlib.Core.Bool.{Bool, true, false, cond, _&&_}
@@ -11,7 +11,7 @@ use borrow.Author.Tests.{le-leb, ltb-true, ltb-false}
 use Rattle.text.specs.Decimal.{decimalIn, decimal}
 use Rattle.text.proofs.Laws.{tenth}
 
--- digits read from the highest down, behind a number already read
+-- digits read from the highest down, after a number already read
 abbrev pub readFrom : ℕ → List ℕ → ℕ
 readFrom n [] = n
 readFrom n (d ∷ ds) = readFrom (n * 10 + (d - 48)) ds
@@ -27,13 +27,13 @@ pub record Says (n : ℕ) (ds : List ℕ) : Type 0 where
   pub some : 0 < length ds
   pub first : getD ds 0 0 ≡ 48 → (n ≡ 0) × (length ds ≡ 1)
 
--- ---- one digit behind others
+-- ---- one digit after others
 
 read-last : (n : ℕ) (ds : List ℕ) (d : ℕ) → readFrom n (ds ++ (d ∷ [])) ≡ readFrom n ds * 10 + (d - 48)
 read-last n [] d = refl
 read-last n (x ∷ ds) d = read-last (n * 10 + (x - 48)) ds d
 
--- both tests, one with a digit more
+-- both tests, with the second weakened
 more : (b : Bool) {t u : Bool} → (t ≡ true → u ≡ true) → b && t ≡ true → b && u ≡ true
 more true f e = f e
 more false f e = e

@@ -1,4 +1,4 @@
--- Digits of a number, bytes in hex, and writings one after the other: what the writers of text go by.
+-- Digits of a number, bytes in hex, and writes one after the other: the laws for the writers of text.
 -- Assumes nothing.
 use mathlib.Core.Path.{_≡_, refl, sym, ap, _∙_}
 use mathlib.Core.Bool.{Bool, true, false, cond}
@@ -15,11 +15,11 @@ use Rattle.text.specs.Decimal.{decimalIn, decimal}
 use Rattle.text.specs.Hex.{hexDigit, hexes}
 use Rattle.text.specs.Wrote.{Wrote}
 
--- a tenth of a number has a digit less
+-- a tenth of a number has one digit less
 pub tenth : (k n : ℕ) → n < 10 ^ suc (suc k) → n / 10 < 10 ^ suc k
 tenth k n h = div-lt-iff-lt-mul (lit< tt) .1 (rw pow-suc at h)
 
--- as many digits as the number needs, or more, give the same
+-- any limit that is enough for the number gives the same digits
 enough-at : (b : Bool) (k j n : ℕ) → ltb n 10 ≡ b → (10 ≤ n → decimalIn k (n / 10) ≡ decimalIn j (n / 10))
     → cond b ((48 + n) ∷ []) (decimalIn k (n / 10) ++ ((48 + n % 10) ∷ [])) ≡ cond b ((48 + n) ∷ []) (decimalIn j (n / 10) ++ ((48 + n % 10) ∷ []))
 enough-at true k j n e less = refl
@@ -63,7 +63,7 @@ then {l} {at} {xs} {m} {p} {ys} {n} {r} a b = record {
   text = b .text ∙ (λ i. sets (a .text i) (a .next i) ys) ∙ sets-append l at xs ys;
 }
 
--- a tenth of n is written, and then its last digit, where n has two digits or more
+-- for n of two digits or more: a tenth of n is written, and then its last digit
 module _ {n : ℕ} (h : 10 ≤ n) (h′ : n < 4294967296) where
   pub tenth-room : (at k : ℕ) → at + length (decimal n) ≤ k → at + length (decimal (n / 10)) ≤ k
   tenth-room at k r = omega (arith, decimal-length n h (omega arith))

@@ -1,5 +1,5 @@
-// The floor of text: decimal numbers, upper-case hex and bytes in a lent buffer. Each writer takes the buffer and a place in it, and
-// says what it wrote there and the place after it (`Wrote`). It knows no form and touches nothing but those bytes.
+// The floor of text: decimal numbers, upper-case hex and bytes, written into a lent buffer. Each writer takes the buffer and a place in
+// it, and returns the place after what it wrote (`Wrote`). It knows no form and touches nothing but those bytes.
 ghost use mathlib.Core.Path.{_≡_};
 ghost use Prim.Native.Nat.{_+_, _*_, _≤_, _<_};
 ghost use mathlib.Core.List.{[], _∷_};
@@ -8,7 +8,7 @@ ghost use Rattle.text.specs.Decimal.{decimal};
 ghost use Rattle.text.specs.Hex.{hexDigit, hexes};
 ghost use Rattle.text.specs.Wrote.{Wrote};
 
-// One byte.
+// Writes one byte.
 pub fn put_byte(out: &mut [u8], at: usize, b: u8) -> usize
     requires { ⌜ at + 1 ≤ length (now out) ⌝ }
     ensures { λ r. ⌜ Wrote (now (out .entry)) at (b ∷ []) (now (out .exit)) r ⌝ }
@@ -17,7 +17,7 @@ pub fn put_byte(out: &mut [u8], at: usize, b: u8) -> usize
     at + 1
 }
 
-// The digits of `n`, highest first, without leading zeros.
+// Writes the digits of `n`, highest first, without leading zeros.
 pub fn put_decimal(out: &mut [u8], at: usize, n: u32) -> usize
     requires { ⌜ at + length (decimal n) ≤ length (now out) ⌝ }
     ensures { λ r. ⌜ Wrote (now (out .entry)) at (decimal n) (now (out .exit)) r ⌝ }
@@ -31,7 +31,7 @@ pub fn put_decimal(out: &mut [u8], at: usize, n: u32) -> usize
     p + 1
 }
 
-// The bytes of `src`.
+// Writes the bytes of `src`.
 pub fn put_bytes(out: &mut [u8], at: usize, src: &[u8]) -> usize
     requires { ⌜ at + length (now src) ≤ length (now out) ⌝ }
     ensures { λ r. ⌜ Wrote (now (out .entry)) at (now (src .entry)) (now (out .exit)) r ⌝ }
@@ -51,7 +51,7 @@ fn hex_digit(d: u8) -> u8
     if d < 10 { 48 + d } else { 55 + d }
 }
 
-// A byte in upper-case hex, two digits.
+// Writes a byte as two hex digits.
 fn put_hex_byte(out: &mut [u8], at: usize, b: u8) -> usize
     requires { ⌜ at + 2 ≤ length (now out) ⌝ }
     ensures { λ r. ⌜ Wrote (now (out .entry)) at (hexes (b ∷ [])) (now (out .exit)) r ⌝ }
@@ -60,7 +60,7 @@ fn put_hex_byte(out: &mut [u8], at: usize, b: u8) -> usize
     put_byte(out, p, hex_digit(b % 16))
 }
 
-// The bytes of `src` in upper-case hex.
+// Writes the bytes of `src` in upper-case hex.
 pub fn put_hex(out: &mut [u8], at: usize, src: &[u8]) -> usize
     requires { ⌜ at + 2 * length (now src) ≤ length (now out) ⌝ }
     ensures { λ r. ⌜ Wrote (now (out .entry)) at (hexes (now (src .entry))) (now (out .exit)) r ⌝ }

@@ -1,4 +1,4 @@
--- `elements::check_at` meets its contract: the number at the place, and what the glance at it shows, or what its rows tell.
+-- `elements::check_at` meets its contract: the number at the place, and what a glance at it shows, or what its rows find.
 -- Assumes nothing.
 use borrow.Author.Needs.{needs}
 use borrow.Author.Tests.{not-true}

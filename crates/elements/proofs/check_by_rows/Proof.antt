@@ -1,4 +1,4 @@
--- `elements::check_by_rows` meets its contract: a refused field is passed up, and then the rule of DAT decides.
+-- `elements::check_by_rows` meets its contract: a refused field is the answer, and else the rule of DAT decides.
 -- Assumes nothing.
 use mathlib.Core.Path.{_∙_}
 use borrow.Author.Needs.{needs}

@@ -1,4 +1,4 @@
--- `elements::check_element` meets its contract: what a glance shows, or what the rows tell.
+-- `elements::check_element` meets its contract: what a glance shows, or what the rows find.
 -- Assumes nothing.
 use borrow.Author.Needs.{needs}
 use borrow.Author.Tests.{not-true}

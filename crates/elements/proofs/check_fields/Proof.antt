@@ -1,4 +1,4 @@
--- `elements::check_fields` meets its contract: the rows that bear the number of the kind's layout are its rows.
+-- `elements::check_fields` meets its contract: the rows with the number of the kind's layout are its rows.
 -- Assumes nothing.
 use mathlib.Core.Path.{_∙_, ap}
 use Prim.Native.Nat.{_-_}

@@ -1,4 +1,4 @@
--- `elements::dat_rule` meets its contract: 12 where the rule is broken.
+-- `elements::dat_rule` meets its contract: 12 if the rule is broken.
 -- Assumes nothing.
 use mathlib.Core.Path.{sym}
 use borrow.Author.Needs.{needs}

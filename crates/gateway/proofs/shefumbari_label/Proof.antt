@@ -1,4 +1,4 @@
--- `gateway::shefumbari_label` meets its contract.
+-- `gateway::shefumbari_label` meets its contract: the numbers that `label_slots` ensures.
 -- Assumes nothing.
 use borrow.Author.Needs.{needs}
 use Rattle.gateway.proofs.shefumbari_label.Statement.{statement}

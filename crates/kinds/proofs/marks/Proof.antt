@@ -1,4 +1,4 @@
--- `kinds::marks` meets its contract: each kind's marks are held against its rows.
+-- `kinds::marks` meets its contract: each kind's marks are checked against its rows.
 -- Written by catalogue/write.py. Assumes nothing.
 use mathlib.Core.Path.{_≡_, subst⁻¹}
 use Prim.Native.Nat.{ℕ}

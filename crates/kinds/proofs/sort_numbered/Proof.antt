@@ -1,4 +1,4 @@
--- `kinds::sort_numbered` meets its contract: a number that is none of the layouts' is looked up in vain.
+-- `kinds::sort_numbered` meets its contract: a number that no layout has finds no kind.
 -- Written by catalogue/write.py. Assumes nothing.
 use mathlib.Core.Path.{sym, ap}
 use Prim.Native.Nat.{ℕ}

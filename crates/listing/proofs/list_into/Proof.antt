@@ -1,4 +1,4 @@
--- `listing::list_into` meets its contract: a buffer of 65,536 bytes fits every listing, so its refusals are those of any output.
+-- `listing::list_into` meets its contract: every listing fits in a buffer of 65,536 bytes, so its refusals are those of any output.
 -- Assumes nothing.
 use native.Mathlib.Omega.{arith}
 use borrow.Author.Needs.{needs}

@@ -1,4 +1,4 @@
--- `listing::print_into` meets its contract: a short output stays, any other has the text in front, or the line of its refusal.
+-- `listing::print_into` meets its contract: a short output stays as it was; any other has the text or the line of its refusal in front.
 -- Assumes nothing.
 use native.Mathlib.Omega.{arith}
 use borrow.Author.Needs.{needs}

@@ -1,4 +1,4 @@
--- `rows::check_rows` meets its contract: what is found is found in the rows to come.
+-- `rows::check_rows` meets its contract: the rows to come decide what is found.
 -- Assumes nothing.
 use borrow.Author.Needs.{needs}
 use Prim.Native.Nat.{_-_}

@@ -1,4 +1,4 @@
--- `rows::compose_rows` meets its contract: the sum so far and what is to come make the whole.
+-- `rows::compose_rows` meets its contract: the sum so far and what is to come make up the whole.
 -- Assumes nothing.
 use borrow.Author.Needs.{needs}
 use Prim.Native.Nat.{_-_}

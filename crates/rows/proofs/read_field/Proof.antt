@@ -13,7 +13,7 @@ use Rattle.rows.proofs.Covering.{low-small, width-small}
 use Rattle.rows.proofs.read_field.Statement.{statement}
 use Rattle.rows.proofs.read_field.Tie as tie
 
--- where the row's numbers have been read
+-- once the row's numbers have been read
 module _ (i : ℕ) (h : i < rowTotal) {d : ℕ} (ed : d ≡ rowAt i .width) where
   shifted : 1 * 2 ^ d % 4294967296 ≡ 2 ^ d
   shifted = one-shl d (width-small i h ed)

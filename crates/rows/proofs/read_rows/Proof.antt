@@ -1,4 +1,4 @@
--- `rows::read_rows` meets its contract: the values so far, and what is found of the rows to come.
+-- `rows::read_rows` meets its contract: the values so far, and the rows to come decide what is found.
 -- Assumes nothing.
 use borrow.Author.Needs.{needs}
 use Prim.Native.Nat.{_-_}

@@ -1,4 +1,4 @@
--- `rows::refused_fields` meets its contract: what is found of the field, and zeros.
+-- `rows::refused_fields` meets its contract: what is found of the field, and zeros as values.
 -- Assumes nothing.
 use borrow.Author.Needs.{needs}
 use Rattle.rows.proofs.refused_fields.Statement.{statement}

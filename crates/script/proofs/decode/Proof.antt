@@ -1,4 +1,4 @@
--- `script::decode` meets its contract: no more bytes than there is room.
+-- `script::decode` meets its contract: no more bytes than there is room for.
 -- Assumes nothing.
 use mathlib.Core.Path.{_≡_}
 use Prim.Native.Nat.{_≤_, _-_}

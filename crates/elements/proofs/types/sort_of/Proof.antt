@@ -1,4 +1,4 @@
--- `elements::types::sort_of` meets its contract: each catalogue by its own function, and an X that is none's is looked up in vain.
+-- `elements::types::sort_of` meets its contract: each catalogue by its own function, and an X that no catalogue has finds no kind.
 -- Written by catalogue/write.py. Assumes nothing.
 use mathlib.Core.Path.{_∙_, sym, ap}
 use Prim.Native.Nat.{ℕ}

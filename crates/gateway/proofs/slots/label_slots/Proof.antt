@@ -1,4 +1,4 @@
--- `gateway::slots::label_slots` meets its contract: a label stands within 65,536 bytes.
+-- `gateway::slots::label_slots` meets its contract: a label is within the first 65,536 bytes, so its place fits 32 bits.
 -- Assumes nothing.
 use mathlib.Core.Path.{_∙_, ap}
 use native.Mathlib.Omega.{arith}

@@ -1,4 +1,4 @@
--- `listing::both::put_objects` meets its contract: the whole text is what is written and the lines of the objects left.
+-- `listing::both::put_objects` meets its contract: the whole text is what is written, followed by the lines of the objects left.
 -- Assumes nothing.
 use Prim.Native.Nat.{_-_}
 use native.Mathlib.Omega.{arith}

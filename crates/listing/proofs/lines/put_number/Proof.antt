@@ -1,4 +1,4 @@
--- `listing::lines::put_number` meets its contract: two writings, one after the other.
+-- `listing::lines::put_number` meets its contract: two writes, one after the other.
 -- Assumes nothing.
 use borrow.Author.Needs.{needs}
 use Rattle.listing.proofs.LineLaws.{numbered}

@@ -1,4 +1,4 @@
--- `listing::lines::put_object_line` meets its contract: six writings, each right after the one before.
+-- `listing::lines::put_object_line` meets its contract: six writes, each right after the one before.
 -- Assumes nothing.
 use native.Mathlib.Omega.{arith}
 use borrow.Author.Needs.{needs}
