@@ -827,7 +827,7 @@ pub element-back : (e : Element) → elementOf (kindIn e) (padded (elementValues
 {''.join(f"element-back (Element.{l.struct} s) = ap Element.{l.struct} ({l.key}-back s){chr(10)}" for l in LAYOUTS)}
 pub element-kind : (k : Kind) (vs : List ℕ) → kindIn (elementOf k vs) ≡ k
 {''.join(f"element-kind Kind.{s} vs = refl{chr(10)}" for s in STRUCTS)}
--- the number 0 is read as the state of no values, the one without data
+-- the number 0 is read as the state of no values, which is the one without data if the kind has DAT
 pub zero-state : (k : Kind) → elementOf k (padded (valuesOf 0 (rowsOf k))) ≡ elementOf k []
 unfolding table layouts
 {''.join(f"zero-state Kind.{s} = refl{chr(10)}" for s in STRUCTS)}'''

@@ -103,7 +103,7 @@ element-kind Kind.GeneralNotices vs = refl
 element-kind Kind.ControlBoundary vs = refl
 element-kind Kind.SignalV3 vs = refl
 
--- the number 0 is read as the state of no values, the one without data
+-- the number 0 is read as the state of no values, which is the one without data if the kind has DAT
 pub zero-state : (k : Kind) → elementOf k (padded (valuesOf 0 (rowsOf k))) ≡ elementOf k []
 unfolding table layouts
 zero-state Kind.Signal = refl

@@ -1,4 +1,4 @@
--- Every listing fits 65,536 bytes, and nothing printed is empty. The objects' numbers take at most 2,986 digits, the rest of
+-- Every listing fits in 65,536 bytes, and nothing printed is empty. The objects' numbers take at most 2,986 digits, the rest of
 -- a line at most 61 bytes even if its label had 48, and the first line at most 44.
 -- Assumes nothing.
 use Prim.Native.Nat.{ℕ, suc, _+_, _*_, _-_, _≤_, _<_}
@@ -67,7 +67,7 @@ digits-at false false false i n e f g h =
 digits-next : (i n : ℕ) → i + suc n ≤ 1024 → length (decimal i) + digitsOf n ≤ digitsOf (suc n)
 digits-next i n h = digits-at (ltb i 10) (ltb i 100) (ltb i 1000) i n refl refl refl h
 
--- ---- a type and its element: nine digits together, since only types of one digit have four bytes
+-- ---- a type and its element: at most nine digits together, since only types of one digit have four bytes
 
 abbrev few : ℕ → ℕ → Kind → Bool
 few x type k = leb (length (decimal type) + 2 * widthOf k) 9

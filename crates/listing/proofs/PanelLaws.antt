@@ -1,4 +1,4 @@
--- What an accepted table and image are read as, and where its parts are in their bytes; and the answer if either is refused.
+-- What an accepted table and image are read as, where the parts are in their bytes, and the answer if either is refused.
 -- Assumes nothing.
 use Prim.Native.Nat.{ℕ, _+_, _-_, _≤_, _<_}
 use native.Mathlib.Omega.{arith}

@@ -27,7 +27,7 @@ readBoth t a =
     then (readImage (planOf t) a) λ a.
     done (record { table = t; image = a })
 
--- the table's bytes: its length and the four bytes that say it
+-- how many bytes the table takes: four for its length, and that length
 abbrev pub tableSize : List ℕ → ℕ
 tableSize input = 4 + number (take 4 input)
 

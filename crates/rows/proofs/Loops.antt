@@ -97,7 +97,7 @@ module _ (number i : ℕ) where
       → f ≡ fieldRead w (rowAt i) → f ≡ Field.Refused x → findingOf f ≡ checkRows w all
   stops c h is e q t = ap findingOf t ∙ sym (next c (bears-next h is e) q t)
 
--- what the reading loop keeps: the values so far
+-- what the reading loop keeps: the values so far, and that the rows to come decide
 pub record Reading (w first count : ℕ) (values : List ℕ) (k : ℕ) : Type 0 where
   pub bound : k ≤ count
   pub checking : Checking w (rowsFrom first count) (rowsFrom (first + k) (count - k))

@@ -27,7 +27,6 @@ marked add carry (r ∷ rs) = (full r || marks add carry r) && marked add carry 
 unfoldable pub carriesNone : ℕ → ℕ → ℕ → Bool
 carriesNone add carry w = eqb (bitAnd (bitXor (bitXor (w + add) w) add) carry) 0
 
--- what a glance says: that each field has a listed value, or nothing. One direction is enough: where it says nothing, the rows are
--- read.
+-- what a glance says: that each field has a listed value, or nothing. One direction is enough: where it says nothing, the rows decide.
 pub record Shows (rs : List Row) (w : ℕ) (listed : Bool) : Type 0 where
   pub accepted : listed ≡ true → checkRows w rs ≡ Finding.Accepted

@@ -1,4 +1,4 @@
--- `octets::copy` meets its contract: what is written, followed by what is left to copy, is the bytes given.
+-- `octets::copy` meets its contract: what is written, followed by what is left to copy, makes up the bytes given.
 -- Assumes nothing.
 use mathlib.Core.Path.{_≡_, refl, sym, _∙_}
 use mathlib.Core.List.{_++_}

@@ -1,4 +1,4 @@
--- `script::decimal` meets its contract: the value stays in 32 bits.
+-- `script::decimal` is safe and ends: the value stays in 32 bits.
 -- Assumes nothing.
 use Prim.Native.Nat.{_<_, _-_}
 use native.Mathlib.Omega.{arith}

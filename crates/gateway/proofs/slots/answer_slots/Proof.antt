@@ -1,4 +1,4 @@
--- `gateway::slots::answer_slots` meets its contract.
+-- `gateway::slots::answer_slots` meets its contract: an answer's numbers with nothing added.
 -- Assumes nothing.
 use borrow.Author.Needs.{needs}
 use Rattle.gateway.specs.Slots.{answerSlots}

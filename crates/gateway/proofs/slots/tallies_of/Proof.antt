@@ -1,4 +1,4 @@
--- `gateway::slots::tallies_of` meets its contract.
+-- `gateway::slots::tallies_of` meets its contract: the tallies in their order.
 -- Assumes nothing.
 use mathlib.Core.Path.{refl}
 use Rattle.gateway.proofs.slots.tallies_of.Statement.{statement}
