@@ -195,7 +195,7 @@ pub const ROWS: Cells = [
 '''
 
 
-def rows_table():
+def rows_rows():
     rows = '\n'.join(f'    {l.number} ∷ {r.low} ∷ {r.width} ∷ {r.top} ∷' for l in LAYOUTS for r in l.rows)
     layouts = ''.join(
         f'    layout {l.number} {l.first} {len(l.rows)} {l.bytes} {"true" if l.dat else "false"} ∷\n' for l in LAYOUTS)
@@ -211,8 +211,8 @@ use Rattle.rows.specs.declared.Layout.{{Layout}}
 abbrev pub rowTotal : ℕ
 rowTotal = {TOTAL}
 
-unfoldable pub table : List ℕ
-table =
+unfoldable pub cells : List ℕ
+cells =
 {rows}
     []
 
@@ -235,7 +235,7 @@ pub record Row : Type 0 where
 
 -- the number at a place of the table
 abbrev pub cellAt : ℕ → ℕ
-cellAt place = getD table place 0
+cellAt place = getD cells place 0
 
 -- row i
 abbrev pub rowAt : ℕ → Row
@@ -393,7 +393,7 @@ def state_source(l):
     text += ''.join(f'use cases::{e};\n' for e in sorted({r.type for r in l.named}))
     text += 'use crate::bits_of;\n' + ('use crate::value;\n' if l.named else '')
     text += 'ghost use mathlib.Core.Path.{_≡_};\n' + ('ghost use mathlib.Core.List.{[]};\n' if l.dat else '')
-    text += f'''ghost use Rattle.rows.specs.Fields.{{padded}};
+    text += f'''ghost use Rattle.rows.specs.Values.{{padded}};
 ghost use Rattle.states.specs.States.{{{l.key}Of, {l.key}Values}};
 
 pub struct {l.struct} {{
@@ -432,7 +432,7 @@ use mathlib.Core.List.{List, [], _∷_}
 use Prim.Native.Nat.{ℕ}
 use lib.ListN.{getD}
 use lib.Dec.{eqb}
-use Rattle.rows.specs.Fields.{bitNo}
+use Rattle.rows.specs.Values.{bitNo}
 '''
     text += f'use Rattle.cases.specs.Cases.{{{names(low(e) + x for e in ENUMS for x in ("Of", "No"))}}}\n'
     text += 'use Rattle.states.specs.declared.Bits.{Bits}\n'
@@ -460,8 +460,8 @@ use mathlib.Core.Path.{_≡_}
 use mathlib.Core.List.{List, [], _∷_}
 use Prim.Native.Nat.{ℕ}
 use lib.ListN.{getD}
-use Rattle.rows.specs.Table.{table, rowsFrom}
-use Rattle.rows.specs.Fields.{padded}
+use Rattle.rows.specs.Rows.{cells, rowsFrom}
+use Rattle.rows.specs.Values.{padded}
 use Rattle.rows.proofs.Listed.{listedFrom, bit-listed, bit-back, reserved-listed}
 '''
     text += f'use Rattle.cases.proofs.CaseLaws.{{{names(low(e) + x for e in ENUMS for x in ("-listed", "-back"))}}}\n'
@@ -470,7 +470,7 @@ use Rattle.rows.proofs.Listed.{listedFrom, bit-listed, bit-back, reserved-liste
         text += f'use Rattle.states.specs.declared.{module(s)}.{s}.{{{s}}}\n'
     for l in LAYOUTS:
         text += f'\npub {l.key}-listed : (vs : List ℕ) → {l.key}Values ({l.key}Of vs) ≡ listedFrom 0 (rowsFrom {l.first} {len(l.rows)}) vs\n'
-        text += f'unfolding table\n{l.key}-listed vs =\n    λ i.\n'
+        text += f'unfolding cells\n{l.key}-listed vs =\n    λ i.\n'
         for r in l.rows:
             law = 'reserved' if r.reserved else 'bit' if r.bit else low(r.type)
             text += f'    {law}-listed (getD vs {r.place} 0) i ∷\n'
@@ -545,7 +545,7 @@ def values_proof(l):
     return f'''-- `states::{l.struct}::values` meets its contract: each named field by what its number ensures.
 -- Written by catalogue/write.py. Assumes nothing.
 use mathlib.Core.List.{{[], _∷_}}
-use Rattle.rows.specs.Fields.{{padded, bitNo}}
+use Rattle.rows.specs.Values.{{padded, bitNo}}
 {ties('states', f'{module(l.struct)}.{l.struct}.values')}
 returns : tie.Need-returns
 returns c =
@@ -575,9 +575,9 @@ ghost use mathlib.Core.Path.{{_≡_}};
 ghost use Prim.Native.Nat.{{_+_, _≤_}};
 ghost use lib.Dec.{{T}};
 ghost use lib.ListN.{{length}};
-ghost use Rattle.rows.specs.Fields.{{padded}};
+ghost use Rattle.rows.specs.Values.{{padded}};
 ghost use Rattle.rows.specs.Marks.{{marked, Shows}};
-ghost use Rattle.kinds.specs.Kinds.{{layoutOf, widthOf, rowsOf, sortNumbered, kindIn, elementOf, elementValues}};
+ghost use Rattle.kinds.specs.Kinds.{{layoutOf, widthOf, rowsOf, findNumbered, kindIn, elementOf, elementValues}};
 ghost use Rattle.kinds.specs.Glances.{{Glanced}};
 
 // The kinds of element that are carried.
@@ -589,9 +589,9 @@ pub enum Element {{
 {''.join(f"    {s}({s}),{chr(10)}" for s in STRUCTS)}}}
 
 // What a number stands for: a kind that is carried, or none.
-pub enum Sort {{
-    Carried(Kind),
-    Other,
+pub enum OptionalKind {{
+    Some(Kind),
+    None,
 }}
 
 // What a glance at an element gives: its number, and whether each field is shown to have a listed value.
@@ -642,11 +642,11 @@ fn glance_by(s: &[u8], at: usize, kind: Kind, width: usize) -> Glance
 }
 
 // The kind whose layout has this number, if there is one.
-pub fn sort_numbered(number: u8) -> Sort
-    ensures { λ r. ⌜ r ≡ sortNumbered number ⌝ }
+pub fn find_numbered(number: u8) -> OptionalKind
+    ensures { λ r. ⌜ r ≡ findNumbered number ⌝ }
 {
     match number {
-''' + ''.join(f'        {l.number} => return Sort::Carried(Kind::{l.struct}),\n' for l in LAYOUTS) + '''        _ => return Sort::Other,
+''' + ''.join(f'        {l.number} => return OptionalKind::Some(Kind::{l.struct}),\n' for l in LAYOUTS) + '''        _ => return OptionalKind::None,
     }
 }
 
@@ -676,14 +676,14 @@ use mathlib.Core.Bool.{cond}
 use mathlib.Core.List.{List, [], _∷_, map}
 use Prim.Native.Nat.{ℕ}
 use lib.Dec.{eqb}
-use Rattle.rows.specs.Table.{Row, layoutAt}
+use Rattle.rows.specs.Rows.{Row, layoutAt}
 use Rattle.rows.specs.Covering.{layoutRows}
 use Rattle.rows.specs.declared.Layout.{Layout}
 '''
     text += f'use Rattle.states.specs.States.{{{names(l.key + x for l in LAYOUTS for x in ("Of", "Values"))}}}\n'
     text += f'''use Rattle.kinds.specs.declared.Kind.{{Kind}}
 use Rattle.kinds.specs.declared.Element.{{Element}}
-use Rattle.kinds.specs.declared.Sort.{{Sort}}
+use Rattle.kinds.specs.declared.OptionalKind.{{OptionalKind}}
 
 abbrev pub kinds : List Kind
 kinds = {kinds} ∷ []
@@ -712,16 +712,16 @@ abbrev pub line : ℕ → Kind → Line
 line number kind = record {{ number = number; kind = kind }}
 
 -- the kind that a number stands for, by the first line that has it
-abbrev pub sortIn : ℕ → List Line → Sort
-sortIn n [] = Sort.Other
-sortIn n (l ∷ ls) = cond (eqb n (l .number)) (Sort.Carried (l .kind)) (sortIn n ls)
+abbrev pub findIn : ℕ → List Line → OptionalKind
+findIn n [] = OptionalKind.None
+findIn n (l ∷ ls) = cond (eqb n (l .number)) (OptionalKind.Some (l .kind)) (findIn n ls)
 
 -- a line for each kind, with the number of its layout
 abbrev pub numbered : List Line
 numbered = map (λ (k : Kind). line (layoutNo k) k) kinds
 
-abbrev pub sortNumbered : ℕ → Sort
-sortNumbered n = sortIn n numbered
+abbrev pub findNumbered : ℕ → OptionalKind
+findNumbered n = findIn n numbered
 
 abbrev pub elementOf : Kind → List ℕ → Element
 {''.join(f"elementOf Kind.{l.struct} vs = Element.{l.struct} ({l.key}Of vs){chr(10)}" for l in LAYOUTS)}
@@ -763,30 +763,30 @@ use native.Mathlib.Omega.{arith}
 use lib.Dec.{T, eqb}
 use borrow.Author.Tests.{ne-eqb, eqb-true}
 use Rattle.rows.proofs.Tests.{both-left, both-right}
-use Rattle.kinds.specs.Kinds.{Line, sortIn}
+use Rattle.kinds.specs.Kinds.{Line, findIn}
 use Rattle.kinds.specs.declared.Kind.{Kind}
-use Rattle.kinds.specs.declared.Sort.{Sort}
+use Rattle.kinds.specs.declared.OptionalKind.{OptionalKind}
 
 abbrev pub Apart : ℕ → List Line → Type 0
 Apart n [] = Unit
 Apart n (l ∷ ls) = (n ≡ l .number → ⊥) × Apart n ls
 
-pub vain : (n : ℕ) (ls : List Line) → Apart n ls → Sort.Other ≡ sortIn n ls
+pub vain : (n : ℕ) (ls : List Line) → Apart n ls → OptionalKind.None ≡ findIn n ls
 vain n [] a = refl
-vain n (l ∷ ls) a = vain n ls (a .1) ∙ sym (ap (λ (b : Bool). cond b (Sort.Carried (l .kind)) (sortIn n ls)) (ne-eqb n (l .number) (a .0)))
+vain n (l ∷ ls) a = vain n ls (a .1) ∙ sym (ap (λ (b : Bool). cond b (OptionalKind.Some (l .kind)) (findIn n ls)) (ne-eqb n (l .number) (a .0)))
 
 abbrev pub allLines : (ℕ → Kind → Bool) → List Line → Bool
 allLines test [] = true
 allLines test (l ∷ ls) = test (l .number) (l .kind) && allLines test ls
 
-pub every-line : (test : ℕ → Kind → Bool) (n : ℕ) (ls : List Line) → T (allLines test ls) → {k : Kind} → sortIn n ls ≡ Sort.Carried k → T (test n k)
+pub every-line : (test : ℕ → Kind → Bool) (n : ℕ) (ls : List Line) → T (allLines test ls) → {k : Kind} → findIn n ls ≡ OptionalKind.Some k → T (test n k)
 every-line test n [] t e = absurd (let z : _≡_ {A = ℕ} 0 1 = cc in omega arith)
 every-line test n (l ∷ ls) t {k} e = at (eqb n (l .number)) refl (every-line test n ls (both-right (test (l .number) (l .kind)) (allLines test ls) t)) e
   where
-    here : (j : Kind) → T (test (l .number) j) → Sort.Carried j ≡ Sort.Carried k → n ≡ l .number → T (test n k)
+    here : (j : Kind) → T (test (l .number) j) → OptionalKind.Some j ≡ OptionalKind.Some k → n ≡ l .number → T (test n k)
     here j h e q = subst⁻¹ (λ (m : ℕ). T (test m k)) q (let same : j ≡ k = cc in subst (λ (j : Kind). T (test (l .number) j)) same h)
 
-    at : (b : Bool) → eqb n (l .number) ≡ b → (sortIn n ls ≡ Sort.Carried k → T (test n k)) → cond b (Sort.Carried (l .kind)) (sortIn n ls) ≡ Sort.Carried k → T (test n k)
+    at : (b : Bool) → eqb n (l .number) ≡ b → (findIn n ls ≡ OptionalKind.Some k → T (test n k)) → cond b (OptionalKind.Some (l .kind)) (findIn n ls) ≡ OptionalKind.Some k → T (test n k)
     at true q rest e = here (l .kind) (both-left (test (l .number) (l .kind)) (allLines test ls) t) e (eqb-true n (l .number) q)
     at false q rest e = rest e
 '''
@@ -801,15 +801,15 @@ use mathlib.Core.List.{List, [], map}
 use Prim.Native.Nat.{ℕ, _<_}
 use lib.Dec.{lit<}
 use lib.ListN.{length, getD}
-use Rattle.rows.specs.Table.{table, layouts}
-use Rattle.rows.specs.Fields.{padded, valuesOf}
+use Rattle.rows.specs.Rows.{cells, layouts}
+use Rattle.rows.specs.Values.{padded, valuesOf}
 use Rattle.rows.proofs.Listed.{listedFrom}
 '''
     text += f'use Rattle.states.proofs.StateLaws.{{{names(l.key + x for l in LAYOUTS for x in ("-listed", "-back"))}}}\n'
-    text += f'''use Rattle.kinds.specs.Kinds.{{kinds, place, layoutNo, rowsOf, sortNumbered, elementOf, elementValues, kindIn}}
+    text += f'''use Rattle.kinds.specs.Kinds.{{kinds, place, layoutNo, rowsOf, findNumbered, elementOf, elementValues, kindIn}}
 use Rattle.kinds.specs.declared.Kind.{{Kind}}
 use Rattle.kinds.specs.declared.Element.{{Element}}
-use Rattle.kinds.specs.declared.Sort.{{Sort}}
+use Rattle.kinds.specs.declared.OptionalKind.{{OptionalKind}}
 
 -- two functions that agree on the list of all kinds agree on each, so a table with a line for each kind is one computation
 pub every-kind : {{A : Type 0}} (f g : Kind → A) → map f kinds ≡ map g kinds → (k : Kind) → f k ≡ g k
@@ -817,7 +817,7 @@ pub every-kind : {{A : Type 0}} (f g : Kind → A) → map f kinds ≡ map g kin
 pub placed : (k : Kind) → place k < length layouts
 unfolding layouts
 {''.join(f"placed Kind.{s} = lit< tt{chr(10)}" for s in STRUCTS)}
-pub kind-found : (k : Kind) → sortNumbered (layoutNo k) ≡ Sort.Carried k
+pub kind-found : (k : Kind) → findNumbered (layoutNo k) ≡ OptionalKind.Some k
 unfolding layouts
 {''.join(f"kind-found Kind.{s} = refl{chr(10)}" for s in STRUCTS)}
 pub element-listed : (k : Kind) (vs : List ℕ) → elementValues (elementOf k vs) ≡ listedFrom 0 (rowsOf k) vs
@@ -829,7 +829,7 @@ pub element-kind : (k : Kind) (vs : List ℕ) → kindIn (elementOf k vs) ≡ k
 {''.join(f"element-kind Kind.{s} vs = refl{chr(10)}" for s in STRUCTS)}
 -- the number 0 is read as the state of no values, which is the one without data if the kind has DAT
 pub zero-state : (k : Kind) → elementOf k (padded (valuesOf 0 (rowsOf k))) ≡ elementOf k []
-unfolding table layouts
+unfolding cells layouts
 {''.join(f"zero-state Kind.{s} = refl{chr(10)}" for s in STRUCTS)}'''
     return text
 
@@ -857,7 +857,7 @@ def refuted(n):
 
 def lookup_proof(crate, fn, says, uses, lines, n, opens, number):
     """The proof of a match on a number with an arm for each of n lines, and one for a number that no line has."""
-    answers = [f'(λ c. sym (ap (λ (n : ℕ). sortIn n {lines}) (c .match .keys{i + 1})))' for i in range(n)]
+    answers = [f'(λ c. sym (ap (λ (n : ℕ). findIn n {lines}) (c .match .keys{i + 1})))' for i in range(n)]
     opened = f'unfolding {opens}\n' if opens else ''
     name = fn.split('.')[-1].replace('_', '-')
     return f'''-- `{crate}::{fn.replace('.', '::')}` meets its contract: {says}.
@@ -871,10 +871,10 @@ other : tie.Need-{returns(n + 1)}
 {spec_end(name, answers + ['other']).replace('statement M' + chr(10), 'statement M' + chr(10) + opened)}'''
 
 
-def sort_numbered_proof():
+def find_numbered_proof():
     return lookup_proof(
-        'kinds', 'sort_numbered', "a number that no layout has finds no kind",
-        'use Rattle.rows.specs.Table.{layouts}\nuse Rattle.kinds.specs.Kinds.{sortIn, numbered}\nuse Rattle.kinds.proofs.Lookup.{vain}\n',
+        'kinds', 'find_numbered', "a number that no layout has finds no kind",
+        'use Rattle.rows.specs.Rows.{layouts}\nuse Rattle.kinds.specs.Kinds.{findIn, numbered}\nuse Rattle.kinds.proofs.Lookup.{vain}\n',
         'numbered', len(LAYOUTS), 'layouts', 'number')
 
 
@@ -907,7 +907,7 @@ def marks_proof():
 use mathlib.Core.Path.{{_≡_, subst⁻¹}}
 use Prim.Native.Nat.{{ℕ}}
 use lib.Dec.{{T}}
-use Rattle.rows.specs.Table.{{table, layouts}}
+use Rattle.rows.specs.Rows.{{cells, layouts}}
 use Rattle.rows.specs.Marks.{{marked}}
 use Rattle.kinds.specs.Kinds.{{rowsOf}}
 use Rattle.kinds.specs.declared.Kind.{{Kind}}
@@ -918,7 +918,7 @@ fits add carry e t = subst⁻¹ (λ (k : Kind). T (marked add carry (rowsOf k)))
 
 '''
     arms = [f'(λ c. fits _ _ (c .{nth("enum-told", i)} .given .1) tt)' for i in range(1, n + 1)]
-    return text + spec_end('marks', each(told(n), arms)).replace('statement M\n', 'statement M\nunfolding table layouts\n')
+    return text + spec_end('marks', each(told(n), arms)).replace('statement M\n', 'statement M\nunfolding cells layouts\n')
 
 
 def shows_listed_proof():
@@ -940,7 +940,7 @@ def glance_at_proof():
 -- Written by catalogue/write.py. Assumes nothing.
 use mathlib.Core.Path.{{sym, ap}}
 use lib.Dec.{{lit≤}}
-use Rattle.rows.specs.Table.{{layouts}}
+use Rattle.rows.specs.Rows.{{layouts}}
 use Rattle.kinds.specs.Kinds.{{widthOf}}
 {ties('kinds', 'glance_at')}
 '''
@@ -974,27 +974,27 @@ returns c =
 def types_source():
     text = f'''// Which types are carried under each catalogue's X, and as which kind. Written by catalogue/write.py from catalogue/types.tsv.
 use kinds::Kind;
-use kinds::Sort;
+use kinds::OptionalKind;
 ghost use mathlib.Core.Path.{{_≡_}};
-ghost use Rattle.kinds.specs.Kinds.{{sortIn}};
-ghost use Rattle.elements.specs.Types.{{{names([f"typesUnder{x}" for x in CATALOGUES] + ["sortOf"])}}};
+ghost use Rattle.kinds.specs.Kinds.{{findIn}};
+ghost use Rattle.elements.specs.Types.{{{names([f"typesUnder{x}" for x in CATALOGUES] + ["findType"])}}};
 
 // The kind of a type under a catalogue's X, if it is carried.
-pub fn sort_of(x: u8, ty: u8) -> Sort
-    ensures {{ λ r. ⌜ r ≡ sortOf x ty ⌝ }}
+pub fn find_type(x: u8, ty: u8) -> OptionalKind
+    ensures {{ λ r. ⌜ r ≡ findType x ty ⌝ }}
 {{
     match x {{
-{''.join(f"        {x} => return under_{x}(ty),{chr(10)}" for x in CATALOGUES)}        _ => return Sort::Other,
+{''.join(f"        {x} => return under_{x}(ty),{chr(10)}" for x in CATALOGUES)}        _ => return OptionalKind::None,
     }}
 }}
 '''
     for x, types in CATALOGUES.items():
         text += f'''
-fn under_{x}(ty: u8) -> Sort
-    ensures {{ λ r. ⌜ r ≡ sortIn ty typesUnder{x} ⌝ }}
+fn under_{x}(ty: u8) -> OptionalKind
+    ensures {{ λ r. ⌜ r ≡ findIn ty typesUnder{x} ⌝ }}
 {{
     match ty {{
-{''.join(f"        {t} => return Sort::Carried(Kind::{l.struct}),{chr(10)}" for t, l in types.items())}        _ => return Sort::Other,
+{''.join(f"        {t} => return OptionalKind::Some(Kind::{l.struct}),{chr(10)}" for t, l in types.items())}        _ => return OptionalKind::None,
     }}
 }}
 '''
@@ -1008,9 +1008,9 @@ use mathlib.Core.Bool.{cond}
 use mathlib.Core.List.{List, [], _∷_}
 use Prim.Native.Nat.{ℕ}
 use lib.Dec.{eqb}
-use Rattle.kinds.specs.Kinds.{Line, line, sortIn}
+use Rattle.kinds.specs.Kinds.{Line, line, findIn}
 use Rattle.kinds.specs.declared.Kind.{Kind}
-use Rattle.kinds.specs.declared.Sort.{Sort}
+use Rattle.kinds.specs.declared.OptionalKind.{OptionalKind}
 '''
     for x, types in CATALOGUES.items():
         text += f'\n-- the types carried under X = {x}, each with its kind\nabbrev pub typesUnder{x} : List Line\ntypesUnder{x} =\n'
@@ -1028,12 +1028,12 @@ abbrev pub catalogues : List Catalogue
 catalogues = {' ∷ '.join(f"catalogue {x} typesUnder{x}" for x in CATALOGUES)} ∷ []
 
 -- the kind of a type under an X
-abbrev pub sortUnder : ℕ → ℕ → List Catalogue → Sort
-sortUnder x type [] = Sort.Other
-sortUnder x type (c ∷ cs) = cond (eqb x (c .x)) (sortIn type (c .types)) (sortUnder x type cs)
+abbrev pub findUnder : ℕ → ℕ → List Catalogue → OptionalKind
+findUnder x type [] = OptionalKind.None
+findUnder x type (c ∷ cs) = cond (eqb x (c .x)) (findIn type (c .types)) (findUnder x type cs)
 
-abbrev pub sortOf : ℕ → ℕ → Sort
-sortOf x type = sortUnder x type catalogues
+abbrev pub findType : ℕ → ℕ → OptionalKind
+findType x type = findUnder x type catalogues
 '''
     return text
 
@@ -1041,24 +1041,24 @@ sortOf x type = sortUnder x type catalogues
 def under_proof(x):
     return lookup_proof(
         'elements', f'types.under_{x}', 'a type that is not carried finds no kind',
-        f'use Rattle.kinds.specs.Kinds.{{sortIn}}\nuse Rattle.kinds.proofs.Lookup.{{vain}}\nuse Rattle.elements.specs.Types.{{typesUnder{x}}}\n',
+        f'use Rattle.kinds.specs.Kinds.{{findIn}}\nuse Rattle.kinds.proofs.Lookup.{{vain}}\nuse Rattle.elements.specs.Types.{{typesUnder{x}}}\n',
         f'typesUnder{x}', len(CATALOGUES[x]), '', 'ty')
 
 
-def sort_of_proof():
+def find_type_proof():
     n = len(CATALOGUES)
-    text = f'''-- `elements::types::sort_of` meets its contract: each catalogue by its own function, and an X that no catalogue has finds no kind.
+    text = f'''-- `elements::types::find_type` meets its contract: each catalogue by its own function, and an X that no catalogue has finds no kind.
 -- Written by catalogue/write.py. Assumes nothing.
 use mathlib.Core.Path.{{_∙_, sym, ap}}
 use Prim.Native.Nat.{{ℕ}}
-use Rattle.elements.specs.Types.{{catalogues, sortOf}}
+use Rattle.elements.specs.Types.{{catalogues, findType}}
 use Rattle.elements.proofs.TypeLaws.{{not-carried}}
-{ties('elements', 'types.sort_of')}'''
+{ties('elements', 'types.find_type')}'''
     for i, x in enumerate(CATALOGUES, 1):
         text += (f'\n{returns(i)} : tie.Need-{returns(i)}\n'
-                 f'{returns(i)} c = c .under-{x} .ensures ∙ sym (ap (λ (x : ℕ). sortOf x (c .before .before .args .ty)) (c .before .match .keys{i}))\n')
+                 f'{returns(i)} c = c .under-{x} .ensures ∙ sym (ap (λ (x : ℕ). findType x (c .before .before .args .ty)) (c .before .match .keys{i}))\n')
     text += f'\nother : tie.Need-{returns(n + 1)}\nother c = not-carried (c .before .args .x) (c .before .args .ty) catalogues {refuted(n)}\n\n'
-    return text + spec_end('sort-of', each([CALL] * n, [returns(i) for i in range(1, n + 1)]) + ['other'])
+    return text + spec_end('find-type', each([CALL] * n, [returns(i) for i in range(1, n + 1)]) + ['other'])
 
 
 # ---- files
@@ -1067,7 +1067,7 @@ def files():
     """The files by their path below crates/."""
     out = {
         'rows/src/catalogue.rt': rows_source(),
-        'rows/specs/Table.antt': rows_table(),
+        'rows/specs/Rows.antt': rows_rows(),
         'cases/src/lib.rt': cases_source(),
         'cases/specs/Lib.antt': 'pub mod Cases\n',
         'cases/specs/Cases.antt': cases_specs(),
@@ -1085,22 +1085,22 @@ def files():
         'kinds/proofs/Lib.antt': 'pub mod Lookup\npub mod KindLaws\n',
         'kinds/proofs/Lookup.antt': lookup_law(),
         'kinds/proofs/KindLaws.antt': kinds_laws(),
-        'kinds/proofs/layout/Proof.antt': by_kind_proof('layout', 'layoutOf', 'use Rattle.rows.specs.Table.{layouts}\n', 'layouts'),
+        'kinds/proofs/layout/Proof.antt': by_kind_proof('layout', 'layoutOf', 'use Rattle.rows.specs.Rows.{layouts}\n', 'layouts'),
         'kinds/proofs/kind_in/Proof.antt': by_kind_proof('kind_in', 'kindIn', '', ''),
         'kinds/proofs/marks/Proof.antt': marks_proof(),
         'kinds/proofs/shows_listed/Proof.antt': shows_listed_proof(),
         'kinds/proofs/glance_at/Proof.antt': glance_at_proof(),
         'kinds/proofs/glance_by/Proof.antt': glance_by_proof(),
-        'kinds/proofs/sort_numbered/Proof.antt': sort_numbered_proof(),
+        'kinds/proofs/find_numbered/Proof.antt': find_numbered_proof(),
         'kinds/proofs/element_of/Proof.antt': per_kind_proof(
             'element_of',
             'use Rattle.kinds.specs.Kinds.{elementOf}\nuse Rattle.kinds.specs.declared.Kind.{Kind}\n', element_of_answer),
         'kinds/proofs/values_of/Proof.antt': per_kind_proof(
             'values_of',
-            'use Rattle.rows.specs.Fields.{padded}\nuse Rattle.kinds.specs.Kinds.{elementValues}\n', values_of_answer),
+            'use Rattle.rows.specs.Values.{padded}\nuse Rattle.kinds.specs.Kinds.{elementValues}\n', values_of_answer),
         'elements/src/types.rt': types_source(),
         'elements/specs/Types.antt': types_specs(),
-        'elements/proofs/types/sort_of/Proof.antt': sort_of_proof(),
+        'elements/proofs/types/find_type/Proof.antt': find_type_proof(),
     }
     out['states/proofs/bits_of/Proof.antt'] = bits_of_proof()
     for e in ENUMS:

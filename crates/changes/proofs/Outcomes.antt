@@ -21,7 +21,7 @@ use Rattle.steps.specs.declared.Walk.{Walk}
 use Rattle.tables.specs.Outlines.{kindsOf, planAs}
 use Rattle.walks.specs.declared.Survey.{Survey}
 use Rattle.walks.specs.Walks.{Measured, Surveyed, misfit, unfit, renewal}
-use Rattle.walks.proofs.Bridges.{difference-walk, join-walk, turn-walk, turn-measured, join-misfit, apply-misfit, foundAt, renewal-is}
+use Rattle.walks.proofs.Bridges.{difference-walk, join-walk, turn-walk, turn-measured, join-misfit, apply-unfit, foundAt, renewal-is}
 use Rattle.forms.proofs.KindLaws.{length-kinds}
 use Rattle.walks.proofs.Application.{length-renewal}
 use Rattle.heads.specs.Heads.{imageHead, positionIn, elementsIn, fromIn, toIn, entryCountIn, entriesIn}
@@ -141,7 +141,7 @@ module _ (x y : ℕ) (ns : List ℕ) (few : length ns ≤ 1024) where
             let t : leb (a .image .position) (l .list .from) ≡ true = le-leb (a .image .position) (l .list .from) (omega (arith, position-in a, from-in l)) in
             let u : leb (l .list .from) (a .image .position) ≡ true = le-leb (l .list .from) (a .image .position) (omega (arith, position-in a, from-in l)) in
             apply-reads
-            ∙ rw (t, u, en, e₁, e₂, entries-in l, elements-in a, apply-misfit 18 (resultOf (l .list) (a .image)) 0 (length ns) (omega (arith, length-kinds ns)) (omega arith) (l .legal .each) (a .legal .words))
+            ∙ rw (t, u, en, e₁, e₂, entries-in l, elements-in a, apply-unfit 18 (resultOf (l .list) (a .image)) 0 (length ns) (omega (arith, length-kinds ns)) (omega arith) (l .legal .each) (a .legal .words))
 
         pub apply-misfits : n < length ns → applyUnder (planAs x y ns) A L ≡ refusalAt 18 n
         apply-misfits q = apply-found ∙ rw (lt-leb (length ns) n q)

@@ -9,13 +9,13 @@ use Prim.Native.Nat.{ℕ, _+_, _-_}
 use lib.Dec.{T, eqb, eqb→eq}
 use lib.ListN.{length}
 use borrow.Author.Tests.{eq-eqb}
-use Rattle.rows.specs.Table.{Row, table, layouts, rowTotal}
+use Rattle.rows.specs.Rows.{Row, cells, layouts, rowTotal}
 use Rattle.states.proofs.Annex.{signalIn, signal-bits, changerSignalIn, changer-signal-bits, virtualBoardIn, virtual-board-bits, lineTrackCircuitIn, line-track-circuit-bits, pointsTrackCircuitIn, points-track-circuit-bits, crossingTrackCircuitIn, crossing-track-circuit-bits, dualDetectionIn, dual-detection-bits, pointsIn, points-bits, electricLockIn, electric-lock-bits, generalNoticesIn, general-notices-bits, controlBoundaryIn, control-boundary-bits, signalV3In, signal-v3-bits}
-use Rattle.kinds.specs.Kinds.{Line, sortIn, kindIn, kinds, layoutNo, rowsOf}
+use Rattle.kinds.specs.Kinds.{Line, findIn, kindIn, kinds, layoutNo, rowsOf}
 use Rattle.kinds.specs.declared.Kind.{Kind}
 use Rattle.kinds.specs.declared.Element.{Element}
-use Rattle.kinds.specs.declared.Sort.{Sort}
-use Rattle.elements.specs.Types.{Catalogue, catalogues, sortUnder, sortOf}
+use Rattle.kinds.specs.declared.OptionalKind.{OptionalKind}
+use Rattle.elements.specs.Types.{Catalogue, catalogues, findUnder, findType}
 use Rattle.elements.specs.Elements.{isCarried, carried, kindOf, sameKind, stateOf}
 use Rattle.elements.proofs.TypeLaws.{allTypes, every-carried}
 
@@ -36,17 +36,17 @@ numbers ls = map (λ (l : Line). l .number) ls
 abbrev numbersIn : List Catalogue → List (ℕ × List ℕ)
 numbersIn cs = map (λ (c : Catalogue). (c .x, numbers (c .types))) cs
 
-either : (b : Bool) (s t : Sort) {p q : Bool} → isCarried s ≡ p → isCarried t ≡ q → isCarried (cond b s t) ≡ cond b p q
+either : (b : Bool) (s t : OptionalKind) {p q : Bool} → isCarried s ≡ p → isCarried t ≡ q → isCarried (cond b s t) ≡ cond b p q
 either true s t e f = e
 either false s t e f = f
 
-carried-in : (type : ℕ) (ls : List Line) → isCarried (sortIn type ls) ≡ oneOf (numbers ls) type
+carried-in : (type : ℕ) (ls : List Line) → isCarried (findIn type ls) ≡ oneOf (numbers ls) type
 carried-in type [] = refl
-carried-in type (l ∷ ls) = either (eqb type (l .number)) (Sort.Carried (l .kind)) (sortIn type ls) refl (carried-in type ls)
+carried-in type (l ∷ ls) = either (eqb type (l .number)) (OptionalKind.Some (l .kind)) (findIn type ls) refl (carried-in type ls)
 
-carried-under : (x type : ℕ) (cs : List Catalogue) → isCarried (sortUnder x type cs) ≡ carriedBy (numbersIn cs) x type
+carried-under : (x type : ℕ) (cs : List Catalogue) → isCarried (findUnder x type cs) ≡ carriedBy (numbersIn cs) x type
 carried-under x type [] = refl
-carried-under x type (c ∷ cs) = either (eqb x (c .x)) (sortIn type (c .types)) (sortUnder x type cs) (carried-in type (c .types)) (carried-under x type cs)
+carried-under x type (c ∷ cs) = either (eqb x (c .x)) (findIn type (c .types)) (findUnder x type cs) (carried-in type (c .types)) (carried-under x type cs)
 
 -- "Catalogue 1.0, types 1 to 9, 22 and 23"; of 3.0 "its types 1 to 7"; and nothing else
 pub carried-exactly : (x type : ℕ) → carried x type
@@ -58,7 +58,7 @@ carried-exactly x type = carried-under x type catalogues
 
 -- under X the type is carried as the state's kind, and the word is read as the state
 abbrev pub Reads : ℕ → ℕ → ℕ → Element → Type 0
-Reads x type w e = (sortOf x type ≡ Sort.Carried (kindIn e)) × (stateOf (kindIn e) w ≡ e)
+Reads x type w e = (findType x type ≡ OptionalKind.Some (kindIn e)) × (stateOf (kindIn e) w ≡ e)
 
 pub by-type : (w : ℕ) →
     Reads 1 1 w (Element.Signal (signalIn w))  -- 1 Señal luminosa SIG
@@ -73,7 +73,7 @@ pub by-type : (w : ℕ) →
     × Reads 1 22 w (Element.GeneralNotices (generalNoticesIn w))  -- 22 Avisos Generales, sin reconocimiento de alarmas AVG
     × Reads 1 23 w (Element.ControlBoundary (controlBoundaryIn w))  -- 23 Frontera FRA
     × Reads 3 1 w (Element.SignalV3 (signalV3In w))  -- 1 Señal luminosa SIG, of catalogue 3.0
-unfolding table layouts stateOf
+unfolding cells layouts stateOf
 by-type w = (
   (refl, ap Element.Signal (signal-bits w)),
   (refl, ap Element.ChangerSignal (changer-signal-bits w)),
@@ -110,12 +110,12 @@ pub reserved-rows : map (λ (k : Kind). reservedIn (rowsOf k)) kinds ≡
     ((12, 15) ∷ []) ∷  -- FRA: 12..15 (reserva)
     [] ∷  -- SIG of catalogue 3.0: none
     []
-unfolding table layouts
+unfolding cells layouts
 reserved-rows = refl
 
 -- "107 rows", and 24 of 3.0's signal; four numbers each
-pub rows-counted : (rowTotal ≡ 131) × (length table ≡ 524)
-unfolding table
+pub rows-counted : (rowTotal ≡ 131) × (length cells ≡ 524)
+unfolding cells
 rows-counted = (refl, refl)
 
 -- ---- a type that two catalogues carry

@@ -7,11 +7,10 @@ use Prim.Native.Nat.{ℕ, _+_, _%_, _<_, _≤_}
 use borrow.Author.Tests.{ne-eqb}
 use lib.ListN.{take, drop}
 use Rattle.octets.specs.Octets.{number}
-use Rattle.rows.specs.Table.{rowTotal, rowsFrom}
-use Rattle.rows.specs.Fields.{codeAt, checkRows, composeOf, padded, onFinding, fieldsRead}
+use Rattle.rows.specs.Rows.{rowTotal, rowsFrom}
+use Rattle.rows.specs.Values.{codeAt, checkRows, composeOf, padded, onFinding, valuesRead}
 use Rattle.rows.specs.Marks.{Shows}
 use Rattle.rows.specs.declared.Refusal.{Refusal}
-use Rattle.rows.specs.declared.Fields.{Fields}
 use Rattle.rows.specs.declared.Finding.{Finding}
 use Rattle.rows.specs.declared.Layout.{Layout}
 use Rattle.kinds.specs.Kinds.{layoutOf, widthOf, rowsOf, elementOf, elementValues, kindIn}
@@ -56,10 +55,11 @@ shown k s on e off = rw (s .accepted on, e, off)
 pub number-at : (k : Kind) {b : List ℕ} {at : ℕ} {g : Glance} {f : Finding} → Glanced k b at g → f ≡ elementCheck k (g .word) → f ≡ elementCheck k (number (take (widthOf k) (drop at b)))
 number-at k s e = e ∙ ap (elementCheck k) (s .read)
 
--- from the fields that were read
-pub fields-state : (k : Kind) (w : ℕ) {r : Fields} {s : Element} → r ≡ fieldsRead w (rowsOf k) → s ≡ elementOf k (r .values) → s ≡ stateRead k w
+-- from the values that were read
+pub values-state : (k : Kind) (w : ℕ) {vs : List ℕ} {s : Element} → vs ≡ valuesRead w (rowsOf k) → s ≡ elementOf k vs
+    → s ≡ stateRead k w
 unfolding stateRead
-fields-state k w e h = h ∙ ap (λ (r : Fields). elementOf k (r .values)) e
+values-state k w e h = h ∙ ap (elementOf k) e
 
 -- the rows of a kind are in the table
 pub in-table : (k : Kind) (l : Layout) → l ≡ layoutOf k → (l .first + l .count ≤ rowTotal) × (l .count ≤ 24)

@@ -8,7 +8,7 @@ use Prim.Native.Nat.{ℕ, _%_}
 use native.Mathlib.Omega.{arith}
 use borrow.Author.Tests.{eq-eqb, ne-eqb, eqb-true, eqb-false}
 use lib.Dec.{eqb}
-use Rattle.rows.specs.Fields.{codeAt, checkRows, valuesOf, onFinding}
+use Rattle.rows.specs.Values.{codeAt, checkRows, valuesOf, onFinding}
 use Rattle.rows.specs.declared.Refusal.{Refusal}
 use Rattle.rows.specs.declared.Finding.{Finding}
 use Rattle.rows.proofs.Words.{Within}

@@ -7,8 +7,8 @@ use mathlib.Core.Logic.{_⊎_, inl, inr}
 use Prim.Native.Nat.{ℕ}
 use lib.Dec.{eqb}
 use borrow.Author.Tests.{eqb-true, eqb-false}
-use Rattle.rows.specs.Table.{Row}
-use Rattle.rows.specs.Fields.{codeAt, checkRows}
+use Rattle.rows.specs.Rows.{Row}
+use Rattle.rows.specs.Values.{codeAt, checkRows}
 use Rattle.rows.specs.declared.Refusal.{Refusal}
 use Rattle.rows.specs.declared.Finding.{Finding}
 use Rattle.rows.proofs.Listed.{FirstUnlisted, zero-accepted}

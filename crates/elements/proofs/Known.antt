@@ -5,8 +5,8 @@ use mathlib.Core.Path.{_≡_, refl}
 use mathlib.Core.Bool.{true, false, cond}
 use mathlib.Core.List.{List, [], _∷_, map}
 use Rattle.octets.specs.Octets.{number}
-use Rattle.rows.specs.Table.{table, layouts}
-use Rattle.rows.specs.Fields.{codeAt}
+use Rattle.rows.specs.Rows.{cells, layouts}
+use Rattle.rows.specs.Values.{codeAt}
 use Rattle.rows.specs.declared.Finding.{Finding}
 use Rattle.kinds.specs.Kinds.{layoutOf, kinds}
 use Rattle.cases.specs.declared.ChangerAspect.{ChangerAspect}
@@ -29,7 +29,7 @@ pub all-known : (found known ≡ said known)
     × (wide known ≡ printed known)
     × (stateOf (kindOf 1 2) (number (0x03 ∷ [])) ≡ Element.ChangerSignal (record { current = true; aspect = ChangerAspect.FixedT }))
     × (stateOf (kindOf 1 1) (number (0x00 ∷ 0x00 ∷ 0x01 ∷ 0xB5 ∷ [])) ≡ Element.Signal green)
-unfolding table layouts kindOf datRule elementCheck stateOf
+unfolding cells layouts kindOf datRule elementCheck stateOf
 all-known = (refl, refl, refl, refl)
 
 pub two-faults : (elementCheck Kind.ChangerSignal 0x81 ≡ Finding.Refused (codeAt 10 3))
@@ -37,7 +37,7 @@ pub two-faults : (elementCheck Kind.ChangerSignal 0x81 ≡ Finding.Refused (code
     × (elementCheck Kind.VirtualBoard 0x17 ≡ Finding.Refused (codeAt 11 1))
     × (elementCheck Kind.LineTrackCircuit 0x14C1 ≡ Finding.Refused (codeAt 11 6))
     × (elementCheck Kind.PointsTrackCircuit 0x0024 ≡ Finding.Refused (codeAt 10 2))
-unfolding table layouts datRule elementCheck
+unfolding cells layouts datRule elementCheck
 two-faults = (refl, refl, refl, refl, refl)
 
 -- 3.0's signal: EAR alone, low, a router in automatic block, every highest listed value, without data; IND 13, GRP_ARS 3, EAR where DAT is 0.
@@ -45,7 +45,7 @@ two-faults = (refl, refl, refl, refl, refl)
 pub new-signal : (map (elementCheck (kindOf 3 1)) (0x00000009 ∷ 0x00000007 ∷ 0x80000001 ∷ 0xBFFFFFCF ∷ 0x00000000 ∷ 0x000000D1 ∷ 0xC0000001 ∷ 0x00000008 ∷ []) ≡
     Finding.Accepted ∷ Finding.Accepted ∷ Finding.Accepted ∷ Finding.Accepted ∷ Finding.Accepted ∷ Finding.Refused (codeAt 11 4) ∷ Finding.Refused (codeAt 11 30) ∷ Finding.Refused (codeAt 12 0) ∷ [])
     × (map (elementCheck (kindOf 1 1)) (0x00000009 ∷ 0x80000001 ∷ []) ≡ Finding.Refused (codeAt 11 1) ∷ Finding.Refused (codeAt 10 31) ∷ [])
-unfolding table layouts kindOf datRule elementCheck
+unfolding cells layouts kindOf datRule elementCheck
 new-signal = (refl, refl)
 
 -- the kinds whose bit 0 is not DAT; which they are is typed from the annexes

@@ -7,7 +7,7 @@ use native.Mathlib.Omega.{arith}
 use native.Mathlib.Nat.{lt-of-lt-of-le}
 use lib.ListN.{length, replicate}
 use lib.Pow.{pow-mono, pow-pos}
-use Rattle.rows.specs.Fields.{checkRows, valuesOf, composeOf, padded, onFinding}
+use Rattle.rows.specs.Values.{checkRows, valuesOf, composeOf, padded, onFinding}
 use Rattle.rows.specs.declared.Finding.{Finding}
 use Rattle.rows.specs.declared.Refusal.{Refusal}
 use Rattle.rows.proofs.Words.{Within, compose-values, compose-bound, values-compose}

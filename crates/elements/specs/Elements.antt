@@ -2,35 +2,35 @@
 use mathlib.Core.Bool.{Bool, true, false, cond}
 use Prim.Native.Nat.{ℕ, _%_}
 use lib.Dec.{eqb}
-use Rattle.rows.specs.Fields.{codeAt, checkRows, valuesOf, composeOf, padded, onFinding, fieldsRead}
+use Rattle.rows.specs.Values.{codeAt, checkRows, valuesOf, composeOf, padded, onFinding, valuesRead}
 use Rattle.rows.specs.declared.Finding.{Finding}
-use Rattle.kinds.specs.Kinds.{layoutOf, layoutNo, rowsOf, sortNumbered, elementOf, elementValues, kindIn}
+use Rattle.kinds.specs.Kinds.{layoutOf, layoutNo, rowsOf, findNumbered, elementOf, elementValues, kindIn}
 use Rattle.kinds.specs.declared.Kind.{Kind}
 use Rattle.kinds.specs.declared.Element.{Element}
-use Rattle.kinds.specs.declared.Sort.{Sort}
-use Rattle.elements.specs.Types.{sortOf}
+use Rattle.kinds.specs.declared.OptionalKind.{OptionalKind}
+use Rattle.elements.specs.Types.{findType}
 
 -- ---- what is carried
 
-abbrev pub isCarried : Sort → Bool
-isCarried (Sort.Carried k) = true
-isCarried Sort.Other = false
+abbrev pub isCarried : OptionalKind → Bool
+isCarried (OptionalKind.Some k) = true
+isCarried OptionalKind.None = false
 
 -- the kind; of what is not carried, one that means nothing
-abbrev pub carriedKind : Sort → Kind
-carriedKind (Sort.Carried k) = k
-carriedKind Sort.Other = Kind.Signal
+abbrev pub carriedKind : OptionalKind → Kind
+carriedKind (OptionalKind.Some k) = k
+carriedKind OptionalKind.None = Kind.Signal
 
 -- whether a type is carried under a catalogue's X, and its kind
 unfoldable pub carried : ℕ → ℕ → Bool
-carried x type = isCarried (sortOf x type)
+carried x type = isCarried (findType x type)
 
 unfoldable pub kindOf : ℕ → ℕ → Kind
-kindOf x type = carriedKind (sortOf x type)
+kindOf x type = carriedKind (findType x type)
 
 -- the kind whose layout has a number
 unfoldable pub kindNumbered : ℕ → Kind
-kindNumbered n = carriedKind (sortNumbered n)
+kindNumbered n = carriedKind (findNumbered n)
 
 abbrev pub sameKind : Kind → Kind → Bool
 sameKind j k = eqb (layoutNo j) (layoutNo k)
@@ -60,4 +60,4 @@ wordOf e = composeOf (rowsOf (kindIn e)) (elementValues e)
 
 -- the state that is read from any number: zeros if a field is refused; of an accepted number it is `stateOf`
 unfoldable pub stateRead : Kind → ℕ → Element
-stateRead k w = elementOf k (fieldsRead w (rowsOf k) .values)
+stateRead k w = elementOf k (valuesRead w (rowsOf k))

@@ -4,9 +4,9 @@ use mathlib.Core.Bool.{cond}
 use mathlib.Core.List.{List, [], _∷_}
 use Prim.Native.Nat.{ℕ}
 use lib.Dec.{eqb}
-use Rattle.kinds.specs.Kinds.{Line, line, sortIn}
+use Rattle.kinds.specs.Kinds.{Line, line, findIn}
 use Rattle.kinds.specs.declared.Kind.{Kind}
-use Rattle.kinds.specs.declared.Sort.{Sort}
+use Rattle.kinds.specs.declared.OptionalKind.{OptionalKind}
 
 -- the types carried under X = 1, each with its kind
 abbrev pub typesUnder1 : List Line
@@ -48,9 +48,9 @@ abbrev pub catalogues : List Catalogue
 catalogues = catalogue 1 typesUnder1 ∷ catalogue 3 typesUnder3 ∷ []
 
 -- the kind of a type under an X
-abbrev pub sortUnder : ℕ → ℕ → List Catalogue → Sort
-sortUnder x type [] = Sort.Other
-sortUnder x type (c ∷ cs) = cond (eqb x (c .x)) (sortIn type (c .types)) (sortUnder x type cs)
+abbrev pub findUnder : ℕ → ℕ → List Catalogue → OptionalKind
+findUnder x type [] = OptionalKind.None
+findUnder x type (c ∷ cs) = cond (eqb x (c .x)) (findIn type (c .types)) (findUnder x type cs)
 
-abbrev pub sortOf : ℕ → ℕ → Sort
-sortOf x type = sortUnder x type catalogues
+abbrev pub findType : ℕ → ℕ → OptionalKind
+findType x type = findUnder x type catalogues

@@ -5,18 +5,17 @@ mod types;
 
 use kinds::Element;
 use kinds::Kind;
-use kinds::Sort;
-use rows::Fields;
+use kinds::OptionalKind;
 use rows::Finding;
 use rows::Refusal;
-use types::sort_of;
+use types::find_type;
 ghost use mathlib.Core.Path.{_≡_};
 ghost use mathlib.Core.Bool.{cond};
 ghost use Prim.Native.Nat.{_+_, _≤_};
 ghost use lib.ListN.{length, take, drop};
 ghost use Rattle.octets.specs.Octets.{number};
 ghost use Rattle.rows.specs.declared.Finding.{Finding};
-ghost use Rattle.rows.specs.Fields.{codeAt, checkRows, fieldsRead};
+ghost use Rattle.rows.specs.Values.{codeAt, checkRows, valuesRead};
 ghost use Rattle.kinds.specs.Kinds.{layoutNo, widthOf, rowsOf};
 ghost use Rattle.elements.specs.Elements.{carried, kindOf, kindNumbered, sameKind, datRule, elementCheck, stateRead, wordOf};
 
@@ -47,9 +46,7 @@ pub fn check_at(s: &[u8], at: usize, kind: Kind) -> Finding
 pub fn state_of(word: u32, kind: Kind) -> Element
     ensures { λ r. ⌜ r ≡ stateRead kind word ⌝ }
 {
-    let fields = read_fields(word, kind);
-    let values = fields.values;
-    kinds::element_of(kind, values)
+    kinds::element_of(kind, read_values(word, kind))
 }
 
 // The number of a state.
@@ -68,8 +65,8 @@ pub fn word_of(element: Element) -> u32
 pub fn is_carried(x: u8, ty: u8) -> bool
     ensures { λ r. ⌜ r ≡ carried x ty ⌝ }
 {
-    let sort = sort_of(x, ty);
-    if let Sort::Carried(_) = sort {
+    let found = find_type(x, ty);
+    if let OptionalKind::Some(_) = found {
         true
     } else {
         false
@@ -80,8 +77,8 @@ pub fn is_carried(x: u8, ty: u8) -> bool
 pub fn kind_of(x: u8, ty: u8) -> Kind
     ensures { λ r. ⌜ r ≡ kindOf x ty ⌝ }
 {
-    let sort = sort_of(x, ty);
-    let Sort::Carried(kind) = sort else {
+    let found = find_type(x, ty);
+    let OptionalKind::Some(kind) = found else {
         return Kind::Signal;
     };
     kind
@@ -98,8 +95,8 @@ pub fn layout_number(kind: Kind) -> u8
 pub fn kind_numbered(number: u8) -> Kind
     ensures { λ r. ⌜ r ≡ kindNumbered number ⌝ }
 {
-    let sort = kinds::sort_numbered(number);
-    let Sort::Carried(kind) = sort else {
+    let found = kinds::find_numbered(number);
+    let OptionalKind::Some(kind) = found else {
         return Kind::Signal;
     };
     kind
@@ -138,9 +135,9 @@ fn check_fields(word: u32, kind: Kind) -> Finding
     rows::check_rows(word, layout.number, layout.first)
 }
 
-// Reads all fields of an element's number.
-fn read_fields(word: u32, kind: Kind) -> Fields
-    ensures { λ r. ⌜ r ≡ fieldsRead word (rowsOf kind) ⌝ }
+// The values of an element's number; zeros where a field is refused.
+fn read_values(word: u32, kind: Kind) -> [u32; 24]
+    ensures { λ r. ⌜ r ≡ valuesRead word (rowsOf kind) ⌝ }
 {
     let layout = kinds::layout(kind);
     let first = layout.first;

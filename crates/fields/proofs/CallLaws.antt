@@ -8,14 +8,14 @@ use mathlib.Core.List.{List}
 use lib.Dec.{eqb, ltb, eqb→eq, ltb→lt}
 use lib.ListN.{length, getD}
 use borrow.Author.Tests.{eq-eqb, ne-eqb, eqb-true, ltb-true}
-use Rattle.rows.specs.Table.{layouts}
-use Rattle.rows.specs.Fields.{codeAt}
+use Rattle.rows.specs.Rows.{layouts}
+use Rattle.rows.specs.Values.{codeAt}
 use Rattle.rows.specs.declared.Finding.{Finding}
 use Rattle.rows.specs.declared.Refusal.{Refusal}
-use Rattle.kinds.specs.Kinds.{layoutNo, rowsOf, kindIn, numbered, sortNumbered, elementOf}
+use Rattle.kinds.specs.Kinds.{layoutNo, rowsOf, kindIn, numbered, findNumbered, elementOf}
 use Rattle.kinds.specs.declared.Kind.{Kind}
 use Rattle.kinds.specs.declared.Element.{Element}
-use Rattle.kinds.specs.declared.Sort.{Sort}
+use Rattle.kinds.specs.declared.OptionalKind.{OptionalKind}
 use Rattle.kinds.proofs.Lookup.{every-line}
 use Rattle.kinds.proofs.KindLaws.{every-kind, kind-found, element-kind}
 use Rattle.elements.specs.Elements.{sameKind, wordOf}
@@ -29,7 +29,7 @@ use Rattle.history.proofs.OutputLaws.{leaves-as, refused-leaves}
 use Rattle.history.proofs.StateLaws.{stateAt}
 use Rattle.panel.specs.Readings.{readingOf}
 use Rattle.fields.specs.declared.Plain.{Plain}
-use Rattle.fields.specs.Fields.{shownOf, plainOf, valuesIn, named}
+use Rattle.fields.specs.Plain.{shownPlain, plainOf, valuesIn, checkNamed}
 use Rattle.fields.specs.Calls.{writeFieldsCall, stateRefused}
 
 -- ---- a call that refuses: its answer is told, and the output stays
@@ -48,34 +48,34 @@ all-refuse f (done s) h = h s
 -- ---- numbers of kinds
 
 -- a carried number is its kind's, and no other kind has it
-its-number : {n : ℕ} {k : Kind} → sortNumbered n ≡ Sort.Carried k → n ≡ layoutNo k
+its-number : {n : ℕ} {k : Kind} → findNumbered n ≡ OptionalKind.Some k → n ≡ layoutNo k
 unfolding layouts
 its-number {n} e = eqb→eq _ _ (every-line (λ n k. eqb n (layoutNo k)) n numbered tt e)
 
-its-kind : {n : ℕ} {k : Kind} (j : Kind) → sortNumbered n ≡ Sort.Carried k → n ≡ layoutNo j → j ≡ k
+its-kind : {n : ℕ} {k : Kind} (j : Kind) → findNumbered n ≡ OptionalKind.Some k → n ≡ layoutNo j → j ≡ k
 its-kind j e q =
-    let s : Sort.Carried j ≡ Sort.Carried _ = sym (kind-found j) ∙ ap sortNumbered (sym q) ∙ e in
+    let s : OptionalKind.Some j ≡ OptionalKind.Some _ = sym (kind-found j) ∙ ap findNumbered (sym q) ∙ e in
     cc
 
 -- a number that no kind has is not kind j's
-not-its : (n : ℕ) (j : Kind) → sortNumbered n ≡ Sort.Other → eqb n (layoutNo j) ≡ false
-not-its n j e = ne-eqb n (layoutNo j) (λ q. let s : Sort.Carried j ≡ Sort.Other = sym (kind-found j) ∙ ap sortNumbered (sym q) ∙ e in absurd (let z : _≡_ {A = ℕ} 0 1 = cc in omega arith))
+not-its : (n : ℕ) (j : Kind) → findNumbered n ≡ OptionalKind.None → eqb n (layoutNo j) ≡ false
+not-its n j e = ne-eqb n (layoutNo j) (λ q. let s : OptionalKind.Some j ≡ OptionalKind.None = sym (kind-found j) ∙ ap findNumbered (sym q) ∙ e in absurd (let z : _≡_ {A = ℕ} 0 1 = cc in omega arith))
 
 -- no kind has the number 0, nor one above 255
 number-some : (k : Kind) → 0 < layoutNo k
 unfolding layouts
 number-some k = ltb-true 0 (layoutNo k) (every-kind (λ k. ltb 0 (layoutNo k)) (λ k. true) refl k)
 
-pub no-sort : (n : ℕ) → 255 < n → Sort.Other ≡ sortNumbered n
+pub none-numbered : (n : ℕ) → 255 < n → OptionalKind.None ≡ findNumbered n
 unfolding layouts
-no-sort n h = at (sortNumbered n) refl
+none-numbered n h = at (findNumbered n) refl
   where
-    small : {k : Kind} → sortNumbered n ≡ Sort.Carried k → n < 256
+    small : {k : Kind} → findNumbered n ≡ OptionalKind.Some k → n < 256
     small e = ltb→lt _ _ (every-line (λ n k. ltb n 256) n numbered tt e)
 
-    at : (s : Sort) → sortNumbered n ≡ s → Sort.Other ≡ s
-    at (Sort.Carried k) e = absurd (omega (arith, small e))
-    at Sort.Other e = refl
+    at : (s : OptionalKind) → findNumbered n ≡ s → OptionalKind.None ≡ s
+    at (OptionalKind.Some k) e = absurd (omega (arith, small e))
+    at OptionalKind.None e = refl
 
 -- ---- a state handed in of which something is refused
 
@@ -85,13 +85,13 @@ module _ (i number : ℕ) (f : Refusal) where
 
   -- a reading whose kind is 0 is a refusal, and its answer is the call's
   told-before : (v : Verdict Element) {x : Plain} → x ≡ plainOf (readingOf v) → x .kind ≡ 0 → x .answer ≡ told (refused-by v)
-  unfolding told readingOf plainOf shownOf refused-by
+  unfolding told readingOf plainOf shownPlain refused-by
   told-before (refused r) e z = ap (λ (x : Plain). x .answer) e
   told-before (done s) e z = absurd (let q = number-some (kindIn s) in let w = ap (λ (x : Plain). x .kind) e in omega arith)
 
   told-after : (v : Verdict Element) {x : Plain} {r : Answer} → x ≡ plainOf (readingOf v) → (x .kind ≡ 0 → ⊥) → (b : Bool) → eqb number (x .kind) ≡ b
       → r ≡ told {A = List ℕ} (refusalAt 22 i unless b ⨾ refused (foundIn f i)) → r ≡ told (refused-by v)
-  unfolding told readingOf plainOf shownOf refused-by
+  unfolding told readingOf plainOf shownPlain refused-by
   told-after (refused y) e n d q w = absurd (n (ap (λ (x : Plain). x .kind) e))
   told-after (done s) e n d q w =
       w ∙ ap (λ (b : Bool). told {A = List ℕ} (refusalAt 22 i unless b ⨾ refused (foundIn f i))) (sym q ∙ ap (λ (y : Plain). eqb number (y .kind)) e)
@@ -128,7 +128,7 @@ module _ (t a : List ℕ) (i number : ℕ) (fields : List ℕ) (position : ℕ) 
   of-kinds f g (done s) h = h (kindIn s)
 
   -- only the kind with the number counts
-  only : (f g : Kind → Verdict (List ℕ)) {k : Kind} → sortNumbered number ≡ Sort.Carried k → f k ≡ g k → (j : Kind)
+  only : (f g : Kind → Verdict (List ℕ)) {k : Kind} → findNumbered number ≡ OptionalKind.Some k → f k ≡ g k → (j : Kind)
       → (refusalAt 22 i unless eqb number (layoutNo j) ⨾ f j) ≡ (refusalAt 22 i unless eqb number (layoutNo j) ⨾ g j)
   only f g {k} e h j = at (eqb number (layoutNo j)) refl
     where
@@ -138,7 +138,7 @@ module _ (t a : List ℕ) (i number : ℕ) (fields : List ℕ) (position : ℕ) 
 
   abbrev pub valued : Kind → Verdict (List ℕ)
   valued k =
-      named (rowsOf k) (valuesIn k fields) of i ⨾
+      checkNamed (rowsOf k) (valuesIn k fields) of i ⨾
       writeStateCall t a i (elementOf k (valuesIn k fields)) position
 
   -- testing 22 twice is testing it once
@@ -175,7 +175,7 @@ module _ (t a : List ℕ) (i number : ℕ) (fields : List ℕ) (position : ℕ) 
       planned (refused r) = refl
       planned (done p) = imaged p (readImage p a)
 
-  pub writes : {k : Kind} → sortNumbered number ≡ Sort.Carried k → named (rowsOf k) (valuesIn k fields) ≡ Finding.Accepted
+  pub writes : {k : Kind} → findNumbered number ≡ OptionalKind.Some k → checkNamed (rowsOf k) (valuesIn k fields) ≡ Finding.Accepted
       → writeFieldsCall t a i number fields position ≡ writeStateCall t a i (elementOf k (valuesIn k fields)) position
   unfolding writeFieldsCall
   writes {k} e f =
@@ -186,18 +186,18 @@ module _ (t a : List ℕ) (i number : ℕ) (fields : List ℕ) (position : ℕ) 
       ∙ ap (λ (n : ℕ). then (readStateCall t a i) (λ was. refusalAt 22 i unless eqb n (layoutNo (kindIn was)) ⨾ written)) no
       ∙ after-reading s
 
-  -- from what the code has: the number's sort, the values, what is found of them, the state
-  module _ {s : Sort} (s-is : s ≡ sortNumbered number) where
-    pub no-kind : s ≡ Sort.Other → writeFieldsCall t a i number fields position ≡ stateRefused t a i number (codeAt 22 255)
+  -- from what the code has: the kind of the number, if there is one, the values, what is found of them, the state
+  module _ {s : OptionalKind} (s-is : s ≡ findNumbered number) where
+    pub no-kind : s ≡ OptionalKind.None → writeFieldsCall t a i number fields position ≡ stateRefused t a i number (codeAt 22 255)
     unfolding writeFieldsCall stateRefused
     no-kind e =
         let not-it : (j : Kind) → eqb number (layoutNo j) ≡ false = λ j. not-its number j (sym s-is ∙ e) in
         of-kinds valued (λ k. refusalAt 22 i) (readStateCall t a i)
         (λ j. ap (λ (b : Bool). refusalAt 22 i unless b ⨾ valued j) (not-it j) ∙ sym (ap (λ (b : Bool). refusalAt 22 i unless b ⨾ refusalAt 22 i) (not-it j)))
 
-    module _ {k : Kind} (k-is : s ≡ Sort.Carried k) {vs : List ℕ} (vs-is : vs ≡ valuesIn k fields) {f : Finding} (f-is : f ≡ named (rowsOf k) vs) where
-      found : {g : Finding} → f ≡ g → named (rowsOf k) (valuesIn k fields) ≡ g
-      found e = sym (f-is ∙ ap (named (rowsOf k)) vs-is) ∙ e
+    module _ {k : Kind} (k-is : s ≡ OptionalKind.Some k) {vs : List ℕ} (vs-is : vs ≡ valuesIn k fields) {f : Finding} (f-is : f ≡ checkNamed (rowsOf k) vs) where
+      found : {g : Finding} → f ≡ g → checkNamed (rowsOf k) (valuesIn k fields) ≡ g
+      found e = sym (f-is ∙ ap (checkNamed (rowsOf k)) vs-is) ∙ e
 
       pub no-value : {r : Refusal} → f ≡ Finding.Refused r → writeFieldsCall t a i number fields position ≡ stateRefused t a i number r
       unfolding writeFieldsCall stateRefused

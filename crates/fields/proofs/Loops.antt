@@ -12,8 +12,8 @@ use lib.Dec.{eqb, leb}
 use lib.ListN.{length, getD, set, drop, replicate, length-append}
 use lib.Seq.{append-snoc, drop-cons}
 use borrow.Author.Tests.{eq-eqb, ne-eqb, le-leb, lt-leb}
-use Rattle.rows.specs.Table.{rowAt, rowsFrom}
-use Rattle.rows.specs.Fields.{codeAt, filled, padded}
+use Rattle.rows.specs.Rows.{rowAt, rowsFrom}
+use Rattle.rows.specs.Values.{codeAt, filled, padded}
 use Rattle.rows.specs.declared.Finding.{Finding}
 use Rattle.rows.specs.Covering.{layoutRows}
 use Rattle.rows.specs.declared.Layout.{Layout}
@@ -23,9 +23,9 @@ use Rattle.kinds.specs.declared.Element.{Element}
 use Rattle.history.specs.declared.Answer.{Answer}
 use Rattle.history.specs.Verdict.{unnamed}
 use Rattle.rows.proofs.Loops.{fill-store, rows-next}
-use Rattle.fields.specs.Fields.{shown, shownIn, shownOf, spread, named}
+use Rattle.fields.specs.Plain.{shown, shownIn, shownPlain, spread, checkNamed}
 use Rattle.fields.specs.declared.Plain.{Plain}
-use Rattle.fields.specs.declared.walk.Shown.{Shown}
+use Rattle.fields.specs.declared.by_rows.Shown.{Shown}
 use Rattle.fields.proofs.OwnFields.{own, spread-length}
 
 -- whether row i is reserved
@@ -114,8 +114,8 @@ shown-all {first} {count} {vs} {fields} {n} {k} s h =
 
 -- the fields of a state
 pub state-shown : (e : Element) {k : Kind} {l : Layout} {vs : List ℕ} {s : Shown} {a : Answer} → k ≡ kindIn e → l ≡ layoutOf k → vs ≡ padded (elementValues e)
-    → s ≡ shownIn (layoutRows l) vs → a ≡ unnamed 0 0 → _≡_ {A = Plain} (record { answer = a; kind = l .number; count = s .count; fields = s .fields }) (shownOf e)
-unfolding shownOf
+    → s ≡ shownIn (layoutRows l) vs → a ≡ unnamed 0 0 → _≡_ {A = Plain} (record { answer = a; kind = l .number; count = s .count; fields = s .fields }) (shownPlain e)
+unfolding shownPlain
 state-shown e p q r t u =
     let l-is = q ∙ ap layoutOf p in
     let s-is = t ∙ ap₂ (λ (l : Layout) (vs : List ℕ). shownIn (layoutRows l) vs) l-is r in
@@ -240,23 +240,23 @@ taken-all {first} {count} {fs} {values} {n} {k} s h =
 
 pub record Checking (first count : ℕ) (vs : List ℕ) (k : ℕ) : Type 0 where
   pub bound : k ≤ count
-  pub to-come : named (rowsFrom first count) vs ≡ named (rowsFrom (first + k) (count - k)) (drop k vs)
+  pub to-come : checkNamed (rowsFrom first count) vs ≡ checkNamed (rowsFrom (first + k) (count - k)) (drop k vs)
 
 pub checking : (first count : ℕ) (vs : List ℕ) → Checking first count vs 0
 checking first count vs =
     let e : first + 0 ≡ first = omega arith in
     let e′ : count - 0 ≡ count = omega arith in
-    record { bound = omega arith; to-come = ap₂ (λ (i n : ℕ). named (rowsFrom i n) vs) (sym e) (sym e′) }
+    record { bound = omega arith; to-come = ap₂ (λ (i n : ℕ). checkNamed (rowsFrom i n) vs) (sym e) (sym e′) }
 
 module _ {first count : ℕ} {vs : List ℕ} {k : ℕ} (s : Checking first count vs k) (h : k < count) (few : count ≤ 24) (full : length vs ≡ 24) {top : ℕ} (top-is : top ≡ rowAt (first + k) .top) where
   rest : Finding
-  rest = named (rowsFrom (first + (k + 1)) (count - (k + 1))) (drop (k + 1) vs)
+  rest = checkNamed (rowsFrom (first + (k + 1)) (count - (k + 1))) (drop (k + 1) vs)
 
-  next-named : named (rowsFrom first count) vs ≡ cond (leb (getD vs k 0) (rowAt (first + k) .top)) rest (Finding.Refused (codeAt 11 (rowAt (first + k) .low)))
+  next-named : checkNamed (rowsFrom first count) vs ≡ cond (leb (getD vs k 0) (rowAt (first + k) .top)) rest (Finding.Refused (codeAt 11 (rowAt (first + k) .low)))
   unfolding rest
   next-named =
       s .to-come
-      ∙ ap₂ named (rows-next first count k h) (drop-cons vs k 0 (omega arith) ∙ ap (λ (j : ℕ). getD vs k 0 ∷ drop j vs) (sym (add-one k)))
+      ∙ ap₂ checkNamed (rows-next first count k h) (drop-cons vs k 0 (omega arith) ∙ ap (λ (j : ℕ). getD vs k 0 ∷ drop j vs) (sym (add-one k)))
 
   pub goes-on : getD vs k 0 ≤ top → Checking first count vs (k + 1)
   unfolding rest
@@ -266,12 +266,12 @@ module _ {first count : ℕ} {vs : List ℕ} {k : ℕ} (s : Checking first count
         to-come = next-named ∙ ap (λ (b : Bool). cond b rest (Finding.Refused (codeAt 11 (rowAt (first + k) .low)))) (le-leb (getD vs k 0) (rowAt (first + k) .top) (omega arith));
       }
 
-  pub stops : top < getD vs k 0 → {bit : ℕ} → bit ≡ rowAt (first + k) .low → Finding.Refused (codeAt 11 bit) ≡ named (rowsFrom first count) vs
+  pub stops : top < getD vs k 0 → {bit : ℕ} → bit ≡ rowAt (first + k) .low → Finding.Refused (codeAt 11 bit) ≡ checkNamed (rowsFrom first count) vs
   stops l bit-is =
       ap (λ (bit : ℕ). Finding.Refused (codeAt 11 bit)) bit-is
       ∙ sym (next-named ∙ ap (λ (b : Bool). cond b rest (Finding.Refused (codeAt 11 (rowAt (first + k) .low)))) (lt-leb (getD vs k 0) (rowAt (first + k) .top) (omega arith)))
 
-pub checked : {first count : ℕ} {vs : List ℕ} {k : ℕ} → Checking first count vs k → count ≤ k → Finding.Accepted ≡ named (rowsFrom first count) vs
+pub checked : {first count : ℕ} {vs : List ℕ} {k : ℕ} → Checking first count vs k → count ≤ k → Finding.Accepted ≡ checkNamed (rowsFrom first count) vs
 checked {first} {count} {vs} {k} s h =
     let z : count - k ≡ 0 = omega arith in
-    sym (s .to-come ∙ ap (λ (n : ℕ). named (rowsFrom (first + k) n) (drop k vs)) z)
+    sym (s .to-come ∙ ap (λ (n : ℕ). checkNamed (rowsFrom (first + k) n) (drop k vs)) z)

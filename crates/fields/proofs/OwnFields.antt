@@ -10,8 +10,8 @@ use lib.ListN.{length, getD, take, drop}
 use lib.Seq.{length-take-le}
 use borrow.Author.Tests.{eqb-true, leb-true}
 use Rattle.octets.specs.Octets.{Bytes}
-use Rattle.rows.specs.Table.{Row, rowAt, rowsFrom}
-use Rattle.rows.specs.Fields.{codeAt, filled, padded}
+use Rattle.rows.specs.Rows.{Row, rowAt, rowsFrom}
+use Rattle.rows.specs.Values.{codeAt, filled, padded}
 use Rattle.rows.specs.declared.Finding.{Finding}
 use Rattle.rows.proofs.Words.{Within}
 use Rattle.rows.proofs.Listed.{listed-from}
@@ -28,7 +28,7 @@ use Rattle.history.proofs.ElementLaws.{was-accepted}
 use Rattle.history.proofs.Demands.{write-then-read}
 use Rattle.panel.specs.Readings.{readingOf}
 use Rattle.fields.specs.declared.Plain.{Plain}
-use Rattle.fields.specs.Fields.{shown, shownOf, plainOf, spread, valuesIn, named}
+use Rattle.fields.specs.Plain.{shown, shownPlain, plainOf, spread, valuesIn, checkNamed}
 use Rattle.fields.specs.Calls.{writeFieldsCall}
 use Rattle.fields.proofs.CallLaws.{of-kinds, valued}
 
@@ -75,14 +75,14 @@ shown-spread (r ∷ rs) fs xs h = at (eqb (r .top) 0) refl fs h (λ gs. shown-sp
     at false e (f ∷ fs) h g = let n : suc (own rs) ≤ suc (length fs) = rw e at h in rw (e, e) (ap (λ (vs : List ℕ). f ∷ vs) (g fs (omega arith)))
 
 -- values that are not refused are values that their rows admit
-named-within : (n i : ℕ) (vs xs : List ℕ) → length vs ≡ n → isAccepted (named (rowsFrom i n) (vs ++ xs)) ≡ true → Within (rowsFrom i n) vs
+named-within : (n i : ℕ) (vs xs : List ℕ) → length vs ≡ n → isAccepted (checkNamed (rowsFrom i n) (vs ++ xs)) ≡ true → Within (rowsFrom i n) vs
 named-within zero i [] xs h e = tt
 named-within zero i (v ∷ vs) xs h e = absurd (omega arith)
 named-within (suc n) i [] xs h e = absurd (omega arith)
 named-within (suc n) i (v ∷ vs) xs h e = at (leb v (rowAt i .top)) refl (named-within n (suc i) vs xs (omega arith)) e
   where
-    at : (b : Bool) → leb v (rowAt i .top) ≡ b → (isAccepted (named (rowsFrom (suc i) n) (vs ++ xs)) ≡ true → Within (rowsFrom (suc i) n) vs)
-        → isAccepted (cond b (named (rowsFrom (suc i) n) (vs ++ xs)) (Finding.Refused (codeAt 11 (rowAt i .low)))) ≡ true → Within (rowsFrom i (suc n)) (v ∷ vs)
+    at : (b : Bool) → leb v (rowAt i .top) ≡ b → (isAccepted (checkNamed (rowsFrom (suc i) n) (vs ++ xs)) ≡ true → Within (rowsFrom (suc i) n) vs)
+        → isAccepted (cond b (checkNamed (rowsFrom (suc i) n) (vs ++ xs)) (Finding.Refused (codeAt 11 (rowAt i .low)))) ≡ true → Within (rowsFrom i (suc n)) (v ∷ vs)
     at true q rest e = (leb-true v (rowAt i .top) q, rest e)
     at false q rest e = absurd (let z : _≡_ {A = ℕ} 0 1 = cc in omega arith)
 
@@ -100,7 +100,7 @@ behind-unseen T A i number F G position h = of-kinds T A i number F position (fr
     at : (k : Kind) (b : Bool) → eqb number (layoutNo k) ≡ b → (refusalAt 22 i unless b ⨾ from F k) ≡ (refusalAt 22 i unless b ⨾ from G k)
     at k true q =
         let same : spread (rowsOf k) F ≡ spread (rowsOf k) G = sym (spread-own (rowsOf k) F) ∙ ap (spread (rowsOf k)) (h k (eqb-true number (layoutNo k) q)) ∙ spread-own (rowsOf k) G in
-        ap (λ (vs : List ℕ). named (rowsOf k) (padded vs) of i ⨾ writeStateCall T A i (elementOf k (padded vs)) position) same
+        ap (λ (vs : List ℕ). checkNamed (rowsOf k) (padded vs) of i ⨾ writeStateCall T A i (elementOf k (padded vs)) position) same
     at k false q = refl
 
 -- a reading with the kind's own fields of F, then zeros
@@ -108,8 +108,8 @@ abbrev pub ownOf : ℕ → Kind → List ℕ → Plain
 ownOf number k F = record { answer = unnamed 0 0; kind = number; count = own (rowsOf k); fields = filled 32 (take (own (rowsOf k)) F) }
 
 -- a state made of fields with named cases gives them back
-shown-made : (k : Kind) (F : List ℕ) → length F ≡ 32 → isAccepted (named (rowsOf k) (valuesIn k F)) ≡ true → shownOf (elementOf k (valuesIn k F)) ≡ ownOf (layoutNo k) k F
-unfolding shownOf
+shown-made : (k : Kind) (F : List ℕ) → length F ≡ 32 → isAccepted (checkNamed (rowsOf k) (valuesIn k F)) ≡ true → shownPlain (elementOf k (valuesIn k F)) ≡ ownOf (layoutNo k) k F
+unfolding shownPlain
 shown-made k F long ok =
     let rs : List Row = rowsOf k in
     let vs : List ℕ = spread rs F in
@@ -130,7 +130,7 @@ made-read T A i number F position ha long small e =
     let was = used (readStateCall T A i) _ e in
     let k : Kind = kindIn (was .0) in
     let q = held (eqb number (layoutNo k)) _ _ (was .2) in
-    let v = was-accepted (named (rowsOf k) (valuesIn k F)) i (writeStateCall T A i (elementOf k (valuesIn k F)) position) (q .1) in
+    let v = was-accepted (checkNamed (rowsOf k) (valuesIn k F)) i (writeStateCall T A i (elementOf k (valuesIn k F)) position) (q .1) in
     let is : number ≡ layoutNo k = eqb-true number (layoutNo k) (q .0) in
     let read = write-then-read T A i (elementOf k (valuesIn k F)) position ha small (v .1) in
     (k, is, ap (λ (s : Verdict Element). plainOf (readingOf s)) read ∙ shown-made k F long (v .0) ∙ ap (λ (n : ℕ). ownOf n k F) (sym is))

@@ -8,8 +8,8 @@ use mathlib.Core.List.{List, [], _∷_, _++_}
 use lib.Dec.{eqb}
 use borrow.Author.Tests.{eqb-true, le-leb}
 use Rattle.octets.specs.Octets.{Bytes}
-use Rattle.rows.specs.Table.{Row}
-use Rattle.rows.specs.Fields.{padded}
+use Rattle.rows.specs.Rows.{Row}
+use Rattle.rows.specs.Values.{padded}
 use Rattle.rows.specs.declared.Finding.{Finding}
 use Rattle.rows.proofs.Words.{Within}
 use Rattle.kinds.specs.Kinds.{rowsOf, kindIn, elementOf, elementValues}
@@ -22,7 +22,7 @@ use Rattle.history.specs.Calls.{imageCall, readStateCall, writeStateCall}
 use Rattle.history.proofs.Demands.{read-then-write}
 use Rattle.panel.specs.Readings.{readingOf}
 use Rattle.fields.specs.declared.Plain.{Plain}
-use Rattle.fields.specs.Fields.{shown, fieldsOf, shownOf, plainOf, spread, valuesIn, named}
+use Rattle.fields.specs.Plain.{shown, fieldsOf, shownPlain, plainOf, spread, valuesIn, checkNamed}
 use Rattle.fields.specs.Calls.{writeFieldsCall}
 use Rattle.fields.proofs.CallLaws.{writes}
 
@@ -40,7 +40,7 @@ spread-shown (r ∷ rs) (v ∷ vs) xs ys h = at (eqb (r .top) 0) refl (spread-sh
     at false e rest = rw (e, rest)
 
 -- each has a named case
-all-named : (rs : List Row) (vs xs : List ℕ) → Within rs vs → named rs (vs ++ xs) ≡ Finding.Accepted
+all-named : (rs : List Row) (vs xs : List ℕ) → Within rs vs → checkNamed rs (vs ++ xs) ≡ Finding.Accepted
 all-named [] vs xs h = refl
 all-named (r ∷ rs) [] xs h = absurd h
 all-named (r ∷ rs) (v ∷ vs) xs h = rw (le-leb v (r .top) (h .0)) (all-named rs vs xs (h .1))
@@ -56,17 +56,17 @@ module _ (e : Element) where
   handed-back = ap (elementOf (kindIn e)) values-back ∙ element-back e
 
   -- none of them is refused
-  pub handed-named : named (rowsOf (kindIn e)) (valuesIn (kindIn e) (fieldsOf e .fields)) ≡ Finding.Accepted
-  handed-named = ap (named (rowsOf (kindIn e))) values-back ∙ all-named (rowsOf (kindIn e)) (elementValues e) _ (state-within e)
+  pub handed-named : checkNamed (rowsOf (kindIn e)) (valuesIn (kindIn e) (fieldsOf e .fields)) ≡ Finding.Accepted
+  handed-named = ap (checkNamed (rowsOf (kindIn e))) values-back ∙ all-named (rowsOf (kindIn e)) (elementValues e) _ (state-within e)
 
 -- ---- the calls
 
 module _ (T A : List ℕ) (i : ℕ) where
   -- a state handed in as its fields is written as the state
-  pub handed-in : (e : Element) (position : ℕ) → writeFieldsCall T A i (shownOf e .kind) (shownOf e .fields) position ≡ writeStateCall T A i e position
-  unfolding shownOf
+  pub handed-in : (e : Element) (position : ℕ) → writeFieldsCall T A i (shownPlain e .kind) (shownPlain e .fields) position ≡ writeStateCall T A i e position
+  unfolding shownPlain
   handed-in e position =
-      writes T A i (shownOf e .kind) (shownOf e .fields) position (kind-found (kindIn e)) (handed-named e)
+      writes T A i (shownPlain e .kind) (shownPlain e .fields) position (kind-found (kindIn e)) (handed-named e)
       ∙ ap (λ (s : Element). writeStateCall T A i s position) (handed-back e)
 
   module _ {x : Plain} {e : Element} (is : x ≡ plainOf (readingOf (readStateCall T A i))) (q : readStateCall T A i ≡ done e) where

@@ -8,7 +8,7 @@ use Rattle.kinds.specs.declared.Kind.{Kind}
 use Rattle.history.specs.Verdict.{Verdict, refused, then, refusalAt, _unless_⨾_}
 use Rattle.history.specs.Image.{foundIn, _of_⨾_}
 use Rattle.history.specs.Calls.{readStateCall, writeStateCall}
-use Rattle.fields.specs.Fields.{valuesIn, named}
+use Rattle.fields.specs.Plain.{valuesIn, checkNamed}
 
 -- what is tested before a state's values: table, image and 13 as in reading, then 22 if the object's kind has another number
 abbrev pub ofKind : List ℕ → List ℕ → ℕ → ℕ → (Kind → Verdict (List ℕ)) → Verdict (List ℕ)
@@ -21,7 +21,7 @@ ofKind T A i number next =
 unfoldable pub writeFieldsCall : List ℕ → List ℕ → ℕ → ℕ → List ℕ → ℕ → Verdict (List ℕ)
 writeFieldsCall T A i number fields position =
     ofKind T A i number λ k.
-    named (rowsOf k) (valuesIn k fields) of i ⨾
+    checkNamed (rowsOf k) (valuesIn k fields) of i ⨾
     writeStateCall T A i (elementOf k (valuesIn k fields)) position
 
 -- the refusal found, once table, image, 13 and 22 are passed

@@ -1,11 +1,14 @@
 // A state as plain numbers: its kind's number, and the values of its fields that are not reserved, from bit 0 up, then zeros. It is for
 // callers that can't hold a state, such as C. It reads and writes through `panel`, and checks only the numbers itself.
-mod walk;
+mod by_rows;
 
+use by_rows::check_named;
+use by_rows::show_rows;
+use by_rows::take_rows;
 use history::Answer;
 use kinds::Element;
 use kinds::Kind;
-use kinds::Sort;
+use kinds::OptionalKind;
 use panel::Reading;
 use panel::read_state;
 use panel::write_state;
@@ -14,15 +17,12 @@ use rows::Refusal;
 use tables::accepted;
 use tables::refused_at;
 use tables::refused_by;
-use walk::check_rows;
-use walk::show_rows;
-use walk::take_rows;
 ghost use mathlib.Core.Path.{_≡_};
-ghost use Rattle.kinds.specs.Kinds.{rowsOf, sortNumbered};
+ghost use Rattle.kinds.specs.Kinds.{rowsOf, findNumbered};
 ghost use Rattle.history.specs.Verdict.{told, Leaves};
 ghost use Rattle.history.specs.Calls.{readStateCall};
 ghost use Rattle.panel.specs.Readings.{readingOf};
-ghost use Rattle.fields.specs.Fields.{shownOf, plainOf, valuesIn, named};
+ghost use Rattle.fields.specs.Plain.{shownPlain, plainOf, valuesIn, checkNamed};
 ghost use Rattle.fields.specs.Calls.{writeFieldsCall, stateRefused};
 
 // What reading gives: the answer, and for a state its kind's number, how many fields are not reserved and their values; zeros for a refusal.
@@ -52,8 +52,8 @@ pub fn write_fields(
 ) -> Answer
     ensures { λ r. ⌜ Leaves (writeFieldsCall (now (table .entry)) (now (image .entry)) object number fields position) (now (out .entry)) r (now (out .exit)) ⌝ }
 {
-    let sort = sort_of(number);
-    let Sort::Carried(kind) = sort else {
+    let found = find_kind(number);
+    let OptionalKind::Some(kind) = found else {
         return refuse_state(table, image, object, number, Refusal { code: 22, bit: 255 });
     };
     let values = values_in(fields, kind);
@@ -86,7 +86,7 @@ fn plain_of(reading: Reading) -> Plain
 }
 
 fn shown_plain(element: Element) -> Plain
-    ensures { λ r. ⌜ r ≡ shownOf element ⌝ }
+    ensures { λ r. ⌜ r ≡ shownPlain element ⌝ }
 {
     let layout = kinds::layout(kinds::kind_in(element));
     let first = layout.first;
@@ -113,22 +113,22 @@ fn values_in(fields: [u32; 32], kind: Kind) -> [u32; 24]
 
 // Refuses the first value that has no named case, with 11.
 fn check_values(values: [u32; 24], kind: Kind) -> Finding
-    ensures { λ r. ⌜ r ≡ named (rowsOf kind) values ⌝ }
+    ensures { λ r. ⌜ r ≡ checkNamed (rowsOf kind) values ⌝ }
 {
     let layout = kinds::layout(kind);
     let first = layout.first;
     let count = layout.count;
-    check_rows(values, first, count)
+    check_named(values, first, count)
 }
 
 // The kind with a number, if there is one.
-fn sort_of(number: u32) -> Sort
-    ensures { λ r. ⌜ r ≡ sortNumbered number ⌝ }
+fn find_kind(number: u32) -> OptionalKind
+    ensures { λ r. ⌜ r ≡ findNumbered number ⌝ }
 {
     if 255 < number {
-        return Sort::Other;
+        return OptionalKind::None;
     }
-    kinds::sort_numbered(number as u8)
+    kinds::find_numbered(number as u8)
 }
 
 // The answer where something is refused of a state handed in: table, image, 13 and 22 come before it.

@@ -6,7 +6,7 @@ use mathlib.Core.Path.{_≡_, sym, ap, _∙_}
 use mathlib.Core.List.{List, [], _∷_}
 use lib.ListN.{length, getD, drop, length-map, List·getD-map, drop-of-length-le}
 use lib.Seq.{drop-cons}
-use Rattle.rows.specs.Table.{layouts}
+use Rattle.rows.specs.Rows.{layouts}
 use Rattle.kinds.specs.Kinds.{widthOf}
 use Rattle.kinds.specs.declared.Kind.{Kind}
 use Rattle.history.specs.Table.{kindAt}

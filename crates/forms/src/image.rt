@@ -43,7 +43,7 @@ pub fn check_image_under(x: u8, y: u8, kinds: &[u8], image: &[u8]) -> Answer
     if !is_whole(image, 7) {
         return refused(1);
     }
-    if !is_version(image[4]) {
+    if !is_image_version(image[4]) {
         return refused(2);
     }
     if !is_under(image, x, y) {
@@ -56,7 +56,7 @@ pub fn check_image_under(x: u8, y: u8, kinds: &[u8], image: &[u8]) -> Answer
 }
 
 // Which versions of an image are read: only 1.
-fn is_version(version: u8) -> bool
+fn is_image_version(version: u8) -> bool
     ensures { λ r. ⌜ r ≡ imageVersionGood version ⌝ }
 {
     version == 1

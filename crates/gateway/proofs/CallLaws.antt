@@ -30,7 +30,7 @@ use Rattle.tables.specs.declared.place.LabelAt.{LabelAt}
 use Rattle.tables.proofs.AnswerLaws.{yes, no}
 use Rattle.panel.specs.Readings.{readingOf}
 use Rattle.fields.specs.declared.Plain.{Plain}
-use Rattle.fields.specs.Fields.{shownOf, plainOf}
+use Rattle.fields.specs.Plain.{shownPlain, plainOf}
 use Rattle.receiver.specs.declared.Taken.{Taken}
 use Rattle.receiver.specs.Receive.{answerOf, standingOf, takenOf}
 use Rattle.history.specs.Standing.{talliesOf}
@@ -111,12 +111,12 @@ module _ (x y ty : ℕ) (b : List ℕ) {s : Bool} (s-is : s ≡ catalogueGood x 
 
 module _ (fields : List ℕ) {p : Plain} where
   stay : (v : Verdict Element) → p ≡ plainOf (readingOf v) → (p .answer .code ≡ 0 → ⊥) → fields ≡ fieldsAfter v fields
-  unfolding plainOf shownOf readingOf fieldsAfter
+  unfolding plainOf shownPlain readingOf fieldsAfter
   stay (refused r) e n = refl
   stay (done state) e n = absurd (n (ap (λ (p : Plain). p .answer .code) e))
 
   show : (v : Verdict Element) → Coded v → p ≡ plainOf (readingOf v) → p .answer .code ≡ 0 → p .fields ≡ fieldsAfter v fields
-  unfolding plainOf shownOf readingOf fieldsAfter
+  unfolding plainOf shownPlain readingOf fieldsAfter
   show (refused r) c e z = not-zero c (sym (ap (λ (p : Plain). p .answer .code) e) ∙ z)
   show (done state) c e z = ap (λ (p : Plain). p .fields) e
 

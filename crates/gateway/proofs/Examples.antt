@@ -1,12 +1,9 @@
 -- The numbers that C sees, place by place, and elements by themselves, as bytes: computed.
 -- Assumes nothing.
-use mathlib.Core.Path.{_≡_, refl}
+use mathlib.Core.Path.{_≡_}
 use mathlib.Core.List.{[], _∷_}
-use Rattle.rows.specs.Table.{table, layouts}
-use Rattle.elements.specs.Elements.{carried, kindOf, datRule, elementCheck}
+use Rattle.history.proofs.Examples.{computed}
 use Rattle.history.specs.Verdict.{naming, refused, done, numbers, unnamed}
-use Rattle.history.specs.Table.{catalogueGood}
-use Rattle.history.specs.Image.{element}
 use Rattle.history.specs.Standing.{talliesOf}
 use Rattle.gateway.specs.Slots.{answerSlots, readSlots, labelSlots, standingIn}
 use Rattle.gateway.specs.Calls.{elementCall}
@@ -18,7 +15,7 @@ pub places : (answerSlots (numbers (naming 11 4 10) 3) ≡ 11 ∷ 4 ∷ 10 ∷ 3
     × (talliesOf (record { applied = 1; late = 2; gap = 3; other = 4 }) ≡ 1 ∷ 2 ∷ 3 ∷ 4 ∷ [])
     × (standingIn (1 ∷ 2 ∷ 3 ∷ 4 ∷ []) ≡ record { applied = 1; late = 2; gap = 3; other = 4 })
 unfolding answerSlots readSlots labelSlots
-places = (refl, refl, refl, refl, refl)
+places = search
 
 -- IC 03, AVG 01 00, SIG 00 00 01 D5; a type that is not carried, whatever the length; a length that is not the type's, whatever the bits; a
 -- catalogue that is not carried, whatever the type; the same under 3.0, whose signal has EAR in bit 3 and GRP_ARS in bits 30 and 31
@@ -42,5 +39,5 @@ pub elements : (elementCall 1 0 2 (0x03 ∷ []) ≡ done 0x03)
     × (elementCall 3 0 1 (0x00 ∷ 0x00 ∷ 0x00 ∷ 0x09 ∷ []) ≡ done 0x00000009)
     × (elementCall 3 0 1 (0xC0 ∷ 0x00 ∷ 0x00 ∷ 0x01 ∷ []) ≡ refused (naming 11 65535 30))
     × (elementCall 1 0 1 (0x00 ∷ 0x00 ∷ 0x00 ∷ 0x09 ∷ []) ≡ refused (naming 11 65535 1))
-unfolding table layouts carried kindOf datRule elementCheck catalogueGood element elementCall
-elements = (refl, refl, refl, refl, refl, refl, refl, refl, refl, refl, refl, refl, refl, refl, refl, refl, refl, refl, refl, refl)
+unfolding computed elementCall
+elements = search

@@ -8,7 +8,7 @@ use mathlib.Core.Bool.{true}
 use lib.Dec.{ltb}
 use lib.Pow.{pow-add, pow-pos}
 use borrow.Author.Tests.{eq-eqb, lt-ltb, ltb-true, eqb-true}
-use Rattle.rows.specs.Fields.{codeAt}
+use Rattle.rows.specs.Values.{codeAt}
 use Rattle.rows.specs.declared.Finding.{Finding}
 use Rattle.rows.specs.declared.Refusal.{Refusal}
 use Rattle.kinds.specs.Kinds.{layoutNo, widthOf, kindIn}

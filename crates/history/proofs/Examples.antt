@@ -6,7 +6,7 @@ use mathlib.Core.Path.{_≡_, refl}
 use mathlib.Core.List.{List, [], _∷_, _++_, map, zipWith}
 use mathlib.Core.Bool.{Bool, true, false}
 use lib.ListN.{take, set, replicate}
-use Rattle.rows.specs.Table.{table, layouts}
+use Rattle.rows.specs.Rows.{cells, layouts}
 use Rattle.elements.specs.Elements.{carried, kindOf, datRule, elementCheck, stateOf, wordOf}
 use Rattle.kinds.specs.declared.Element.{Element}
 use Rattle.cases.specs.declared.ChangerAspect.{ChangerAspect}
@@ -73,6 +73,11 @@ falling = 0 ∷ 0 ∷ 0 ∷ 0x17 ∷ 1 ∷ 1 ∷ 0 ∷ 0 ∷ 0 ∷ 0 ∷ 8 ∷ 0
 abbrev fixedT : Element
 fixedT = Element.ChangerSignal (record { current = true; aspect = ChangerAspect.FixedT })
 
+-- what examples compute with: where this unfolds, all of it does
+unfoldable pub computed : ℕ
+unfolding cells layouts datRule elementCheck stateOf wordOf bytes told settled formBytes isWhole readForm versionGood catalogueGood labelLimit carried kindOf labelGood checkObject readTable planOf imageVersionGood element imageBytes elementsFrom readImage listVersion listBytes readNumber readElements checkEntry readList difference applied join turned readPlan tableCall imageCall listCall differenceUnder differenceCall applyUnder applyCall joinUnder joinCall turnUnder turnCall readStateUnder readStateCall checkState writeStateUnder writeStateCall labelCall zipWith fresh counted receiveCall
+computed = 0
+
 pub printed : (tableCall T ≡ done (record { version = 1; x = 1; y = 0; objects = record { type = 4; label = 0x41 ∷ 0x41 ∷ 0x3A ∷ 0x43 ∷ 0x56 ∷ 0x31 ∷ [] } ∷ record { type = 2; label = 0x41 ∷ 0x41 ∷ 0x3A ∷ 0x53 ∷ 0x31 ∷ [] } ∷ [] }))
     × (imageCall T A ≡ done (record { version = 1; position = 7; words = 0x0001 ∷ 0x03 ∷ [] }))
     × (listCall T AB ≡ done (record { from = 7; to = 8; each = swap 0x0001 0x0031 ∷ keep ∷ [] }))
@@ -89,8 +94,8 @@ pub printed : (tableCall T ≡ done (record { version = 1; x = 1; y = 0; objects
     × (settled (differenceCall T A B) (replicate 23 0 ++ (5 ∷ [])) ≡ record { answer = unnamed 0 23; output = AB ++ (5 ∷ []) })
     × (told (imageCall T A) ≡ unnamed 0 0)
     × (told (imageCall T (set A 13 0x09)) ≡ numbers (naming 10 1 3) 0)
-unfolding table layouts datRule elementCheck stateOf wordOf bytes told settled formBytes isWhole readForm versionGood catalogueGood labelLimit carried kindOf labelGood checkObject readTable planOf imageVersionGood element imageBytes elementsFrom readImage listVersion listBytes readNumber readElements checkEntry readList difference applied join turned readPlan tableCall imageCall listCall differenceUnder differenceCall applyUnder applyCall joinUnder joinCall turnUnder turnCall readStateUnder readStateCall checkState writeStateUnder writeStateCall labelCall zipWith
-printed = (refl, refl, refl, refl, refl, refl, refl, refl, refl, refl, refl, refl, refl, refl, refl, refl)
+unfolding computed
+printed = search
 
 pub each-code : (tableCall (take 3 T) ≡ refused (naming 1 65535 255))
     × (tableCall (set T 4 2) ≡ refused (naming 2 65535 255))
@@ -119,8 +124,8 @@ pub each-code : (tableCall (take 3 T) ≡ refused (naming 1 65535 255))
     × (settled (differenceCall T A B) (0 ∷ []) ≡ record { answer = unnamed 21 23; output = 0 ∷ [] })
     × (writeStateCall T A 0 (Element.ChangerSignal (record { current = true; aspect = ChangerAspect.FixedT })) 9 ≡ refused (naming 22 0 255))
     × (writeStateCall T A 1 (Element.ChangerSignal (record { current = false; aspect = ChangerAspect.FixedT })) 9 ≡ refused (naming 12 1 0))
-unfolding table layouts datRule elementCheck stateOf wordOf bytes settled formBytes isWhole readForm versionGood catalogueGood labelLimit carried kindOf labelGood checkObject readTable planOf imageVersionGood element imageBytes elementsFrom readImage listVersion listBytes readNumber readElements checkEntry readList difference applied join turned readPlan tableCall imageCall listCall differenceUnder differenceCall applyUnder applyCall joinUnder joinCall turnUnder turnCall readStateUnder readStateCall checkState writeStateUnder writeStateCall zipWith
-each-code = (refl, refl, refl, refl, refl, refl, refl, refl, refl, refl, refl, refl, refl, refl, refl, refl, refl, refl, refl, refl, refl, refl, refl, refl, refl, refl, refl)
+unfolding computed
+each-code = search
 
 -- what is named: the number of the object at fault, or for 13 the number that is no object's
 pub names-each : (tableCall (set T 17 10) ≡ refused (naming 5 1 255))
@@ -141,8 +146,8 @@ pub names-each : (tableCall (set T 17 10) ≡ refused (naming 5 1 255))
     × (applyCall T (set A 13 0x05) AC ≡ refused (naming 18 1 255))
     × (joinCall T AC (set (set AC 10 9) 19 0x07) ≡ refused (naming 20 1 255))
     × (writeStateCall T A 1 (Element.VirtualBoard (record { current = true; aspect = BoardAspect.Red; «closing_commanded» = false })) 9 ≡ refused (naming 22 1 255))
-unfolding table layouts datRule elementCheck stateOf wordOf bytes settled formBytes isWhole readForm versionGood catalogueGood labelLimit carried kindOf labelGood checkObject readTable planOf imageVersionGood element imageBytes elementsFrom readImage listVersion listBytes readNumber readElements checkEntry readList difference applied join turned readPlan tableCall imageCall listCall differenceUnder differenceCall applyUnder applyCall joinUnder joinCall turnUnder turnCall readStateUnder readStateCall checkState writeStateUnder writeStateCall zipWith labelCall
-names-each = (refl, refl, refl, refl, refl, refl, refl, refl, refl, refl, refl, refl, refl, refl, refl, refl, refl, refl)
+unfolding computed
+names-each = search
 
 -- 8, wherever bytes are missing or left over; but a whole number past the objects is 13
 pub eights : (tableCall (0 ∷ 0 ∷ 0 ∷ 6 ∷ 1 ∷ 1 ∷ 0 ∷ 0 ∷ 1 ∷ 2 ∷ []) ≡ refused (naming 8 65535 255))
@@ -152,8 +157,8 @@ pub eights : (tableCall (0 ∷ 0 ∷ 0 ∷ 6 ∷ 1 ∷ 1 ∷ 0 ∷ 0 ∷ 1 ∷ 2
     × (listCall T (set AB 16 2) ≡ refused (naming 8 65535 255))
     × (listCall T (set BC 24 0xFF) ≡ refused (naming 13 255 255))
     × (listCall T (set AC 18 0) ≡ refused (naming 8 65535 255))
-unfolding table layouts datRule elementCheck stateOf wordOf bytes settled formBytes isWhole readForm versionGood catalogueGood labelLimit carried kindOf labelGood checkObject readTable planOf imageVersionGood element imageBytes elementsFrom readImage listVersion listBytes readNumber readElements checkEntry readList difference applied join turned readPlan tableCall imageCall listCall differenceUnder differenceCall applyUnder applyCall joinUnder joinCall turnUnder turnCall readStateUnder readStateCall checkState writeStateUnder writeStateCall zipWith
-eights = (refl, refl, refl, refl, refl, refl, refl)
+unfolding computed
+eights = search
 
 -- of two faults the first in the paper's order is named
 pub first-named : (tableCall (set (set T 4 2) 6 1) ≡ refused (naming 2 65535 255))
@@ -175,8 +180,8 @@ pub first-named : (tableCall (set (set T 4 2) 6 1) ≡ refused (naming 2 65535 2
     × (readStateCall T (set A 13 0x09) 7 ≡ refused (naming 10 1 3))
     × (writeStateCall T A 0 (Element.ChangerSignal (record { current = false; aspect = ChangerAspect.FixedT })) 9 ≡ refused (naming 22 0 255))
     × (settled (writeStateCall T A 7 fixedT 9) [] .answer ≡ numbers (naming 13 7 255) 0)
-unfolding table layouts datRule elementCheck stateOf wordOf bytes settled formBytes isWhole readForm versionGood catalogueGood labelLimit carried kindOf labelGood checkObject readTable planOf imageVersionGood element imageBytes elementsFrom readImage listVersion listBytes readNumber readElements checkEntry readList difference applied join turned readPlan tableCall imageCall listCall differenceUnder differenceCall applyUnder applyCall joinUnder joinCall turnUnder turnCall readStateUnder readStateCall checkState writeStateUnder writeStateCall zipWith
-first-named = (refl, refl, refl, refl, refl, refl, refl, refl, refl, refl, refl, refl, refl, refl, refl, refl, refl, refl, refl)
+unfolding computed
+first-named = search
 
 -- two faults at once in a form: each test before the one that follows it, each entry before the next and before bytes that are left over
 pub orders : (tableCall (set (T ++ (0 ∷ [])) 4 2) ≡ refused (naming 1 65535 255))
@@ -195,8 +200,8 @@ pub orders : (tableCall (set (T ++ (0 ∷ [])) 4 2) ≡ refused (naming 1 65535 
     × (listCall T (0 ∷ 0 ∷ 0 ∷ 0x11 ∷ 1 ∷ 1 ∷ 0 ∷ 0 ∷ 0 ∷ 0 ∷ 7 ∷ 0 ∷ 0 ∷ 0 ∷ 8 ∷ 0 ∷ 1 ∷ 0 ∷ 0 ∷ 0x14 ∷ 0x01 ∷ []) ≡ refused (naming 8 65535 255))
     × (listCall T (set (set BC 22 0x31) 24 7) ≡ refused (naming 15 0 255))
     × (listCall T (set (set (AB ++ (0 ∷ [])) 3 0x14) 22 0x01) ≡ refused (naming 15 0 255))
-unfolding table layouts datRule elementCheck stateOf wordOf bytes settled formBytes isWhole readForm versionGood catalogueGood labelLimit carried kindOf labelGood checkObject readTable planOf imageVersionGood element imageBytes elementsFrom readImage listVersion listBytes readNumber readElements checkEntry readList difference applied join turned readPlan tableCall imageCall listCall differenceUnder differenceCall applyUnder applyCall joinUnder joinCall turnUnder turnCall readStateUnder readStateCall checkState writeStateUnder writeStateCall zipWith
-orders = (refl, refl, refl, refl, refl, refl, refl, refl, refl, refl, refl, refl, refl, refl, refl, refl)
+unfolding computed
+orders = search
 
 -- at the edges: the least lengths, 5, 7 and 13; an entry of two bytes and no more; labels of 1 and 32 bytes that are cut; one byte missing
 pub edges : (tableCall (0 ∷ 0 ∷ 0 ∷ 4 ∷ 1 ∷ 1 ∷ 0 ∷ 0 ∷ []) ≡ refused (naming 1 65535 255))
@@ -211,8 +216,8 @@ pub edges : (tableCall (0 ∷ 0 ∷ 0 ∷ 4 ∷ 1 ∷ 1 ∷ 0 ∷ 0 ∷ []) ≡ 
     × (tableCall (0 ∷ 0 ∷ 0 ∷ 7 ∷ 1 ∷ 1 ∷ 0 ∷ 0 ∷ 1 ∷ 2 ∷ 32 ∷ []) ≡ refused (naming 8 65535 255))
     × (tableCall (0 ∷ 0 ∷ 0 ∷ 9 ∷ 1 ∷ 1 ∷ 0 ∷ 0 ∷ 1 ∷ 2 ∷ 3 ∷ 0x41 ∷ 0x3A ∷ []) ≡ refused (naming 8 65535 255))
     × (listCall T (set (take 22 AB) 3 0x12) ≡ refused (naming 8 65535 255))
-unfolding table layouts datRule elementCheck stateOf wordOf bytes settled formBytes isWhole readForm versionGood catalogueGood labelLimit carried kindOf labelGood checkObject readTable planOf imageVersionGood element imageBytes elementsFrom readImage listVersion listBytes readNumber readElements checkEntry readList difference applied join turned readPlan tableCall imageCall listCall differenceUnder differenceCall applyUnder applyCall joinUnder joinCall turnUnder turnCall readStateUnder readStateCall checkState writeStateUnder writeStateCall zipWith
-edges = (refl, refl, refl, refl, refl, refl, refl, refl, refl, refl, refl, refl)
+unfolding computed
+edges = search
 
 -- order in a call: the table before all else, each form before what is asked of it, a gap before the values
 pub call-orders : (listCall (set T 6 1) (take 3 AB) ≡ refused (naming 3 65535 255))
@@ -227,8 +232,8 @@ pub call-orders : (listCall (set T 6 1) (take 3 AB) ≡ refused (naming 3 65535 
     × (writeStateCall (set T 6 1) (take 3 A) 7 fixedT 9 ≡ refused (naming 3 65535 255))
     × (writeStateCall T (set A 13 0x09) 7 fixedT 9 ≡ refused (naming 10 1 3))
     × (labelCall (set T 6 1) 7 ≡ refused (naming 3 65535 255))
-unfolding table layouts datRule elementCheck stateOf wordOf bytes settled formBytes isWhole readForm versionGood catalogueGood labelLimit carried kindOf labelGood checkObject readTable planOf imageVersionGood element imageBytes elementsFrom readImage listVersion listBytes readNumber readElements checkEntry readList difference applied join turned readPlan tableCall imageCall listCall differenceUnder differenceCall applyUnder applyCall joinUnder joinCall turnUnder turnCall readStateUnder readStateCall checkState writeStateUnder writeStateCall zipWith labelCall
-call-orders = (refl, refl, refl, refl, refl, refl, refl, refl, refl, refl, refl, refl)
+unfolding computed
+call-orders = search
 
 -- what the forms may hold: label bytes 33 to 126 with a colon inside, at most 32; version 1; catalogues 1.0 and 3.0
 pub limits : (map firstColon ((65 ∷ 58 ∷ 58 ∷ []) ∷ (65 ∷ 66 ∷ []) ∷ []) ≡ 1 ∷ 2 ∷ [])
@@ -239,12 +244,12 @@ pub limits : (map firstColon ((65 ∷ 58 ∷ 58 ∷ []) ∷ (65 ∷ 66 ∷ []) �
     × (map (catalogueGood 1) (0 ∷ 1 ∷ 2 ∷ []) ≡ true ∷ false ∷ false ∷ [])
     × (map (catalogueGood 3) (0 ∷ 1 ∷ 2 ∷ []) ≡ true ∷ false ∷ false ∷ [])
     × (map (λ (x : ℕ). catalogueGood x 0) (0 ∷ 2 ∷ 4 ∷ 255 ∷ []) ≡ false ∷ false ∷ false ∷ false ∷ [])
-unfolding labelGood labelLimit versionGood imageVersionGood catalogueGood
-limits = (refl, refl, refl, refl, refl, refl, refl, refl)
+unfolding computed
+limits = search
 
 -- "A join that drops an object also applies to images that refuse the steps": the join of AB and BC drops object 0
 pub trap : (joinCall T AB BC ≡ done AC) × (applyCall T X AB ≡ refused (naming 18 0 255)) × (applyCall T X AC ≡ done Y)
-unfolding table layouts datRule elementCheck stateOf wordOf bytes formBytes isWhole readForm versionGood catalogueGood labelLimit carried kindOf labelGood checkObject readTable planOf imageVersionGood element imageBytes elementsFrom readImage listVersion listBytes readNumber readElements checkEntry readList applied join readPlan applyUnder applyCall joinUnder joinCall zipWith
+unfolding computed
 trap = (refl, refl, refl)
 
 -- the applied tally is full
@@ -259,8 +264,8 @@ pub received-each : (receiveCall T A AB (A ++ (5 ∷ [])) fresh ≡ record { ans
     × (receiveCall T A AB (take 13 B) fresh ≡ record { answer = unnamed 21 14; output = take 13 B; standing = record { applied = 0; late = 0; gap = 0; other = 1 } })
     × (receiveCall T A AB B brim .standing ≡ brim)
     × (receiveCall T A AB B (record { applied = 4294967294; late = 1; gap = 2; other = 3 }) .standing ≡ brim)
-unfolding table layouts datRule elementCheck stateOf wordOf bytes settled formBytes isWhole readForm versionGood catalogueGood labelLimit carried kindOf labelGood checkObject readTable planOf imageVersionGood element imageBytes elementsFrom readImage listVersion listBytes readNumber readElements checkEntry readList applied readPlan applyUnder applyCall fresh counted receiveCall zipWith
-received-each = (refl, refl, refl, refl, refl, refl, refl)
+unfolding computed
+received-each = search
 
 -- ---- catalogue 3.0: a signal and a changer signal. The signal's EAR is active; then it is green, its F flashes green and its router is in
 -- automatic block; then it is as it was at first, and the changer signal has changed
@@ -317,8 +322,8 @@ pub new-catalogue : (tableCall T3 ≡ done (record { version = 1; x = 3; y = 0; 
     × (writeStateCall T3 A3 0 (Element.SignalV3 (routed true)) 8 ≡ done B3)
     × (readStateCall T3 A3 1 ≡ done fixedT)
     × (writeStateCall T1 A1 1 fixedT 7 ≡ done A1)
-unfolding table layouts datRule elementCheck stateOf wordOf bytes settled formBytes isWhole readForm versionGood catalogueGood labelLimit carried kindOf labelGood checkObject readTable planOf imageVersionGood element imageBytes elementsFrom readImage listVersion listBytes readNumber readElements checkEntry readList difference applied join turned readPlan tableCall imageCall listCall differenceUnder differenceCall applyUnder applyCall joinUnder joinCall turnUnder turnCall readStateUnder readStateCall checkState writeStateUnder writeStateCall zipWith
-new-catalogue = (refl, refl, refl, refl, refl, refl, refl, refl, refl, refl, refl, refl, refl, refl)
+unfolding computed
+new-catalogue = search
 
 -- 3: neither 1.0 nor 3.0; 5: types 8, 9, 22 and 23, naming the object; 9: an image or a list of another catalogue; 11: GRP_ARS 3; 10 and 11:
 -- bits 31 and 3 of a 3.0 signal, under 1.0; 12: no data, and EAR active; 22, before 12: a signal of one catalogue under the other
@@ -344,5 +349,5 @@ pub new-refusals : (tableCall (set T3 5 2) ≡ refused (naming 3 65535 255))
     × (writeStateCall T3 A3 0 (Element.Signal (green false)) 8 ≡ refused (naming 22 0 255))
     × (writeStateCall T1 A1 0 (Element.SignalV3 (routed false)) 8 ≡ refused (naming 22 0 255))
     × (writeStateCall T3 A3 0 (Element.SignalV3 (routed false)) 8 ≡ refused (naming 12 0 0))
-unfolding table layouts datRule elementCheck stateOf wordOf bytes settled formBytes isWhole readForm versionGood catalogueGood labelLimit carried kindOf labelGood checkObject readTable planOf imageVersionGood element imageBytes elementsFrom readImage listVersion listBytes readNumber readElements checkEntry readList difference applied join turned readPlan tableCall imageCall listCall differenceUnder differenceCall applyUnder applyCall joinUnder joinCall turnUnder turnCall readStateUnder readStateCall checkState writeStateUnder writeStateCall zipWith
-new-refusals = (refl, refl, refl, refl, refl, refl, refl, refl, refl, refl, refl, refl, refl, refl, refl, refl, refl, refl, refl, refl, refl, refl)
+unfolding computed
+new-refusals = search

@@ -66,7 +66,7 @@ pub data Names (n : ℕ) (ks : List Kind) (given : ℕ → Type 0) : Refused →
   no-object : {i : ℕ} → given i → n ≤ i → Names n ks given (naming 13 i 255)
   its-field : {f : Refusal} {i : ℕ} → i < length ks → Refuses (kindAt ks i) (f .code) (f .bit) → Names n ks given (foundIn f i)
 
--- no number is given; this one is; further down `Stands`: those whose bytes are in a list
+-- no number is given; this one is; further down `Occurs`: those whose bytes are in a list
 abbrev pub NoNumber : ℕ → Type 0
 NoNumber i = ⊥
 
@@ -179,13 +179,13 @@ image-named p b =
     named-then (readWords 0 (p .kinds) (drop (elementsFrom (f .version)) (f .contents))) _ (words-named (p .kinds) (λ f i. its-field) 0 (p .kinds) _ refl) λ ws e. accepts
 
 -- the two bytes of a number are somewhere in a list
-pub record Stands (L : List ℕ) (i : ℕ) : Type 0 where
+pub record Occurs (L : List ℕ) (i : ℕ) : Type 0 where
   pub at : ℕ
   pub inside : at + 2 ≤ length L
   pub is : number (take 2 (drop at L)) ≡ i
 
-stands-behind : (k : ℕ) (b : List ℕ) {i : ℕ} → Stands (drop k b) i → Stands b i
-stands-behind k b s = record {
+occurs-after : (k : ℕ) (b : List ℕ) {i : ℕ} → Occurs (drop k b) i → Occurs b i
+occurs-after k b s = record {
   at = k + s .at;
   inside = omega (arith, s .inside, length-drop k b);
   is = ap (λ (c : List ℕ). number (take 2 c)) (sym (drop-drop (s .at) k b)) ∙ s .is;
@@ -195,7 +195,7 @@ stands-behind k b s = record {
 module _ {P : Refused → Type 0} (ks : List Kind) (given : ℕ → Type 0) (eight : P (naming 8 65535 255)) (beyond : (i : ℕ) → given i → length ks ≤ i → P (naming 13 i 255))
     (its : (code i : ℕ) → oneOf itsNumbers code ≡ true → given i → i < length ks → P (naming code i 255))
     (field : (f : Refusal) (i : ℕ) → i < length ks → Refuses (kindAt ks i) (f .code) (f .bit) → P (foundIn f i)) where
-  number-named : (b : List ℕ) → ((i : ℕ) → Stands b i → given i) → Named P (readNumber ks b)
+  number-named : (b : List ℕ) → ((i : ℕ) → Occurs b i → given i) → Named P (readNumber ks b)
   unfolding readNumber
   number-named b g =
       named-unless (leb 2 (length b)) _ _ (λ f. refuses eight) λ t.
@@ -208,7 +208,7 @@ module _ {P : Refused → Type 0} (ks : List Kind) (given : ℕ → Type 0) (eig
       named-unless (leb (widthOf (kindAt ks i) + widthOf (kindAt ks i)) (length b)) _ _ (λ f. refuses eight) λ t.
       named-element ks field (kindAt ks i) _ i _ l refl (named-element ks field (kindAt ks i) _ i _ l refl accepts)
 
-  entry-named : (low : ℕ) (b : List ℕ) → ((i : ℕ) → Stands b i → given i) → Named P (checkEntry ks low b)
+  entry-named : (low : ℕ) (b : List ℕ) → ((i : ℕ) → Occurs b i → given i) → Named P (checkEntry ks low b)
   unfolding checkEntry
   entry-named low b g =
       named-then (readNumber ks b) _ (number-named b g) λ i q.
@@ -218,22 +218,22 @@ module _ {P : Refused → Type 0} (ks : List Kind) (given : ℕ → Type 0) (eig
       named-then (readElements i (kindAt ks i) (drop 2 b)) _ (elements-named i (drop 2 b) (n .inside)) λ e q.
       named-unless (not (eqb (e .old) (e .new))) _ _ (λ f. refuses (its 15 _ refl mine (n .inside))) λ t. accepts
 
-  pub entries-named : (low m : ℕ) (b : List ℕ) → ((i : ℕ) → Stands b i → given i) → Named P (readEntries ks low m b)
+  pub entries-named : (low m : ℕ) (b : List ℕ) → ((i : ℕ) → Occurs b i → given i) → Named P (readEntries ks low m b)
   entries-named low zero b g = named-unless (eqb (length b) 0) _ _ (λ f. refuses eight) λ t. accepts
   entries-named low (suc m) b g =
       named-then (checkEntry ks low b) _ (entry-named low b g) λ e q.
       let w : ℕ = widthOf (entryAt ks b .kind) in
       let rest : e .rest ≡ drop w (drop w (drop 2 b)) = ap (λ (e : Entry). e .rest) (sym (was-checked ks low b q .0)) in
-      let behind : (i : ℕ) → Stands (e .rest) i → given i = λ i s. g i (stands-behind 2 b (stands-behind w (drop 2 b) (stands-behind w (drop w (drop 2 b)) (rw rest at s)))) in
+      let behind : (i : ℕ) → Occurs (e .rest) i → given i = λ i s. g i (occurs-after 2 b (occurs-after w (drop 2 b) (occurs-after w (drop w (drop 2 b)) (rw rest at s)))) in
       named-then (readEntries ks (suc (e .object)) m (e .rest)) _ (entries-named (suc (e .object)) m (e .rest) behind) λ cs q. accepts
 
-pub list-named : (p : Plan) (b : List ℕ) {given : ℕ → Type 0} → ((i : ℕ) → Stands b i → given i) → Named (NamesUnder (p .kinds) given) (readList p b)
+pub list-named : (p : Plan) (b : List ℕ) {given : ℕ → Type 0} → ((i : ℕ) → Occurs b i → given i) → Named (NamesUnder (p .kinds) given) (readList p b)
 unfolding readList
 list-named p b {given} g =
     named-then (readForm 13 (eqb listVersion) b) _ (form-named 13 (eqb listVersion) b) λ f e.
     named-test (sameCatalogue f p) _ _ refl λ t.
     let c = form-contents 13 (eqb listVersion) b e in
-    let behind : (i : ℕ) → Stands (drop 10 (f .contents)) i → given i = λ i s. g i (stands-behind 7 b (stands-behind 10 (drop 7 b) (rw c at s))) in
+    let behind : (i : ℕ) → Occurs (drop 10 (f .contents)) i → given i = λ i s. g i (occurs-after 7 b (occurs-after 10 (drop 7 b) (rw c at s))) in
     named-then (readEntries (p .kinds) 0 (number (take 2 (drop 8 (f .contents)))) (drop 10 (f .contents))) _ (entries-named (p .kinds) given (nothing refl) (λ i. no-object) (λ code i. its-number) (λ f i. its-field) 0 (number (take 2 (drop 8 (f .contents)))) (drop 10 (f .contents)) behind) λ cs q. accepts
 
 -- ---- operations
@@ -313,12 +313,12 @@ state-named ks i state =
 
 -- ---- the calls, from the table's bytes: the count is what they say, the kinds are those of an accepted table's objects
 
-abbrev kindsOf : Verdict Plan → List Kind
-kindsOf (refused r) = []
-kindsOf (done p) = p .kinds
+abbrev kindsRead : Verdict Plan → List Kind
+kindsRead (refused r) = []
+kindsRead (done p) = p .kinds
 
 abbrev pub kindsIn : List ℕ → List Kind
-kindsIn T = kindsOf (readPlan T)
+kindsIn T = kindsRead (readPlan T)
 
 abbrev pub NamesIn : List ℕ → (ℕ → Type 0) → Refused → Type 0
 NamesIn T given = Names (countIn T) (kindsIn T) given
@@ -352,7 +352,7 @@ module _ (T : List ℕ) where
   unfolding imageCall
   image-call-named A = under T _ λ p. image-named p A
 
-  pub list-call-named : (L : List ℕ) → Named (NamesIn T (Stands L)) (listCall T L)
+  pub list-call-named : (L : List ℕ) → Named (NamesIn T (Occurs L)) (listCall T L)
   unfolding listCall
   list-call-named L = under T _ λ p. list-named p L λ i s. s
 
@@ -363,7 +363,7 @@ module _ (T : List ℕ) where
       named-then (readImage p A) _ (image-named p A) λ a e.
       named-then (readImage p B) _ (image-named p B) λ b e. accepts
 
-  pub apply-call-named : (A L : List ℕ) → Named (NamesIn T (Stands L)) (applyCall T A L)
+  pub apply-call-named : (A L : List ℕ) → Named (NamesIn T (Occurs L)) (applyCall T A L)
   unfolding applyCall applyUnder
   apply-call-named A L =
       under T _ λ p.
@@ -371,7 +371,7 @@ module _ (T : List ℕ) where
       named-then (readList p L) _ (list-named p L (λ i s. s)) λ l f.
       named-then (applied l a) _ (applied-named l a (omega (arith, image-long p A e))) λ b e. accepts
 
-  pub join-call-named : (L M : List ℕ) → Named (NamesIn T (λ i. Stands L i ⊎ Stands M i)) (joinCall T L M)
+  pub join-call-named : (L M : List ℕ) → Named (NamesIn T (λ i. Occurs L i ⊎ Occurs M i)) (joinCall T L M)
   unfolding joinCall joinUnder
   join-call-named L M =
       under T _ λ p.
@@ -379,7 +379,7 @@ module _ (T : List ℕ) where
       named-then (readList p M) _ (list-named p M (λ i s. inr s)) λ m f.
       named-then (join l m) _ (join-named l m (omega (arith, list-long p M f))) λ k e. accepts
 
-  pub turn-call-named : (L : List ℕ) → Named (NamesIn T (Stands L)) (turnCall T L)
+  pub turn-call-named : (L : List ℕ) → Named (NamesIn T (Occurs L)) (turnCall T L)
   unfolding turnCall turnUnder
   turn-call-named L = under T _ λ p. named-then (readList p L) _ (list-named p L (λ i s. s)) λ l e. accepts
 

@@ -261,14 +261,14 @@ module _ (version x : ℕ) where
   objects-read earlier os h = rw (add-zero (length os), append-nil (objectsBytes os)) at (objects-pass earlier os h 0 [])
 
 -- no label is longer than 253 bytes, so an entry takes at most 255, and a table's length fits four bytes
-limit-few : (v : ℕ) → labelLimit v ≤ 253
+limit-253 : (v : ℕ) → labelLimit v ≤ 253
 unfolding labelLimit
-limit-few v = omega arith
+limit-253 v = omega arith
 
 length-objects : (version x : ℕ) (earlier os : List Object) → LegalFrom version x earlier os → length (objectsBytes os) ≤ 255 * length os
 length-objects version x earlier [] h = omega arith
 length-objects version x earlier (o ∷ os) h =
-    omega (arith, h .0 .few, limit-few version, length-append (o .label) (objectsBytes os), length-objects version x (earlier ++ (o ∷ [])) os (h .2))
+    omega (arith, h .0 .few, limit-253 version, length-append (o .label) (objectsBytes os), length-objects version x (earlier ++ (o ∷ [])) os (h .2))
 
 -- ---- the form
 

@@ -6,14 +6,14 @@ use mathlib.Core.List.{List, [], map}
 use Prim.Native.Nat.{ℕ, _<_}
 use lib.Dec.{lit<}
 use lib.ListN.{length, getD}
-use Rattle.rows.specs.Table.{table, layouts}
-use Rattle.rows.specs.Fields.{padded, valuesOf}
+use Rattle.rows.specs.Rows.{cells, layouts}
+use Rattle.rows.specs.Values.{padded, valuesOf}
 use Rattle.rows.proofs.Listed.{listedFrom}
 use Rattle.states.proofs.StateLaws.{signal-listed, signal-back, changerSignal-listed, changerSignal-back, virtualBoard-listed, virtualBoard-back, lineTrackCircuit-listed, lineTrackCircuit-back, pointsTrackCircuit-listed, pointsTrackCircuit-back, crossingTrackCircuit-listed, crossingTrackCircuit-back, dualDetection-listed, dualDetection-back, points-listed, points-back, electricLock-listed, electricLock-back, generalNotices-listed, generalNotices-back, controlBoundary-listed, controlBoundary-back, signalV3-listed, signalV3-back}
-use Rattle.kinds.specs.Kinds.{kinds, place, layoutNo, rowsOf, sortNumbered, elementOf, elementValues, kindIn}
+use Rattle.kinds.specs.Kinds.{kinds, place, layoutNo, rowsOf, findNumbered, elementOf, elementValues, kindIn}
 use Rattle.kinds.specs.declared.Kind.{Kind}
 use Rattle.kinds.specs.declared.Element.{Element}
-use Rattle.kinds.specs.declared.Sort.{Sort}
+use Rattle.kinds.specs.declared.OptionalKind.{OptionalKind}
 
 -- two functions that agree on the list of all kinds agree on each, so a table with a line for each kind is one computation
 pub every-kind : {A : Type 0} (f g : Kind → A) → map f kinds ≡ map g kinds → (k : Kind) → f k ≡ g k
@@ -45,7 +45,7 @@ placed Kind.GeneralNotices = lit< tt
 placed Kind.ControlBoundary = lit< tt
 placed Kind.SignalV3 = lit< tt
 
-pub kind-found : (k : Kind) → sortNumbered (layoutNo k) ≡ Sort.Carried k
+pub kind-found : (k : Kind) → findNumbered (layoutNo k) ≡ OptionalKind.Some k
 unfolding layouts
 kind-found Kind.Signal = refl
 kind-found Kind.ChangerSignal = refl
@@ -105,7 +105,7 @@ element-kind Kind.SignalV3 vs = refl
 
 -- the number 0 is read as the state of no values, which is the one without data if the kind has DAT
 pub zero-state : (k : Kind) → elementOf k (padded (valuesOf 0 (rowsOf k))) ≡ elementOf k []
-unfolding table layouts
+unfolding cells layouts
 zero-state Kind.Signal = refl
 zero-state Kind.ChangerSignal = refl
 zero-state Kind.VirtualBoard = refl

@@ -4,13 +4,13 @@ use mathlib.Core.Bool.{cond}
 use mathlib.Core.List.{List, [], _∷_, map}
 use Prim.Native.Nat.{ℕ}
 use lib.Dec.{eqb}
-use Rattle.rows.specs.Table.{Row, layoutAt}
+use Rattle.rows.specs.Rows.{Row, layoutAt}
 use Rattle.rows.specs.Covering.{layoutRows}
 use Rattle.rows.specs.declared.Layout.{Layout}
 use Rattle.states.specs.States.{signalOf, signalValues, changerSignalOf, changerSignalValues, virtualBoardOf, virtualBoardValues, lineTrackCircuitOf, lineTrackCircuitValues, pointsTrackCircuitOf, pointsTrackCircuitValues, crossingTrackCircuitOf, crossingTrackCircuitValues, dualDetectionOf, dualDetectionValues, pointsOf, pointsValues, electricLockOf, electricLockValues, generalNoticesOf, generalNoticesValues, controlBoundaryOf, controlBoundaryValues, signalV3Of, signalV3Values}
 use Rattle.kinds.specs.declared.Kind.{Kind}
 use Rattle.kinds.specs.declared.Element.{Element}
-use Rattle.kinds.specs.declared.Sort.{Sort}
+use Rattle.kinds.specs.declared.OptionalKind.{OptionalKind}
 
 abbrev pub kinds : List Kind
 kinds = Kind.Signal ∷ Kind.ChangerSignal ∷ Kind.VirtualBoard ∷ Kind.LineTrackCircuit ∷ Kind.PointsTrackCircuit ∷ Kind.CrossingTrackCircuit ∷ Kind.DualDetection ∷ Kind.Points ∷ Kind.ElectricLock ∷ Kind.GeneralNotices ∷ Kind.ControlBoundary ∷ Kind.SignalV3 ∷ []
@@ -51,16 +51,16 @@ abbrev pub line : ℕ → Kind → Line
 line number kind = record { number = number; kind = kind }
 
 -- the kind that a number stands for, by the first line that has it
-abbrev pub sortIn : ℕ → List Line → Sort
-sortIn n [] = Sort.Other
-sortIn n (l ∷ ls) = cond (eqb n (l .number)) (Sort.Carried (l .kind)) (sortIn n ls)
+abbrev pub findIn : ℕ → List Line → OptionalKind
+findIn n [] = OptionalKind.None
+findIn n (l ∷ ls) = cond (eqb n (l .number)) (OptionalKind.Some (l .kind)) (findIn n ls)
 
 -- a line for each kind, with the number of its layout
 abbrev pub numbered : List Line
 numbered = map (λ (k : Kind). line (layoutNo k) k) kinds
 
-abbrev pub sortNumbered : ℕ → Sort
-sortNumbered n = sortIn n numbered
+abbrev pub findNumbered : ℕ → OptionalKind
+findNumbered n = findIn n numbered
 
 abbrev pub elementOf : Kind → List ℕ → Element
 elementOf Kind.Signal vs = Element.Signal (signalOf vs)

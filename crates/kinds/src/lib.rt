@@ -19,9 +19,9 @@ ghost use mathlib.Core.Path.{_≡_};
 ghost use Prim.Native.Nat.{_+_, _≤_};
 ghost use lib.Dec.{T};
 ghost use lib.ListN.{length};
-ghost use Rattle.rows.specs.Fields.{padded};
+ghost use Rattle.rows.specs.Values.{padded};
 ghost use Rattle.rows.specs.Marks.{marked, Shows};
-ghost use Rattle.kinds.specs.Kinds.{layoutOf, widthOf, rowsOf, sortNumbered, kindIn, elementOf, elementValues};
+ghost use Rattle.kinds.specs.Kinds.{layoutOf, widthOf, rowsOf, findNumbered, kindIn, elementOf, elementValues};
 ghost use Rattle.kinds.specs.Glances.{Glanced};
 
 // The kinds of element that are carried.
@@ -57,9 +57,9 @@ pub enum Element {
 }
 
 // What a number stands for: a kind that is carried, or none.
-pub enum Sort {
-    Carried(Kind),
-    Other,
+pub enum OptionalKind {
+    Some(Kind),
+    None,
 }
 
 // What a glance at an element gives: its number, and whether each field is shown to have a listed value.
@@ -255,23 +255,23 @@ fn glance_by(s: &[u8], at: usize, kind: Kind, width: usize) -> Glance
 }
 
 // The kind whose layout has this number, if there is one.
-pub fn sort_numbered(number: u8) -> Sort
-    ensures { λ r. ⌜ r ≡ sortNumbered number ⌝ }
+pub fn find_numbered(number: u8) -> OptionalKind
+    ensures { λ r. ⌜ r ≡ findNumbered number ⌝ }
 {
     match number {
-        1 => return Sort::Carried(Kind::Signal),
-        2 => return Sort::Carried(Kind::ChangerSignal),
-        3 => return Sort::Carried(Kind::VirtualBoard),
-        4 => return Sort::Carried(Kind::LineTrackCircuit),
-        5 => return Sort::Carried(Kind::PointsTrackCircuit),
-        6 => return Sort::Carried(Kind::CrossingTrackCircuit),
-        7 => return Sort::Carried(Kind::DualDetection),
-        8 => return Sort::Carried(Kind::Points),
-        9 => return Sort::Carried(Kind::ElectricLock),
-        22 => return Sort::Carried(Kind::GeneralNotices),
-        23 => return Sort::Carried(Kind::ControlBoundary),
-        31 => return Sort::Carried(Kind::SignalV3),
-        _ => return Sort::Other,
+        1 => return OptionalKind::Some(Kind::Signal),
+        2 => return OptionalKind::Some(Kind::ChangerSignal),
+        3 => return OptionalKind::Some(Kind::VirtualBoard),
+        4 => return OptionalKind::Some(Kind::LineTrackCircuit),
+        5 => return OptionalKind::Some(Kind::PointsTrackCircuit),
+        6 => return OptionalKind::Some(Kind::CrossingTrackCircuit),
+        7 => return OptionalKind::Some(Kind::DualDetection),
+        8 => return OptionalKind::Some(Kind::Points),
+        9 => return OptionalKind::Some(Kind::ElectricLock),
+        22 => return OptionalKind::Some(Kind::GeneralNotices),
+        23 => return OptionalKind::Some(Kind::ControlBoundary),
+        31 => return OptionalKind::Some(Kind::SignalV3),
+        _ => return OptionalKind::None,
     }
 }
 

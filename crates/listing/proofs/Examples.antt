@@ -2,16 +2,11 @@
 -- under catalogue 3.0; input that is too short, and two faults.
 -- Assumes nothing.
 use Prim.Native.Nat.{ℕ}
-use mathlib.Core.Path.{_≡_, refl}
+use mathlib.Core.Path.{_≡_}
 use mathlib.Core.List.{List, [], _∷_, _++_}
 use lib.ListN.{take, set}
-use Rattle.octets.specs.Octets.{bytes}
-use Rattle.rows.specs.Table.{table, layouts}
-use Rattle.elements.specs.Elements.{carried, kindOf, datRule, elementCheck}
+use Rattle.history.proofs.Examples.{computed}
 use Rattle.history.specs.Verdict.{naming, refused, done}
-use Rattle.history.specs.Form.{isWhole, readForm}
-use Rattle.history.specs.Table.{versionGood, catalogueGood, labelLimit, labelGood, checkObject, readTable, planOf}
-use Rattle.history.specs.Image.{imageVersionGood, element, elementsFrom, readImage}
 use Rattle.history.proofs.Examples.{T, A, T3, A3}
 use Rattle.text.specs.Decimal.{decimalIn, decimal}
 use Rattle.text.specs.Hex.{hexDigit}
@@ -41,8 +36,8 @@ pub listings : (listingOf (T ++ A) ≡ lines)
     × (listingCall (T ++ A) ≡ done lines)
     × (listingCall (T ++ set A 13 9) ≡ refused (naming 10 1 3))
     × (listingCall (take 23 T) ≡ refused (naming 1 65535 255))
-unfolding bytes table layouts carried kindOf datRule elementCheck isWhole readForm versionGood catalogueGood labelLimit labelGood checkObject readTable planOf imageVersionGood element elementsFrom readImage decimalIn decimal hexDigit readBoth readPanel firstLine objectLine refusedLine listingCall printed listingOf
-listings = (refl, refl, refl, refl, refl, refl)
+unfolding computed decimalIn decimal hexDigit readBoth readPanel firstLine objectLine refusedLine listingCall printed listingOf
+listings = search
 
 -- "refused 1 65535 255" or "refused 3 65535 255", by the digit, with its newline
 abbrev unnamed : ℕ → List ℕ
@@ -56,5 +51,5 @@ pub short-listings : (listingOf (take 3 T) ≡ unnamed 0x31)
     × (listingOf T ≡ unnamed 0x31)
     × (listingOf (set T 6 1 ++ take 3 A) ≡ unnamed 0x33)
     × (listingOf (0 ∷ 0 ∷ 0 ∷ 5 ∷ 1 ∷ 1 ∷ 0 ∷ 0 ∷ 0 ∷ 0 ∷ 0 ∷ 0 ∷ 7 ∷ 1 ∷ 1 ∷ 0 ∷ 0 ∷ 0 ∷ 1 ∷ 0 ∷ []) ≡ 0x31 ∷ 0x2E ∷ 0x30 ∷ 0x20 ∷ 0x32 ∷ 0x35 ∷ 0x36 ∷ 0x20 ∷ 0x30 ∷ 0x0A ∷ [])
-unfolding bytes table layouts carried kindOf datRule elementCheck isWhole readForm versionGood catalogueGood labelLimit labelGood checkObject readTable planOf imageVersionGood element elementsFrom readImage decimalIn decimal hexDigit readBoth readPanel firstLine objectLine refusedLine listingCall printed listingOf
-short-listings = (refl, refl, refl, refl, refl)
+unfolding computed decimalIn decimal hexDigit readBoth readPanel firstLine objectLine refusedLine listingCall printed listingOf
+short-listings = search

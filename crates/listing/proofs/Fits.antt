@@ -14,7 +14,7 @@ use mir.Val.{Fits}
 use borrow.Author.Tests.{ltb-true, ltb-false}
 use Rattle.octets.specs.Octets.{bytes}
 use Rattle.octets.proofs.NumberLaws.{length-bytes}
-use Rattle.rows.specs.Table.{layouts}
+use Rattle.rows.specs.Rows.{layouts}
 use Rattle.kinds.specs.Kinds.{widthOf}
 use Rattle.kinds.specs.declared.Kind.{Kind}
 use Rattle.elements.specs.Elements.{carried, kindOf}

@@ -11,7 +11,7 @@ use borrow.Author.Tests.{le-leb, lt-leb, ltb-true, ltb-false, eqb-true, eqb-fals
 use lib.Arith.{lt-of-le-ne}
 use lib.Dec.{T, leb, ltb, eqb, leb→le, eqb→eq}
 use lib.ListN.{length, getD}
-use Rattle.rows.specs.Table.{Row, table, layout, layouts, layoutAt, rowTotal, numberAt, rowAt, rowsFrom}
+use Rattle.rows.specs.Rows.{Row, cells, layout, layouts, layoutAt, rowTotal, numberAt, rowAt, rowsFrom}
 use Rattle.rows.specs.Covering.{allFrom, tiles, layoutRows, layoutGood, covers, holding}
 use Rattle.rows.specs.declared.Layout.{Layout}
 use Rattle.rows.proofs.Tests.{both-left, both-right}
@@ -20,7 +20,7 @@ use Rattle.rows.proofs.Words.{Tiled, tiled}
 
 -- the test passes over all rows of the table
 pub covered : T (covers 0 layouts)
-unfolding table layouts
+unfolding cells layouts
 covered = tt
 
 at-place : (ls : List Layout) (at : ℕ) → T (covers at ls) → (i : ℕ) → i < length ls → T (layoutGood (getD ls i (layout 0 0 0 0 false)))

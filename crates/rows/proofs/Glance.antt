@@ -10,8 +10,8 @@ use borrow.Author.Tests.{eqb-true, leb-true, leb-false}
 use lib.Bits.{bitAnd, bitXor, and-shr, and-mod, and-mask, xor-shr, xor-add-and}
 use lib.Dec.{T, leb, eqb, eqb→eq}
 use lib.Pow.{pow-pos, pow-add, shl-shr, split, high, mod-pow-add}
-use Rattle.rows.specs.Table.{Row}
-use Rattle.rows.specs.Fields.{fieldOf, valuesOf}
+use Rattle.rows.specs.Rows.{Row}
+use Rattle.rows.specs.Values.{fieldOf, valuesOf}
 use Rattle.rows.specs.Marks.{full, marks, marked, carriesNone, Shows}
 use Rattle.rows.proofs.Tests.{both-left, both-right}
 use Rattle.rows.proofs.Words.{Within}

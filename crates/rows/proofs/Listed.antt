@@ -10,8 +10,8 @@ use borrow.Author.Tests.{le-leb, lt-leb, leb-true, leb-false, ne-eqb}
 use lib.Dec.{T, leb, eqb, eqb→eq}
 use lib.ListN.{length, getD, length-append, List·getD-eq-default}
 use lib.Seq.{getD-append-seam, append-snoc}
-use Rattle.rows.specs.Table.{Row}
-use Rattle.rows.specs.Fields.{codeAt, fieldOf, fieldRead, onField, checkRows, valuesOf, composeOf, bitNo}
+use Rattle.rows.specs.Rows.{Row}
+use Rattle.rows.specs.Values.{codeAt, fieldOf, fieldRead, onField, checkRows, valuesOf, composeOf, bitNo}
 use Rattle.rows.specs.declared.Field.{Field}
 use Rattle.rows.specs.declared.Finding.{Finding}
 use Rattle.rows.specs.declared.Refusal.{Refusal}

@@ -11,9 +11,8 @@ use lib.Dec.{leb, eqb}
 use lib.ListN.{length, getD, set, drop, replicate, length-append}
 use borrow.Author.Tests.{eq-eqb, ne-eqb}
 use lib.Seq.{set-append-seam, append-snoc, drop-cons}
-use Rattle.rows.specs.Table.{Row, rowTotal, rowAt, rowsFrom, numberAt}
-use Rattle.rows.specs.Fields.{fieldOf, fieldRead, onField, findingOf, checkRows, valuesOf, composeOf, filled, padded, onFinding, fieldsRead, refusedFields, bearing}
-use Rattle.rows.specs.declared.Fields.{Fields}
+use Rattle.rows.specs.Rows.{Row, rowTotal, rowAt, rowsFrom, numberAt}
+use Rattle.rows.specs.Values.{fieldOf, fieldRead, onField, findingOf, checkRows, valuesOf, composeOf, filled, padded, onFinding, valuesRead, bearing}
 use Rattle.rows.specs.declared.Refusal.{Refusal}
 use Rattle.rows.specs.declared.Field.{Field}
 use Rattle.rows.specs.declared.Finding.{Finding}
@@ -124,23 +123,25 @@ turn {w} {first} {count} {values} {k} r h small q {v} t =
           ∙ ap padded (sym (values-snoc w (rowsFrom first k) (rowAt (first + k))) ∙ ap (valuesOf w) (sym (rows-snoc k first)) ∙ ap (λ (j : ℕ). valuesOf w (rowsFrom first j)) (sym (add-one k)));
     }
 
--- the answer, given the finding
-answer : ℕ → List Row → Finding → Fields
-answer w rs v = record { finding = v; values = onFinding v (padded (valuesOf w rs)) (λ r. replicate 24 0) }
+-- the values by the finding
+chosen : ℕ → List Row → Finding → List ℕ
+chosen w rs v = onFinding v (padded (valuesOf w rs)) (λ r. replicate 24 0)
 
-pub refused : {w first count : ℕ} {values : List ℕ} {k : ℕ} → Reading w first count values k → k < count → {f : Field} → f ≡ fieldRead w (rowAt (first + k))
-    → {x : Refusal} → f ≡ Field.Refused x → refusedFields f ≡ fieldsRead w (rowsFrom first count)
-unfolding answer
-refused {w} {first} {count} {values} {k} r h q t = ap refusedFields t ∙ sym (ap (answer w (rowsFrom first count)) (next (r .checking) (rows-next first count k h) q t))
+pub refused : {w first count : ℕ} {values : List ℕ} {k : ℕ} → Reading w first count values k → k < count → {f : Field}
+    → f ≡ fieldRead w (rowAt (first + k)) → {x : Refusal} → f ≡ Field.Refused x → replicate 24 0 ≡ valuesRead w (rowsFrom first count)
+unfolding chosen
+refused {w} {first} {count} {values} {k} r h q t =
+    sym (ap (chosen w (rowsFrom first count)) (next (r .checking) (rows-next first count k h) q t))
 
 pub ends : {w first count : ℕ} {values : List ℕ} {k : ℕ} → Reading w first count values k → count ≤ k
-    → _≡_ {A = Fields} (record { finding = Finding.Accepted; values = values }) (fieldsRead w (rowsFrom first count))
-unfolding answer
+    → values ≡ valuesRead w (rowsFrom first count)
+unfolding chosen
 ends {w} {first} {count} {values} {k} r h =
     let e : k ≡ count = omega (arith, r .bound) in
     let z : count - k ≡ 0 = omega arith in
-    let p : values ≡ padded (valuesOf w (rowsFrom first count)) = r .so-far ∙ ap (λ (j : ℕ). padded (valuesOf w (rowsFrom first j))) e in
-    (λ i. record { finding = Finding.Accepted; values = p i }) ∙ ap (answer w (rowsFrom first count)) (checked (r .checking) (ap (rowsFrom (first + k)) z))
+    r .so-far
+    ∙ ap (λ (j : ℕ). padded (valuesOf w (rowsFrom first j))) e
+    ∙ ap (chosen w (rowsFrom first count)) (checked (r .checking) (ap (rowsFrom (first + k)) z))
 
 -- what the composing loop keeps: the sum so far and what is still to come make the whole
 pub record Composing (vs : List ℕ) (first count word k : ℕ) : Type 0 where

@@ -6,7 +6,7 @@ use Prim.Native.Nat.{ℕ, _+_, _*_, _%_, _^_, _<_, _≤_}
 use native.Mathlib.Nat.{one-mul, mod-eq-of-lt}
 use lib.Pow.{pow-lt}
 use lib.Dec.{T, leb, ltb, leb→le, ltb→lt}
-use Rattle.rows.specs.Table.{Row}
+use Rattle.rows.specs.Rows.{Row}
 use Rattle.rows.specs.Covering.{rowGood}
 use Rattle.rows.proofs.Tests.{both-left, both-right}
 

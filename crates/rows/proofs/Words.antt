@@ -10,8 +10,8 @@ use native.Mathlib.Nat.{add-mul, mul-assoc, mul-comm, mul-one, zero-mul, one-mul
 use native.Mathlib.Numerals.{add-one-le}
 use lib.Pow.{pow-pos, pow-add, shr-shr, split, high, low}
 use lib.Dec.{T, eqb, eqb→eq}
-use Rattle.rows.specs.Table.{Row}
-use Rattle.rows.specs.Fields.{valuesOf, composeOf}
+use Rattle.rows.specs.Rows.{Row}
+use Rattle.rows.specs.Values.{valuesOf, composeOf}
 use Rattle.rows.specs.Covering.{rowGood, tiles}
 use Rattle.rows.proofs.Tests.{both-left, both-right}
 use Rattle.rows.proofs.Rows.{Good, good}

@@ -4,7 +4,7 @@ use mathlib.Core.Bool.{Bool, true, cond, _&&_}
 use mathlib.Core.List.{List, [], _∷_}
 use Prim.Native.Nat.{ℕ, zero, suc, _+_, _*_, _^_}
 use lib.Dec.{leb, ltb, eqb}
-use Rattle.rows.specs.Table.{Row, rowsFrom, rowTotal, numberAt}
+use Rattle.rows.specs.Rows.{Row, rowsFrom, rowTotal, numberAt}
 use Rattle.rows.specs.declared.Layout.{Layout}
 
 -- a row's field is not empty, is within 32 bits, and can hold the values that it admits

@@ -1,4 +1,4 @@
-pub mod Table
-pub mod Fields
+pub mod Rows
+pub mod Values
 pub mod Covering
 pub mod Marks

@@ -7,8 +7,8 @@ use mathlib.Core.List.{List, [], _∷_}
 use Prim.Native.Nat.{ℕ, suc, _+_, _/_, _%_, _^_}
 use lib.Bits.{bitAnd, bitXor}
 use lib.Dec.{eqb}
-use Rattle.rows.specs.Table.{Row}
-use Rattle.rows.specs.Fields.{checkRows}
+use Rattle.rows.specs.Rows.{Row}
+use Rattle.rows.specs.Values.{checkRows}
 use Rattle.rows.specs.declared.Finding.{Finding}
 
 -- the row admits every value that its field can hold

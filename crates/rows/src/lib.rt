@@ -8,8 +8,8 @@ use catalogue::ROW_TOTAL;
 use catalogue::ROWS;
 ghost use mathlib.Core.Path.{_≡_};
 ghost use Prim.Native.Nat.{_<_, _≤_, _+_, _-_, _*_};
-ghost use Rattle.rows.specs.Table.{table, rowTotal, cellAt, rowAt, rowsFrom};
-ghost use Rattle.rows.specs.Fields.{fieldRead, findingOf, checkRows, fieldsRead, refusedFields, composeOf, bearing};
+ghost use Rattle.rows.specs.Rows.{cells, rowTotal, cellAt, rowAt, rowsFrom};
+ghost use Rattle.rows.specs.Values.{fieldRead, findingOf, checkRows, valuesRead, composeOf, bearing};
 ghost use Rattle.rows.specs.Marks.{carriesNone};
 
 // A layout: its number, where its rows are in the table, its width in bytes, and whether its bit 0 is DAT.
@@ -46,22 +46,16 @@ pub enum Finding {
     Refused(Refusal),
 }
 
-// What reading all fields of an element gives: the values in the rows' order if all are accepted, else zeros.
-pub struct Fields {
-    pub finding: Finding,
-    pub values: [u32; 24],
-}
-
 // The table. Whoever reads many rows takes it once, since a constant is copied wherever it is named.
-pub fn table() -> Cells
-    ensures { λ r. ⌜ r ≡ table ⌝ }
+pub fn cells() -> Cells
+    ensures { λ r. ⌜ r ≡ cells ⌝ }
 {
     ROWS
 }
 
 // The number at a place of the table.
 pub fn cell(rows: &Cells, place: usize) -> u8
-    requires { ⌜ (now rows ≡ table) × (place < 4 * rowTotal) ⌝ }
+    requires { ⌜ (now rows ≡ cells) × (place < 4 * rowTotal) ⌝ }
     ensures { λ r. ⌜ r ≡ cellAt place ⌝ }
 {
     rows[place]
@@ -69,7 +63,7 @@ pub fn cell(rows: &Cells, place: usize) -> u8
 
 // The field of an element's number that a row of the table describes.
 fn read_field(rows: &Cells, word: u32, row: usize) -> Field
-    requires { ⌜ (now rows ≡ table) × (row < rowTotal) ⌝ }
+    requires { ⌜ (now rows ≡ cells) × (row < rowTotal) ⌝ }
     ensures { λ r. ⌜ r ≡ fieldRead word (rowAt row) ⌝ }
 {
     let low = cell(rows, 4 * row + 1);
@@ -96,43 +90,30 @@ fn finding_of(field: Field) -> Finding
     }
 }
 
-// The answer for all fields when one is refused.
-fn refused_fields(field: Field) -> Fields
-    ensures { λ r. ⌜ r ≡ refusedFields field ⌝ }
-{
-    Fields {
-        finding: finding_of(field),
-        values: [0u32; 24],
-    }
-}
-
-// The fields of the rows first, first + 1, .. in an element's number, from bit 0 up, until one is refused.
-pub fn read_rows(word: u32, first: usize, count: usize) -> Fields
+// The values by the rows first, first + 1, .. of an element's number, in their order; zeros where a field is refused.
+pub fn read_rows(word: u32, first: usize, count: usize) -> [u32; 24]
     requires { ⌜ (first + count ≤ rowTotal) × (count ≤ 24) ⌝ }
-    ensures { λ r. ⌜ r ≡ fieldsRead word (rowsFrom first count) ⌝ }
+    ensures { λ r. ⌜ r ≡ valuesRead word (rowsFrom first count) ⌝ }
 {
-    let rows = table();
+    let rows = cells();
     let mut values = [0u32; 24];
     let mut k: usize = 0;
     while k < count {
         let field = read_field(&rows, word, first + k);
         let Field::Value(value) = field else {
-            return refused_fields(field);
+            return [0u32; 24];
         };
         values[k] = value;
         k += 1;
     }
-    Fields {
-        finding: Finding::Accepted,
-        values,
-    }
+    values
 }
 
 // What is found of an element's number by its layout: the rows from the first on, as long as they have the layout's number.
 pub fn check_rows(word: u32, number: u8, first: usize) -> Finding
     ensures { λ r. ⌜ r ≡ checkRows word (bearing number first (rowTotal - first)) ⌝ }
 {
-    let rows = table();
+    let rows = cells();
     let mut row = first;
     while row < ROW_TOTAL {
         if cell(&rows, 4 * row) != number {
@@ -163,7 +144,7 @@ pub fn compose_rows(values: [u32; 24], first: usize, count: usize) -> u32
     requires { ⌜ (first + count ≤ rowTotal) × (count ≤ 24) × (composeOf (rowsFrom first count) values < 4294967296) ⌝ }
     ensures { λ r. ⌜ r ≡ composeOf (rowsFrom first count) values ⌝ }
 {
-    let rows = table();
+    let rows = cells();
     let mut word: u32 = 0;
     let mut k: usize = 0;
     while k < count {

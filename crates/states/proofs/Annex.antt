@@ -8,9 +8,9 @@ use mathlib.Core.Bool.{Bool, false, cond}
 use mathlib.Core.List.{List, [], _∷_}
 use Prim.Native.Nat.{ℕ, suc, _-_, _/_, _%_, _^_}
 use lib.Dec.{eqb}
-use Rattle.rows.specs.Table.{table, layout, layouts}
+use Rattle.rows.specs.Rows.{cells, layout, layouts}
 use Rattle.rows.specs.Covering.{layoutRows}
-use Rattle.rows.specs.Fields.{valuesOf, padded}
+use Rattle.rows.specs.Values.{valuesOf, padded}
 use Rattle.rows.specs.declared.Layout.{Layout}
 use Rattle.cases.specs.Cases.{signalKindOf, signalAspectOf, mixedGaugeIndicationOf, autoRouteIndicationOf, changerAspectOf, boardAspectOf, sectionOccupancyOf, overlapOf, gaugePresenceOf, pointsSectionOccupancyOf, legOccupancyOf, legShownOf, pointsDetectionOf, pointsLockingOf, heaterIndicationOf, earthFaultIndicationOf, boundaryMovementOf, autoRouteOf, routerIndicationOf}
 use Rattle.cases.specs.declared.SignalKind.{SignalKind}
@@ -92,14 +92,14 @@ signalIn w = record {
 }
 
 pub signal-bits : (w : ℕ) → signalOf (values 1 w) ≡ signalIn w
-unfolding table layouts
+unfolding cells layouts
 signal-bits w = refl
 
 pub signal-words : (signalOf (values 1 0x00000003) .kind ≡ SignalKind.HighNoWhiteNoBlue)
     × (signalOf (values 1 0x000000A1) .aspect ≡ SignalAspect.GreenYellow)
     × (signalOf (values 1 0x03000001) .«mixed_gauge» ≡ MixedGaugeIndication.UicShuntSet)
     × (signalOf (values 1 0x20000001) .«auto_route_indication» ≡ AutoRouteIndication.GreenFlashing)
-unfolding table layouts
+unfolding cells layouts
 signal-words = (refl, refl, refl, refl)
 
 -- ---- TIPO 2: SEÑAL INDICADORA DE CAMBIADOR DE ANCHO (IC)
@@ -111,11 +111,11 @@ changerSignalIn w = record {
 }
 
 pub changer-signal-bits : (w : ℕ) → changerSignalOf (values 2 w) ≡ changerSignalIn w
-unfolding table layouts
+unfolding cells layouts
 changer-signal-bits w = refl
 
 pub changer-signal-words : changerSignalOf (values 2 0x05) .aspect ≡ ChangerAspect.FixedC
-unfolding table layouts
+unfolding cells layouts
 changer-signal-words = refl
 
 -- ---- TIPO 3: PANTALLA VIRTUAL (PV)
@@ -128,11 +128,11 @@ virtualBoardIn w = record {
 }
 
 pub virtual-board-bits : (w : ℕ) → virtualBoardOf (values 3 w) ≡ virtualBoardIn w
-unfolding table layouts
+unfolding cells layouts
 virtual-board-bits w = refl
 
 pub virtual-board-words : virtualBoardOf (values 3 0x03) .aspect ≡ BoardAspect.Blue
-unfolding table layouts
+unfolding cells layouts
 virtual-board-words = refl
 
 -- ---- TIPO 4: CIRCUITO DE VÍA LÍNEAL (CV)
@@ -152,13 +152,13 @@ lineTrackCircuitIn w = record {
 }
 
 pub line-track-circuit-bits : (w : ℕ) → lineTrackCircuitOf (values 4 w) ≡ lineTrackCircuitIn w
-unfolding table layouts
+unfolding cells layouts
 line-track-circuit-bits w = refl
 
 pub line-track-circuit-words : (lineTrackCircuitOf (values 4 0x0021) .occupancy ≡ SectionOccupancy.ClearShuntSet)
     × (lineTrackCircuitOf (values 4 0x0041) .overlap ≡ Overlap.MovementOverlap)
     × (lineTrackCircuitOf (values 4 0x0C01) .gauge ≡ GaugePresence.ConventionalTrain)
-unfolding table layouts
+unfolding cells layouts
 line-track-circuit-words = (refl, refl, refl)
 
 -- ---- TIPO 5: CIRCUITO DE VÍA DE AGUJAS (CVA)
@@ -176,12 +176,12 @@ pointsTrackCircuitIn w = record {
 }
 
 pub points-track-circuit-bits : (w : ℕ) → pointsTrackCircuitOf (values 5 w) ≡ pointsTrackCircuitIn w
-unfolding table layouts
+unfolding cells layouts
 points-track-circuit-bits w = refl
 
 pub points-track-circuit-words : (pointsTrackCircuitOf (values 5 0x0011) .occupancy ≡ PointsSectionOccupancy.Occupied)
     × (pointsTrackCircuitOf (values 5 0x0C01) .gauge ≡ GaugePresence.ConventionalTrain)
-unfolding table layouts
+unfolding cells layouts
 points-track-circuit-words = (refl, refl)
 
 -- ---- TIPO 6: CIRCUITO DE VÍA DE CRUZAMIENTO (CVX)
@@ -202,14 +202,14 @@ crossingTrackCircuitIn w = record {
 }
 
 pub crossing-track-circuit-bits : (w : ℕ) → crossingTrackCircuitOf (values 6 w) ≡ crossingTrackCircuitIn w
-unfolding table layouts
+unfolding cells layouts
 crossing-track-circuit-bits w = refl
 
 pub crossing-track-circuit-words : (crossingTrackCircuitOf (values 6 0x0011) .occupancy ≡ LegOccupancy.ClearMovementSet)
     × (crossingTrackCircuitOf (values 6 0x0041) .«leg_shown» ≡ LegShown.NormalOnly)
     × (crossingTrackCircuitOf (values 6 0x0101) .«overlap_normal» ≡ Overlap.MovementOverlap)
     × (crossingTrackCircuitOf (values 6 0x0401) .«overlap_reverse» ≡ Overlap.MovementOverlap)
-unfolding table layouts
+unfolding cells layouts
 crossing-track-circuit-words = (refl, refl, refl, refl)
 
 -- ---- TIPO 7: SISTEMA DE DOBLE DETECCIÓN DE TREN (SDT)
@@ -225,7 +225,7 @@ dualDetectionIn w = record {
 }
 
 pub dual-detection-bits : (w : ℕ) → dualDetectionOf (values 7 w) ≡ dualDetectionIn w
-unfolding table layouts
+unfolding cells layouts
 dual-detection-bits w = refl
 
 -- ---- TIPO 8: AGUJA (AG)
@@ -247,7 +247,7 @@ pointsIn w = record {
 }
 
 pub points-bits : (w : ℕ) → pointsOf (values 8 w) ≡ pointsIn w
-unfolding table layouts
+unfolding cells layouts
 points-bits w = refl
 
 pub points-words : (pointsOf (values 8 0x000021) .occupancy ≡ LegOccupancy.ClearShuntSet)
@@ -256,7 +256,7 @@ pub points-words : (pointsOf (values 8 0x000021) .occupancy ≡ LegOccupancy.Cle
     × (pointsOf (values 8 0x000401) .«overlap_reverse» ≡ Overlap.MovementOverlap)
     × (pointsOf (values 8 0x003001) .detection ≡ PointsDetection.DetectedNormal)
     × (pointsOf (values 8 0x020001) .locking ≡ PointsLocking.MovementRequired)
-unfolding table layouts
+unfolding cells layouts
 points-words = (refl, refl, refl, refl, refl, refl)
 
 -- ---- TIPO 9: CERRADURA ELÉCTRICA/BOURÉ (BOU)
@@ -270,7 +270,7 @@ electricLockIn w = record {
 }
 
 pub electric-lock-bits : (w : ℕ) → electricLockOf (values 9 w) ≡ electricLockIn w
-unfolding table layouts
+unfolding cells layouts
 electric-lock-bits w = refl
 
 -- ---- TIPO 22: AVISOS GENERALES SIN RECONOCIMIENTO DE ALARMAS (AVG)
@@ -287,12 +287,12 @@ generalNoticesIn w = record {
 }
 
 pub general-notices-bits : (w : ℕ) → generalNoticesOf (values 22 w) ≡ generalNoticesIn w
-unfolding table layouts
+unfolding cells layouts
 general-notices-bits w = refl
 
 pub general-notices-words : (generalNoticesOf (values 22 0x0020) .heaters ≡ HeaterIndication.Green)
     × (generalNoticesOf (values 22 0x0080) .«earth_fault» ≡ EarthFaultIndication.EarthFault)
-unfolding table layouts
+unfolding cells layouts
 general-notices-words = (refl, refl)
 
 -- ---- TIPO 23: FRONTERA (FRA)
@@ -310,12 +310,12 @@ controlBoundaryIn w = record {
 }
 
 pub control-boundary-bits : (w : ℕ) → controlBoundaryOf (values 23 w) ≡ controlBoundaryIn w
-unfolding table layouts
+unfolding cells layouts
 control-boundary-bits w = refl
 
 pub control-boundary-words : (controlBoundaryOf (values 23 0x000D) .«entry_movement» ≡ BoundaryMovement.OverrideSignalPending)
     × (controlBoundaryOf (values 23 0x0101) .«exit_movement» ≡ BoundaryMovement.OverrideSignalOpen)
-unfolding table layouts
+unfolding cells layouts
 control-boundary-words = (refl, refl)
 
 -- ---- catalogue 3.0, TIPO 1: SEÑAL LUMINOSA (SIG)
@@ -349,7 +349,7 @@ signalV3In w = record {
 }
 
 pub signal-v3-bits : (w : ℕ) → signalV3Of (values 31 w) ≡ signalV3In w
-unfolding table layouts
+unfolding cells layouts
 signal-v3-bits w = refl
 
 pub signal-v3-words : (signalV3Of (values 31 0x00000003) .kind ≡ SignalKind.HighNoWhiteNoBlue)
@@ -357,5 +357,5 @@ pub signal-v3-words : (signalV3Of (values 31 0x00000003) .kind ≡ SignalKind.Hi
     × (signalV3Of (values 31 0x03000001) .«mixed_gauge» ≡ MixedGaugeIndication.UicShuntSet)
     × (signalV3Of (values 31 0x20000001) .«auto_route» ≡ AutoRoute.GreenFlashing)
     × (signalV3Of (values 31 0x40000001) .router ≡ RouterIndication.ManualBlock)
-unfolding table layouts
+unfolding cells layouts
 signal-v3-words = (refl, refl, refl, refl, refl)

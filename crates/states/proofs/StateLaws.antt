@@ -4,8 +4,8 @@ use mathlib.Core.Path.{_≡_}
 use mathlib.Core.List.{List, [], _∷_}
 use Prim.Native.Nat.{ℕ}
 use lib.ListN.{getD}
-use Rattle.rows.specs.Table.{table, rowsFrom}
-use Rattle.rows.specs.Fields.{padded}
+use Rattle.rows.specs.Rows.{cells, rowsFrom}
+use Rattle.rows.specs.Values.{padded}
 use Rattle.rows.proofs.Listed.{listedFrom, bit-listed, bit-back, reserved-listed}
 use Rattle.cases.proofs.CaseLaws.{signalKind-listed, signalKind-back, signalAspect-listed, signalAspect-back, mixedGaugeIndication-listed, mixedGaugeIndication-back, autoRouteIndication-listed, autoRouteIndication-back, changerAspect-listed, changerAspect-back, boardAspect-listed, boardAspect-back, sectionOccupancy-listed, sectionOccupancy-back, overlap-listed, overlap-back, gaugePresence-listed, gaugePresence-back, pointsSectionOccupancy-listed, pointsSectionOccupancy-back, legOccupancy-listed, legOccupancy-back, legShown-listed, legShown-back, pointsDetection-listed, pointsDetection-back, pointsLocking-listed, pointsLocking-back, heaterIndication-listed, heaterIndication-back, earthFaultIndication-listed, earthFaultIndication-back, boundaryMovement-listed, boundaryMovement-back, autoRoute-listed, autoRoute-back, routerIndication-listed, routerIndication-back}
 use Rattle.states.specs.States.{signalOf, signalValues, changerSignalOf, changerSignalValues, virtualBoardOf, virtualBoardValues, lineTrackCircuitOf, lineTrackCircuitValues, pointsTrackCircuitOf, pointsTrackCircuitValues, crossingTrackCircuitOf, crossingTrackCircuitValues, dualDetectionOf, dualDetectionValues, pointsOf, pointsValues, electricLockOf, electricLockValues, generalNoticesOf, generalNoticesValues, controlBoundaryOf, controlBoundaryValues, signalV3Of, signalV3Values}
@@ -23,7 +23,7 @@ use Rattle.states.specs.declared.control_boundary.ControlBoundary.{Contr
 use Rattle.states.specs.declared.signal_v3.SignalV3.{SignalV3}
 
 pub signal-listed : (vs : List ℕ) → signalValues (signalOf vs) ≡ listedFrom 0 (rowsFrom 0 24) vs
-unfolding table
+unfolding cells
 signal-listed vs =
     λ i.
     bit-listed (getD vs 0 0) i ∷
@@ -80,7 +80,7 @@ signal-back s = λ i. record {
 }
 
 pub changerSignal-listed : (vs : List ℕ) → changerSignalValues (changerSignalOf vs) ≡ listedFrom 0 (rowsFrom 24 3) vs
-unfolding table
+unfolding cells
 changerSignal-listed vs =
     λ i.
     bit-listed (getD vs 0 0) i ∷
@@ -95,7 +95,7 @@ changerSignal-back s = λ i. record {
 }
 
 pub virtualBoard-listed : (vs : List ℕ) → virtualBoardValues (virtualBoardOf vs) ≡ listedFrom 0 (rowsFrom 27 4) vs
-unfolding table
+unfolding cells
 virtualBoard-listed vs =
     λ i.
     bit-listed (getD vs 0 0) i ∷
@@ -112,7 +112,7 @@ virtualBoard-back s = λ i. record {
 }
 
 pub lineTrackCircuit-listed : (vs : List ℕ) → lineTrackCircuitValues (lineTrackCircuitOf vs) ≡ listedFrom 0 (rowsFrom 31 11) vs
-unfolding table
+unfolding cells
 lineTrackCircuit-listed vs =
     λ i.
     bit-listed (getD vs 0 0) i ∷
@@ -143,7 +143,7 @@ lineTrackCircuit-back s = λ i. record {
 }
 
 pub pointsTrackCircuit-listed : (vs : List ℕ) → pointsTrackCircuitValues (pointsTrackCircuitOf vs) ≡ listedFrom 0 (rowsFrom 42 11) vs
-unfolding table
+unfolding cells
 pointsTrackCircuit-listed vs =
     λ i.
     bit-listed (getD vs 0 0) i ∷
@@ -172,7 +172,7 @@ pointsTrackCircuit-back s = λ i. record {
 }
 
 pub crossingTrackCircuit-listed : (vs : List ℕ) → crossingTrackCircuitValues (crossingTrackCircuitOf vs) ≡ listedFrom 0 (rowsFrom 53 12) vs
-unfolding table
+unfolding cells
 crossingTrackCircuit-listed vs =
     λ i.
     bit-listed (getD vs 0 0) i ∷
@@ -205,7 +205,7 @@ crossingTrackCircuit-back s = λ i. record {
 }
 
 pub dualDetection-listed : (vs : List ℕ) → dualDetectionValues (dualDetectionOf vs) ≡ listedFrom 0 (rowsFrom 65 7) vs
-unfolding table
+unfolding cells
 dualDetection-listed vs =
     λ i.
     bit-listed (getD vs 0 0) i ∷
@@ -228,7 +228,7 @@ dualDetection-back s = λ i. record {
 }
 
 pub points-listed : (vs : List ℕ) → pointsValues (pointsOf vs) ≡ listedFrom 0 (rowsFrom 72 13) vs
-unfolding table
+unfolding cells
 points-listed vs =
     λ i.
     bit-listed (getD vs 0 0) i ∷
@@ -263,7 +263,7 @@ points-back s = λ i. record {
 }
 
 pub electricLock-listed : (vs : List ℕ) → electricLockValues (electricLockOf vs) ≡ listedFrom 0 (rowsFrom 85 5) vs
-unfolding table
+unfolding cells
 electricLock-listed vs =
     λ i.
     bit-listed (getD vs 0 0) i ∷
@@ -282,7 +282,7 @@ electricLock-back s = λ i. record {
 }
 
 pub generalNotices-listed : (vs : List ℕ) → generalNoticesValues (generalNoticesOf vs) ≡ listedFrom 0 (rowsFrom 90 8) vs
-unfolding table
+unfolding cells
 generalNotices-listed vs =
     λ i.
     bit-listed (getD vs 0 0) i ∷
@@ -307,7 +307,7 @@ generalNotices-back s = λ i. record {
 }
 
 pub controlBoundary-listed : (vs : List ℕ) → controlBoundaryValues (controlBoundaryOf vs) ≡ listedFrom 0 (rowsFrom 98 9) vs
-unfolding table
+unfolding cells
 controlBoundary-listed vs =
     λ i.
     bit-listed (getD vs 0 0) i ∷
@@ -334,7 +334,7 @@ controlBoundary-back s = λ i. record {
 }
 
 pub signalV3-listed : (vs : List ℕ) → signalV3Values (signalV3Of vs) ≡ listedFrom 0 (rowsFrom 107 24) vs
-unfolding table
+unfolding cells
 signalV3-listed vs =
     λ i.
     bit-listed (getD vs 0 0) i ∷

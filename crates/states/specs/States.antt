@@ -4,7 +4,7 @@ use mathlib.Core.List.{List, [], _∷_}
 use Prim.Native.Nat.{ℕ}
 use lib.ListN.{getD}
 use lib.Dec.{eqb}
-use Rattle.rows.specs.Fields.{bitNo}
+use Rattle.rows.specs.Values.{bitNo}
 use Rattle.cases.specs.Cases.{signalKindOf, signalKindNo, signalAspectOf, signalAspectNo, mixedGaugeIndicationOf, mixedGaugeIndicationNo, autoRouteIndicationOf, autoRouteIndicationNo, changerAspectOf, changerAspectNo, boardAspectOf, boardAspectNo, sectionOccupancyOf, sectionOccupancyNo, overlapOf, overlapNo, gaugePresenceOf, gaugePresenceNo, pointsSectionOccupancyOf, pointsSectionOccupancyNo, legOccupancyOf, legOccupancyNo, legShownOf, legShownNo, pointsDetectionOf, pointsDetectionNo, pointsLockingOf, pointsLockingNo, heaterIndicationOf, heaterIndicationNo, earthFaultIndicationOf, earthFaultIndicationNo, boundaryMovementOf, boundaryMovementNo, autoRouteOf, autoRouteNo, routerIndicationOf, routerIndicationNo}
 use Rattle.states.specs.declared.Bits.{Bits}
 use Rattle.states.specs.declared.signal.Signal.{Signal}

@@ -4,7 +4,7 @@ use crate::value;
 use cases::ChangerAspect;
 ghost use mathlib.Core.Path.{_≡_};
 ghost use mathlib.Core.List.{[]};
-ghost use Rattle.rows.specs.Fields.{padded};
+ghost use Rattle.rows.specs.Values.{padded};
 ghost use Rattle.states.specs.States.{changerSignalOf, changerSignalValues};
 
 pub struct ChangerSignal {

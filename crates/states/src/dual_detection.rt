@@ -2,7 +2,7 @@
 use crate::bits_of;
 ghost use mathlib.Core.Path.{_≡_};
 ghost use mathlib.Core.List.{[]};
-ghost use Rattle.rows.specs.Fields.{padded};
+ghost use Rattle.rows.specs.Values.{padded};
 ghost use Rattle.states.specs.States.{dualDetectionOf, dualDetectionValues};
 
 pub struct DualDetection {

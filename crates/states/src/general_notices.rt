@@ -4,7 +4,7 @@ use crate::value;
 use cases::EarthFaultIndication;
 use cases::HeaterIndication;
 ghost use mathlib.Core.Path.{_≡_};
-ghost use Rattle.rows.specs.Fields.{padded};
+ghost use Rattle.rows.specs.Values.{padded};
 ghost use Rattle.states.specs.States.{generalNoticesOf, generalNoticesValues};
 
 pub struct GeneralNotices {

@@ -5,7 +5,7 @@ use cases::GaugePresence;
 use cases::PointsSectionOccupancy;
 ghost use mathlib.Core.Path.{_≡_};
 ghost use mathlib.Core.List.{[]};
-ghost use Rattle.rows.specs.Fields.{padded};
+ghost use Rattle.rows.specs.Values.{padded};
 ghost use Rattle.states.specs.States.{pointsTrackCircuitOf, pointsTrackCircuitValues};
 
 pub struct PointsTrackCircuit {

@@ -33,12 +33,12 @@ pub fn next(
     requires { ⌜ (near ≤ length (now first)) × (far ≤ length (now second)) × (object ≤ end) ⌝ }
     ensures { λ r. ⌜ Idle Walk.Join object r end (drop near (now (first .entry))) (drop far (now (second .entry))) ⌝ }
 {
-    let one = named(first, near, object, end);
-    named(second, far, object, one)
+    let one = first_named(first, near, object, end);
+    first_named(second, far, object, one)
 }
 
 // The object that the entries from a place on name first; the end, if that object is not between the given one and the end.
-pub fn named(entries: &[u8], at: usize, object: usize, end: usize) -> usize
+pub fn first_named(entries: &[u8], at: usize, object: usize, end: usize) -> usize
     requires { ⌜ (at ≤ length (now entries)) × (object ≤ end) ⌝ }
     ensures { λ r. ⌜ Silent object r end (drop at (now (entries .entry))) ⌝ }
 {
@@ -141,7 +141,7 @@ pub fn meet_at(
 }
 
 // Whether the join names the object: not if neither list does, nor if both do and the first's old is the second's new.
-pub fn joins_at(
+pub fn join_names(
     one: bool,
     other: bool,
     width: usize,
@@ -165,7 +165,7 @@ pub fn joins_at(
 }
 
 // The object's change in the join. In both lists: the first's old and the second's new, dropped if these are equal; in one: copied.
-pub fn joined_at(
+pub fn join_change(
     one: bool,
     other: bool,
     width: usize,

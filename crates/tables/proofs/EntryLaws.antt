@@ -101,7 +101,7 @@ good-entry b at k e =
       label = p₅ .0;
     }
 
--- ---- what the result of `check_entry` tells
+-- ---- what the result of `check_object` tells
 
 module _ (b : List ℕ) (at k : ℕ) {r : Found} (r-is : r ≡ found (hashAt b at) (checkObjectAt b at k)) where
   pub was-refused : {a : Answer} → r ≡ Found.Refused a → (x : Refused) × (checkObjectAt b at k ≡ refused x) × (a ≡ numbers x 0)
@@ -118,6 +118,6 @@ module _ (b : List ℕ) (at k : ℕ) {r : Found} (r-is : r ≡ found (hashAt b a
     found-few = omega (arith, was-found .2, hash-few b at)
 
 -- no label is longer than 48 bytes, so an entry takes at most 50, and the places of 1,024 fit the u16 of `starts`
-pub limit-few : (version : ℕ) → labelLimit version ≤ 48
+pub limit-48 : (version : ℕ) → labelLimit version ≤ 48
 unfolding labelLimit
-limit-few version = omega arith
+limit-48 version = omega arith

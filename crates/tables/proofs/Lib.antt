@@ -5,7 +5,7 @@ pub mod EntryLaws
 pub mod PlaceLaws
 pub mod RepeatLaws
 pub mod ChainLaws
-pub mod TurnLaws
+pub mod RoundLaws
 pub mod TableLaws
 pub mod PlanLaws
 pub mod LabelPlaceLaws

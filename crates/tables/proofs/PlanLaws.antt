@@ -7,7 +7,7 @@ use mathlib.Core.Path.{_≡_, refl, sym, ap, ap₂, _∙_}
 use mathlib.Core.List.{List, [], _∷_, _++_, map, map-append}
 use lib.ListN.{length, getD, take, set, replicate, length-append, length-map, length-replicate}
 use lib.Seq.{take-at}
-use Rattle.rows.specs.Fields.{filled}
+use Rattle.rows.specs.Values.{filled}
 use Rattle.rows.proofs.Loops.{fill-store}
 use Rattle.kinds.specs.Kinds.{layoutNo}
 use Rattle.kinds.specs.declared.Kind.{Kind}
@@ -21,7 +21,7 @@ use Rattle.heads.specs.Heads.{countIn, objectsPlace}
 use Rattle.heads.proofs.Places.{objects-place}
 use Rattle.tables.specs.Outlines.{kindsOf, layoutsIn, outlineOf, Outlined}
 use Rattle.tables.proofs.PlaceLaws.{objectOf, objectsBelow, length-below}
-use Rattle.tables.proofs.TableLaws.{Accepted, accepted, table-of, Stands, stands-first, stands-next}
+use Rattle.tables.proofs.TableLaws.{Accepted, accepted, table-of, CursorAt, cursor-first, cursor-next}
 
 -- ---- numbers and kinds
 
@@ -56,13 +56,13 @@ module _ (b : List ℕ) where
 pub record Filling (b : List ℕ) (count : ℕ) (kinds : List ℕ) (i at : ℕ) : Type 0 where
   pub long : 5 < length b
   pub few : count ≤ 1024
-  pub stands : Stands b count i at
+  pub cursor : CursorAt b count i at
   pub so-far : kinds ≡ filled 1024 (layoutsBelow b i)
 
 pub begin : (b : List ℕ) (count at : ℕ) → told (tableCall b) .code ≡ 0 → count ≡ countIn b → at ≡ objectsPlace → Filling b count (replicate 1024 0) 0 at
 begin b count at z e e′ =
     let a = accepted b (table-of b z .1) in
-    record { long = omega (arith, objects-place, a .long); few = omega (arith, a .few); stands = stands-first b count at z (omega arith) e′; so-far = refl }
+    record { long = omega (arith, objects-place, a .long); few = omega (arith, a .few); cursor = cursor-first b count at z (omega arith) e′; so-far = refl }
 
 pub turn : {b : List ℕ} {count : ℕ} {kinds : List ℕ} {i at : ℕ} → Filling b count kinds i at → i < count → (n : ℕ) → n ≡ layoutNo (kindOf (getD b 5 0) (getD b at 0))
     → (size : ℕ) → size ≡ 2 + getD b (at + 1) 0 → Filling b count (set kinds i n) (i + 1) (at + size)
@@ -71,11 +71,11 @@ turn {b} {count} {kinds} {i} {at} f h n e size e′ =
     record {
       long = f .long;
       few = f .few;
-      stands = stands-next (f .stands) h size e′;
+      cursor = cursor-next (f .cursor) h size e′;
       so-far =
           ap₂ (λ (ks : List ℕ) (k : ℕ). set ks k n) (f .so-far) (sym l)
           ∙ fill-store 1024 (layoutsBelow b i) n (omega (arith, f .few))
-          ∙ ap (λ (n : ℕ). filled 1024 (layoutsBelow b i ++ (n ∷ []))) (e ∙ ap (λ (p : ℕ). layoutNo (kindOf (getD b 5 0) (getD b p 0))) (f .stands .place))
+          ∙ ap (λ (n : ℕ). filled 1024 (layoutsBelow b i ++ (n ∷ []))) (e ∙ ap (λ (p : ℕ). layoutNo (kindOf (getD b 5 0) (getD b p 0))) (f .cursor .place))
           ∙ ap (filled 1024) (sym (layouts-next b i) ∙ ap (layoutsBelow b) (sym (add-one i)));
     }
 
@@ -88,7 +88,7 @@ pub all-filled : {b : List ℕ} {count : ℕ} {kinds : List ℕ} {i at : ℕ} �
     → kinds ≡ layoutsIn (tableCall b)
 all-filled {b} {count} {kinds} {i} {at} f h e z =
     let t = table-of b z in
-    let i-is : i ≡ countIn b = omega (arith, f .stands .bound) in
+    let i-is : i ≡ countIn b = omega (arith, f .cursor .bound) in
     f .so-far ∙ ap (λ (k : ℕ). filled 1024 (layoutsBelow b k)) i-is ∙ layouts-are b (accepted b (t .1)) ∙ ap layoutsIn (sym (t .1))
 
 -- ---- the outline

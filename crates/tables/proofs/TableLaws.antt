@@ -25,7 +25,7 @@ use Rattle.history.proofs.CodeLaws.{table-call-coded, zero-told}
 use Rattle.tables.proofs.AnswerLaws.{told-then}
 use Rattle.tables.proofs.EntryLaws.{GoodEntry, good-entry}
 use Rattle.tables.proofs.PlaceLaws.{objectsBelow, repeatsBelow, entriesCheck, length-below, place-next}
-use Rattle.tables.proofs.TurnLaws.{entries-are}
+use Rattle.tables.proofs.RoundLaws.{entries-are}
 
 module _ (b : List ℕ) where
   -- 1, 2, 3, 4, then the entries
@@ -136,20 +136,20 @@ pub entry-at : (b : List ℕ) → told (tableCall b) .code ≡ 0 → (k at : ℕ
 entry-at b z k at e l = rw e (accepted b (table-of b z .1) .each k l)
 
 -- a cursor on its way through the first n entries of an accepted table: at entry k, or after the last
-pub record Stands (b : List ℕ) (n k at : ℕ) : Type 0 where
+pub record CursorAt (b : List ℕ) (n k at : ℕ) : Type 0 where
   pub good : told (tableCall b) .code ≡ 0
   pub few : n ≤ countIn b
   pub bound : k ≤ n
   pub place : at ≡ placeOf b k
   pub inside : at ≤ length b
 
-pub stands-first : (b : List ℕ) (n at : ℕ) → told (tableCall b) .code ≡ 0 → n ≤ countIn b → at ≡ objectsPlace → Stands b n 0 at
+pub cursor-first : (b : List ℕ) (n at : ℕ) → told (tableCall b) .code ≡ 0 → n ≤ countIn b → at ≡ objectsPlace → CursorAt b n 0 at
 unfolding placeOf
-stands-first b n at z h e = record { good = z; few = h; bound = omega arith; place = e; inside = omega (arith, accepted b (table-of b z .1) .long) }
+cursor-first b n at z h e = record { good = z; few = h; bound = omega arith; place = e; inside = omega (arith, accepted b (table-of b z .1) .long) }
 
-module _ {b : List ℕ} {n k at : ℕ} (s : Stands b n k at) where
-  pub stands-last : n ≤ k → at ≡ placeOf b n
-  stands-last h = let e : k ≡ n = omega arith in s .place ∙ ap (placeOf b) e
+module _ {b : List ℕ} {n k at : ℕ} (s : CursorAt b n k at) where
+  pub cursor-last : n ≤ k → at ≡ placeOf b n
+  cursor-last h = let e : k ≡ n = omega arith in s .place ∙ ap (placeOf b) e
 
   module _ (h : k < n) where
     entry-there : GoodEntry b at
@@ -161,8 +161,8 @@ module _ {b : List ℕ} {n k at : ℕ} (s : Stands b n k at) where
     pub type-there : at < length b
     type-there = omega (arith, entry-there)
 
-    pub stands-next : (size : ℕ) → size ≡ 2 + getD b (at + 1) 0 → Stands b n (k + 1) (at + size)
-    stands-next size e = record { good = s .good; few = s .few; bound = omega arith; place = place-next b k at size (s .place) e; inside = omega (arith, entry-there) }
+    pub cursor-next : (size : ℕ) → size ≡ 2 + getD b (at + 1) 0 → CursorAt b n (k + 1) (at + size)
+    cursor-next size e = record { good = s .good; few = s .few; bound = omega arith; place = place-next b k at size (s .place) e; inside = omega (arith, entry-there) }
 
 -- what is known once a table's check gave code 0
 module _ (a : Answer) (b : List ℕ) (e : a ≡ told (tableCall b)) (z : a .code ≡ 0) where

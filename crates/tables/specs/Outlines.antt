@@ -3,7 +3,7 @@ use Prim.Native.Nat.{ℕ, _≤_}
 use mathlib.Core.Path.{_≡_}
 use mathlib.Core.List.{List, [], map}
 use lib.ListN.{length, take}
-use Rattle.rows.specs.Fields.{filled}
+use Rattle.rows.specs.Values.{filled}
 use Rattle.kinds.specs.Kinds.{layoutNo}
 use Rattle.kinds.specs.declared.Kind.{Kind}
 use Rattle.elements.specs.Elements.{kindNumbered}

@@ -32,7 +32,7 @@ pub fn check_table(table: &[u8]) -> Answer
     if !is_whole(table, 5) {
         return refused(1);
     }
-    if !is_version(table[4]) {
+    if !is_table_version(table[4]) {
         return refused(2);
     }
     if !is_catalogue(table[5], table[6]) {
@@ -42,7 +42,7 @@ pub fn check_table(table: &[u8]) -> Answer
     if MOST_OBJECTS < count {
         return refused(4);
     }
-    check_entries(table, count)
+    check_objects(table, count)
 }
 
 // For each entry its check, then 7; at the end 8 (bytes left over). Only earlier entries of the same hash can have the same type and label,
@@ -50,7 +50,7 @@ pub fn check_table(table: &[u8]) -> Answer
 // the last byte to the first, since the labels of a station begin alike.
 // `lasts` has for each hash its last entry, `links` for each entry the one before it of the same hash: each as its number plus one, 0 for
 // none. `starts` has for each entry where it begins.
-fn check_entries(table: &[u8], count: usize) -> Answer
+fn check_objects(table: &[u8], count: usize) -> Answer
     requires { ⌜ (objectsPlace ≤ length (now table)) × (count ≤ 1024) ⌝ }
     ensures { λ r. ⌜ r ≡ told (objectsIn (now (table .entry)) count) ⌝ }
 {
@@ -61,7 +61,7 @@ fn check_entries(table: &[u8], count: usize) -> Answer
     let mut at = objects_place();
     'entries: while k < count {
         let mut hash = 0;
-        match check_entry(table, at, k as u16) {
+        match check_object(table, at, k as u16) {
             Found::Refused(answer) => {
                 return answer;
             }
@@ -120,7 +120,7 @@ enum Found {
 }
 
 // An entry, except for repeats: 8 (two bytes missing), 5, 6 (length), 8 (label cut), 6 (bytes).
-fn check_entry(table: &[u8], at: usize, object: u16) -> Found
+fn check_object(table: &[u8], at: usize, object: u16) -> Found
     requires { ⌜ (objectsPlace ≤ length (now table)) × (at ≤ length (now table)) ⌝ }
     ensures { λ r. ⌜ r ≡ found (hashAt (now (table .entry)) at) (checkObjectAt (now (table .entry)) at object) ⌝ }
 {
@@ -146,7 +146,7 @@ fn check_entry(table: &[u8], at: usize, object: u16) -> Found
 }
 
 // The version byte of a table that can be read.
-fn is_version(version: u8) -> bool
+fn is_table_version(version: u8) -> bool
     ensures { λ r. ⌜ r ≡ versionGood version ⌝ }
 {
     version == 1

@@ -23,7 +23,7 @@ use Rattle.octets.proofs.Writing.{Filling, begin, along, keeps, write, ended, u
 use Rattle.tables.specs.Outlines.{kindsOf}
 use Rattle.forms.proofs.KindLaws.{kinds-next, kinds-end}
 use Rattle.steps.specs.Steps.{span, changeAt, Silent, renewed}
-use Rattle.steps.proofs.Leaves.{said-inside}
+use Rattle.steps.proofs.StepLaws.{said-inside}
 use Rattle.walks.specs.Walks.{unfit, renewal}
 use Rattle.walks.proofs.Runs.{pass}
 

@@ -23,7 +23,7 @@ use Rattle.history.proofs.ElementLaws.{admits-fits}
 use Rattle.history.proofs.ListLaws.{length-entries, entries-few}
 use Rattle.steps.specs.declared.Walk.{Walk}
 use Rattle.steps.specs.Steps.{span, entryBytes, names, changeAt, stepOf, renewed}
-use Rattle.steps.proofs.Leaves.{says-nothing, says-cut}
+use Rattle.steps.proofs.StepLaws.{says-nothing, says-cut}
 use Rattle.walks.specs.Walks.{walked, Measured, misfit, unfit, renewal}
 
 -- ---- one object's entry
@@ -161,16 +161,16 @@ module _ {C : Type 0} (code : ℕ) (value : C) where
       rw (x .change, y .change, x .rest, y .rest)
       (found-step (meets c d) i n _ _ (omega arith) (join-misfit (suc i) n (omega arith) s ps qs))
 
-  pub apply-misfit : {ks : List Kind} {c : List Change} {a : List ℕ} (i n : ℕ) → i + length ks ≡ n → n ≤ 65536 → Every lawful ks c → Every admits ks a
+  pub apply-unfit : {ks : List Kind} {c : List Change} {a : List ℕ} (i n : ℕ) → i + length ks ≡ n → n ≤ 65536 → Every lawful ks c → Every admits ks a
       → lowest code fits i c a value ≡ foundAt n (unfit i ks (entriesBytes i ks c) (wordsBytes ks a))
   unfolding unfit
-  apply-misfit i n e s nil nil = rw (le-leb n i (omega arith))
-  apply-misfit i n e s (and {a = k} {b = c} {xs = ks} p ps) (and {b = a} {ys = as′} q qs) =
+  apply-unfit i n e s nil nil = rw (le-leb n i (omega arith))
+  apply-unfit i n e s (and {a = k} {b = c} {xs = ks} p ps) (and {b = a} {ys = as′} q qs) =
       let x = found i k c (omega arith) p ps in
       let w : ℕ = widthOf k in
       let g : List ℕ = wordsBytes ks as′ in
       rw (x .change, x .rest, read-bytes w a g (admits-fits k a q), drop-bytes w a g)
-      (found-step (fits c a) i n _ _ (omega arith) (apply-misfit (suc i) n (omega arith) s ps qs))
+      (found-step (fits c a) i n _ _ (omega arith) (apply-unfit (suc i) n (omega arith) s ps qs))
 
 -- ---- the elements after the entries
 

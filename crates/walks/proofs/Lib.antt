@@ -1,5 +1,5 @@
 pub mod Application
 pub mod Bridges
 pub mod Runs
-pub mod Turns
+pub mod Rounds
 pub mod Lists

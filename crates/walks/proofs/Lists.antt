@@ -19,12 +19,12 @@ use Rattle.tables.specs.Outlines.{kindsOf}
 use Rattle.forms.proofs.KindLaws.{kinds-next}
 use Rattle.steps.specs.declared.Walk.{Walk}
 use Rattle.steps.specs.Steps.{span, entryBytes, names, countIf, sizeIf, saidIf, changeAt, isSwap, stepOf, Stepped, Silent, Idle}
-use Rattle.steps.proofs.Leaves.{difference-step, join-step, turn-step, differ-swap, names-inside, said-inside, idle-none, idle-turn}
-use Rattle.walks.specs.Walks.{walked, walkBytes, Elements, Asked, Surveyed}
-use Rattle.walks.proofs.Turns.{Sizing, sized-until, one-sized, Putting, put-fits, put-inside, put-long, one-put}
+use Rattle.steps.proofs.StepLaws.{difference-step, join-step, turn-step, differ-swap, names-inside, said-inside, idle-none, idle-turn}
+use Rattle.walks.specs.Walks.{walked, walkBytes, ElementsLong, Asked, Surveyed}
+use Rattle.walks.proofs.Rounds.{Sizing, sized-until, one-sized, Putting, put-fits, put-inside, put-long, one-put}
 
 -- a difference asks that both forms are an image's elements
-pub asked : {walk : Walk} {ns f s : List ℕ} → walk ≡ Walk.Difference → Asked walk ns f s → Elements ns f s
+pub asked : {walk : Walk} {ns f s : List ℕ} → walk ≡ Walk.Difference → Asked walk ns f s → ElementsLong ns f s
 asked {ns = ns} {f = f} {s = s} e a = subst (λ (walk : Walk). Asked walk ns f s) e a
 
 -- room and bytes, once it is known which walk it is
@@ -41,7 +41,7 @@ pub record Comparing (ns f s : List ℕ) (p i : ℕ) : Type 0 where
   pub old : p + widths (drop i (kindsOf ns)) ≡ length f
   pub new : p + widths (drop i (kindsOf ns)) ≡ length s
 
-pub none-compared : {ns f s : List ℕ} → Elements ns f s → Comparing ns f s 0 0
+pub none-compared : {ns f s : List ℕ} → ElementsLong ns f s → Comparing ns f s 0 0
 none-compared e = record { old = omega (arith, e .first); new = omega (arith, e .second) }
 
 module _ {ns f s : List ℕ} {p i : ℕ} (z : Comparing ns f s p i) (h : i < length ns) {w : ℕ} (ew : w ≡ widthOf (kindAt (kindsOf ns) i)) where

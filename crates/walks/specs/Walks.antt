@@ -26,13 +26,13 @@ abbrev pub walkBytes : Walk → ℕ → List Kind → List ℕ → List ℕ → 
 walkBytes walk i ks f s = entriesBytes i ks (walked walk i ks f s)
 
 -- f and s are as long as the objects' elements together, as those of an image are
-pub record Elements (ns f s : List ℕ) : Type 0 where
+pub record ElementsLong (ns f s : List ℕ) : Type 0 where
   pub first : length f ≡ widths (kindsOf ns)
   pub second : length s ≡ widths (kindsOf ns)
 
 -- what a walk asks of the two forms
 abbrev pub Asked : Walk → List ℕ → List ℕ → List ℕ → Type 0
-Asked Walk.Difference ns f s = Elements ns f s
+Asked Walk.Difference ns f s = ElementsLong ns f s
 Asked Walk.Join ns f s = Unit {0}
 Asked Walk.Turn ns f s = Unit {0}
 

@@ -8,7 +8,7 @@ ghost use mathlib.Core.List.{[]};
 ghost use lib.ListN.{length};
 ghost use Rattle.history.specs.Image.{widths};
 ghost use Rattle.tables.specs.Outlines.{kindsOf};
-ghost use Rattle.walks.specs.Walks.{walkBytes, Elements, Asked, Measured, Surveyed, unfit, renewal};
+ghost use Rattle.walks.specs.Walks.{walkBytes, ElementsLong, Asked, Measured, Surveyed, unfit, renewal};
 
 // How many entries a list has, and how many bytes they take.
 pub struct Size {
@@ -27,7 +27,7 @@ pub struct Survey {
 // The size of the list from the elements of one image to those of another.
 pub fn measure_difference(kinds: &[u8], old: &[u8], new: &[u8]) -> Size
     requires { ⌜ length (now kinds) ≤ 1024 ⌝ }
-    requires { ⌜ Elements (now kinds) (now old) (now new) ⌝ }
+    requires { ⌜ ElementsLong (now kinds) (now old) (now new) ⌝ }
     ensures { λ r. ⌜ Measured Walk.Difference (kindsOf (now (kinds .entry))) (now (old .entry)) (now (new .entry)) (r .count) (r .bytes) ⌝ }
 {
     let mut count: usize = 0;
@@ -67,7 +67,7 @@ pub fn measure_join(kinds: &[u8], first: &[u8], second: &[u8]) -> Survey
                 size: Size { count, bytes },
             };
         }
-        let kept = steps::joins_at(one, other, width, first, near, second, far);
+        let kept = steps::join_names(one, other, width, first, near, second, far);
         count += steps::count_if(kept);
         bytes += steps::size_if(kept, width);
         near += steps::size_if(one, width);
@@ -99,7 +99,7 @@ pub fn put_changes(part: &mut [u8], walk: Walk, kinds: &[u8], first: &[u8], seco
 // The entries from the elements of one image to those of another.
 fn put_difference(part: &mut [u8], kinds: &[u8], old: &[u8], new: &[u8])
     requires { ⌜ length (now kinds) ≤ 1024 ⌝ }
-    requires { ⌜ Elements (now kinds) (now old) (now new) ⌝ }
+    requires { ⌜ ElementsLong (now kinds) (now old) (now new) ⌝ }
     requires { ⌜ length (now part) ≡ length (walkBytes Walk.Difference 0 (kindsOf (now kinds)) (now old) (now new)) ⌝ }
     ensures { λ _. ⌜ now (part .exit) ≡ walkBytes Walk.Difference 0 (kindsOf (now (kinds .entry))) (now (old .entry)) (now (new .entry)) ⌝ }
 {
@@ -133,7 +133,7 @@ fn put_joined(part: &mut [u8], kinds: &[u8], first: &[u8], second: &[u8])
         let width = steps::width_at(kinds, i);
         let one = steps::names(first, near, i, width);
         let other = steps::names(second, far, i, width);
-        let change = steps::joined_at(one, other, width, first, near, second, far);
+        let change = steps::join_change(one, other, width, first, near, second, far);
         let end = at + steps::span(width, change);
         steps::put_change(&mut part[at..end], i as u32, width, change);
         at = end;
@@ -160,7 +160,7 @@ fn put_turned(part: &mut [u8], kinds: &[u8], entries: &[u8])
         steps::put_change(&mut part[at..end], i as u32, width, change);
         at = end;
         entry_at += steps::span(width, said);
-        i = steps::named(entries, entry_at, i + 1, kinds.len());
+        i = steps::first_named(entries, entry_at, i + 1, kinds.len());
     }
 }
 
@@ -184,7 +184,7 @@ pub fn find_unfit(kinds: &[u8], entries: &[u8], elements: &[u8]) -> usize
         }
         entry_at += steps::span(width, change);
         let after = i + 1;
-        i = steps::named(entries, entry_at, after, kinds.len());
+        i = steps::first_named(entries, entry_at, after, kinds.len());
         at = end + forms::widths_of(&kinds[after..i]);
     }
     i
@@ -206,7 +206,7 @@ pub fn renew(part: &mut [u8], kinds: &[u8], entries: &[u8])
         steps::put_new(&mut part[at..end], change);
         entry_at += steps::span(width, change);
         let after = i + 1;
-        i = steps::named(entries, entry_at, after, kinds.len());
+        i = steps::first_named(entries, entry_at, after, kinds.len());
         at = end + forms::widths_of(&kinds[after..i]);
     }
 }

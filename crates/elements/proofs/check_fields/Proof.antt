@@ -4,8 +4,8 @@ use mathlib.Core.Path.{_∙_, ap}
 use Prim.Native.Nat.{_-_}
 use borrow.Author.Needs.{needs}
 use Rattle.rows.specs.declared.Layout.{Layout}
-use Rattle.rows.specs.Table.{rowTotal}
-use Rattle.rows.specs.Fields.{checkRows, bearing}
+use Rattle.rows.specs.Rows.{rowTotal}
+use Rattle.rows.specs.Values.{checkRows, bearing}
 use Rattle.elements.proofs.Bearing.{bearing-rows}
 use Rattle.elements.proofs.check_fields.Statement.{statement}
 use Rattle.elements.proofs.check_fields.Tie as tie

@@ -4,9 +4,9 @@ use mathlib.Core.Path.{_∙_, ap}
 use borrow.Author.Needs.{needs}
 use Rattle.rows.specs.declared.Layout.{Layout}
 use Rattle.rows.specs.Covering.{layoutRows}
-use Rattle.rows.specs.Fields.{padded}
+use Rattle.rows.specs.Values.{padded}
 use Rattle.elements.proofs.Answers.{in-table}
-use Rattle.fields.specs.Fields.{spread}
+use Rattle.fields.specs.Plain.{spread}
 use Rattle.fields.proofs.values_in.Statement.{statement}
 use Rattle.fields.proofs.values_in.Tie as tie
 

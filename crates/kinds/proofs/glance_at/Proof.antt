@@ -2,7 +2,7 @@
 -- Written by catalogue/write.py. Assumes nothing.
 use mathlib.Core.Path.{sym, ap}
 use lib.Dec.{lit≤}
-use Rattle.rows.specs.Table.{layouts}
+use Rattle.rows.specs.Rows.{layouts}
 use Rattle.kinds.specs.Kinds.{widthOf}
 use Rattle.kinds.proofs.glance_at.Statement.{statement}
 use Rattle.kinds.proofs.glance_at.Tie as tie

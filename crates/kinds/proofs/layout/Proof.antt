@@ -1,7 +1,7 @@
 -- `kinds::layout` meets its contract, arm by arm.
 -- Written by catalogue/write.py. Assumes nothing.
 use mathlib.Core.Path.{sym, ap}
-use Rattle.rows.specs.Table.{layouts}
+use Rattle.rows.specs.Rows.{layouts}
 use Rattle.kinds.specs.Kinds.{layoutOf}
 use Rattle.kinds.proofs.layout.Statement.{statement}
 use Rattle.kinds.proofs.layout.Tie as tie

@@ -1,7 +1,7 @@
 -- `kinds::values_of` meets its contract: each kind by what its own function ensures.
 -- Written by catalogue/write.py. Assumes nothing.
 use mathlib.Core.Path.{_∙_, sym, ap}
-use Rattle.rows.specs.Fields.{padded}
+use Rattle.rows.specs.Values.{padded}
 use Rattle.kinds.specs.Kinds.{elementValues}
 use Rattle.kinds.specs.declared.Element.{Element}
 use Rattle.kinds.proofs.values_of.Statement.{statement}

@@ -4,8 +4,8 @@ use borrow.Author.Needs.{needs}
 use Prim.Native.Nat.{_-_}
 use mathlib.Core.Path.{_∙_, refl}
 use native.Mathlib.Omega.{arith}
-use Rattle.rows.specs.Table.{rowTotal}
-use Rattle.rows.specs.Fields.{bearing}
+use Rattle.rows.specs.Rows.{rowTotal}
+use Rattle.rows.specs.Values.{bearing}
 use Rattle.rows.proofs.Loops.{Checking, goes-on, stops, checked, bears-next, bears-none, bears-end}
 use Rattle.rows.proofs.check_rows.Statement.{statement}
 use Rattle.rows.proofs.check_rows.Tie as tie

@@ -1,7 +1,7 @@
 -- `rows::finding_of` meets its contract, arm by arm.
 -- Assumes nothing.
 use mathlib.Core.Path.{sym, ap}
-use Rattle.rows.specs.Fields.{findingOf}
+use Rattle.rows.specs.Values.{findingOf}
 use borrow.Author.Needs.{needs}
 use Rattle.rows.proofs.finding_of.Statement.{statement}
 use Rattle.rows.proofs.finding_of.Tie as tie

@@ -5,8 +5,8 @@ use borrow.Author.Tests.{le-leb, lt-leb, eq-eqb, ne-eqb}
 use mathlib.Core.Path.{_≡_, _∙_, sym}
 use Prim.Native.Nat.{ℕ, _*_, _/_, _%_, _^_, _<_, _≤_}
 use lib.Pow.{pow-pos}
-use Rattle.rows.specs.Table.{rowAt, rowTotal}
-use Rattle.rows.specs.Fields.{codeAt, fieldOf, fieldRead}
+use Rattle.rows.specs.Rows.{rowAt, rowTotal}
+use Rattle.rows.specs.Values.{codeAt, fieldOf, fieldRead}
 use Rattle.rows.specs.declared.Field.{Field}
 use Rattle.rows.proofs.Rows.{one-shl}
 use Rattle.rows.proofs.Covering.{low-small, width-small}

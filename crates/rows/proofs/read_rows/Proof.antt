@@ -2,7 +2,6 @@
 -- Assumes nothing.
 use borrow.Author.Needs.{needs}
 use Prim.Native.Nat.{_-_}
-use mathlib.Core.Path.{_∙_}
 use native.Mathlib.Omega.{arith}
 use Rattle.rows.proofs.Loops.{Reading, starts, turn, refused, ends}
 use Rattle.rows.proofs.read_rows.Statement.{statement}
@@ -15,7 +14,7 @@ abbrev μ-loop : tie.MeasureT-loop
 μ-loop word first count rows values₀ k₀ values k = count - k
 
 returns : tie.Need-returns Inv-loop μ-loop
-returns c = c .refused-fields .ensures ∙ search refused
+returns c = search refused
 
 loop-again : tie.Need-loop-again Inv-loop μ-loop
 loop-again c = search turn
@@ -35,7 +34,6 @@ read-rows-spec =
     (λ c κs. (search, omega arith))
     (λ c. search needs)
     (λ c. search needs)
-    (λ c κs. search needs)
     returns
     (λ c. omega arith)
     (λ c. omega arith)

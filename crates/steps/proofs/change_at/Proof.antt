@@ -1,7 +1,7 @@
 -- `steps::change_at` meets its contract: what the entry at the place says, if it names the object.
 -- Assumes nothing.
 use borrow.Author.Needs.{needs}
-use Rattle.steps.proofs.Leaves.{names-inside, said-at}
+use Rattle.steps.proofs.StepLaws.{names-inside, said-at}
 use Rattle.steps.proofs.change_at.Statement.{statement}
 use Rattle.steps.proofs.change_at.Tie as tie
 

@@ -2,7 +2,7 @@
 -- Assumes nothing.
 use borrow.Author.Needs.{needs}
 use borrow.Author.Tests.{not-true, not-false}
-use Rattle.steps.proofs.Leaves.{count-keep, count-whole}
+use Rattle.steps.proofs.StepLaws.{count-keep, count-whole}
 use Rattle.steps.proofs.count_if.Statement.{statement}
 use Rattle.steps.proofs.count_if.Tie as tie
 

@@ -2,7 +2,7 @@
 -- Assumes nothing.
 use borrow.Author.Needs.{needs}
 use borrow.Author.Tests.{not-true, not-false}
-use Rattle.steps.proofs.Leaves.{old-there, new-there, second-meets, first-meets, both-meet}
+use Rattle.steps.proofs.StepLaws.{old-there, new-there, second-meets, first-meets, both-meet}
 use Rattle.steps.proofs.meet_at.Statement.{statement}
 use Rattle.steps.proofs.meet_at.Tie as tie
 

@@ -1,7 +1,7 @@
 -- `steps::names` meets its contract: an entry that is cut off names no object.
 -- Assumes nothing.
 use borrow.Author.Needs.{needs}
-use Rattle.steps.proofs.Leaves.{names-cut, names-whole}
+use Rattle.steps.proofs.StepLaws.{names-cut, names-whole}
 use Rattle.steps.proofs.names.Statement.{statement}
 use Rattle.steps.proofs.names.Tie as tie
 

@@ -1,7 +1,7 @@
 -- `steps::next` meets its contract: only objects that neither list names are passed.
 -- Assumes nothing.
 use borrow.Author.Needs.{needs}
-use Rattle.steps.proofs.Leaves.{idle-join}
+use Rattle.steps.proofs.StepLaws.{idle-join}
 use Rattle.steps.proofs.next.Statement.{statement}
 use Rattle.steps.proofs.next.Tie as tie
 

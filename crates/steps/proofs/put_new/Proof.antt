@@ -1,7 +1,7 @@
 -- `steps::put_new` meets its contract: the new element takes the old one's place.
 -- Assumes nothing.
 use borrow.Author.Needs.{needs}
-use Rattle.steps.proofs.Leaves.{renewed-put}
+use Rattle.steps.proofs.StepLaws.{renewed-put}
 use Rattle.steps.proofs.put_new.Statement.{statement}
 use Rattle.steps.proofs.put_new.Tie as tie
 

@@ -2,7 +2,7 @@
 -- Assumes nothing.
 use borrow.Author.Needs.{needs}
 use borrow.Author.Tests.{not-true, not-false}
-use Rattle.steps.proofs.Leaves.{old-there, new-there, said-keep, said-swap}
+use Rattle.steps.proofs.StepLaws.{old-there, new-there, said-keep, said-swap}
 use Rattle.steps.proofs.said_if.Statement.{statement}
 use Rattle.steps.proofs.said_if.Tie as tie
 

@@ -2,7 +2,7 @@
 -- Assumes nothing.
 use borrow.Author.Needs.{needs}
 use borrow.Author.Tests.{not-true, not-false}
-use Rattle.steps.proofs.Leaves.{size-keep, size-whole}
+use Rattle.steps.proofs.StepLaws.{size-keep, size-whole}
 use Rattle.steps.proofs.size_if.Statement.{statement}
 use Rattle.steps.proofs.size_if.Tie as tie
 

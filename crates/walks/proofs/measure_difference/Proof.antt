@@ -4,7 +4,7 @@ use Prim.Native.Nat.{_-_}
 use lib.ListN.{length}
 use borrow.Author.Needs.{needs}
 use Rattle.steps.specs.declared.Walk.{Walk}
-use Rattle.walks.proofs.Turns.{Sizing, none-sized, all-measured}
+use Rattle.walks.proofs.Rounds.{Sizing, none-sized, all-measured}
 use Rattle.walks.proofs.Lists.{Comparing, none-compared, old-inside, new-inside, place-fits, one-compared, difference-sized}
 use Rattle.walks.proofs.measure_difference.Statement.{statement}
 use Rattle.walks.proofs.measure_difference.Tie as tie

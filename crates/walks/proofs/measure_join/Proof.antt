@@ -6,8 +6,8 @@ use lib.ListN.{length}
 use borrow.Author.Needs.{needs}
 use borrow.Author.Tests.{not-true, not-false}
 use Rattle.steps.specs.declared.Walk.{Walk}
-use Rattle.steps.proofs.Leaves.{names-inside}
-use Rattle.walks.proofs.Turns.{Sizing, none-sized, all-sized}
+use Rattle.steps.proofs.StepLaws.{names-inside}
+use Rattle.walks.proofs.Rounds.{Sizing, none-sized, all-sized}
 use Rattle.walks.proofs.Lists.{cursor-inside, cursor-fits, join-until, join-sized}
 use Rattle.walks.proofs.measure_join.Statement.{statement}
 use Rattle.walks.proofs.measure_join.Tie as tie
@@ -41,7 +41,7 @@ loop-again c =
     let wide = one .before in
     let turn = wide .before in
     join-sized (turn .loop-test .taken) (wide .width-at .ensures .0) (one .names .ensures) (other .names2 .ensures) (turn .before .loop .inv) (met .meet-at .ensures) (not-false _ (agreed .if1 .left))
-    (kept .joins-at .ensures) (counted .count-if .ensures) (sized .size-if .ensures) (near .size-if2 .ensures) (far .size-if3 .ensures) (c .next .ensures)
+    (kept .join-names .ensures) (counted .count-if .ensures) (sized .size-if .ensures) (near .size-if2 .ensures) (far .size-if3 .ensures) (c .next .ensures)
 
 add-near : tie.Need-add-near Inv-loop μ-loop
 add-near c =

@@ -4,7 +4,7 @@ use Prim.Native.Nat.{_-_}
 use lib.ListN.{length}
 use borrow.Author.Needs.{needs}
 use Rattle.steps.specs.declared.Walk.{Walk}
-use Rattle.walks.proofs.Turns.{Putting, none-put, put-keeps, all-put}
+use Rattle.walks.proofs.Rounds.{Putting, none-put, put-keeps, all-put}
 use Rattle.walks.proofs.Lists.{Comparing, none-compared, old-inside, new-inside, place-fits, one-compared, difference-fits, difference-inside, difference-long, difference-put}
 use Rattle.walks.proofs.put_difference.Statement.{statement}
 use Rattle.walks.proofs.put_difference.Tie as tie

@@ -5,8 +5,8 @@ use native.Mathlib.Omega.{arith}
 use lib.ListN.{length}
 use borrow.Author.Needs.{needs}
 use Rattle.steps.specs.declared.Walk.{Walk}
-use Rattle.steps.proofs.Leaves.{names-inside}
-use Rattle.walks.proofs.Turns.{Putting, none-put, put-keeps, all-put}
+use Rattle.steps.proofs.StepLaws.{names-inside}
+use Rattle.walks.proofs.Rounds.{Putting, none-put, put-keeps, all-put}
 use Rattle.walks.proofs.Lists.{cursor-inside, cursor-fits, join-fits, join-inside, join-long, join-put}
 use Rattle.walks.proofs.put_joined.Statement.{statement}
 use Rattle.walks.proofs.put_joined.Tie as tie
@@ -24,7 +24,7 @@ add-end c =
     let one = other .before in
     let wide = one .before in
     let turn = wide .before in
-    record { fits = join-fits (turn .loop-test .taken) (wide .width-at .ensures .0) (one .names .ensures) (other .names2 .ensures) (turn .before .loop .inv) (made .joined-at .ensures) (c .span .ensures .0) (omega (arith, turn)) }
+    record { fits = join-fits (turn .loop-test .taken) (wide .width-at .ensures .0) (one .names .ensures) (other .names2 .ensures) (turn .before .loop .inv) (made .join-change .ensures) (c .span .ensures .0) (omega (arith, turn)) }
 
 put-change-end : tie.Need-part-put-change-end Inv-loop μ-loop
 put-change-end c =
@@ -33,7 +33,7 @@ put-change-end c =
     let one = other .before in
     let wide = one .before in
     let turn = wide .before in
-    join-inside (turn .loop-test .taken) (wide .width-at .ensures .0) (one .names .ensures) (other .names2 .ensures) (turn .before .loop .inv) (made .joined-at .ensures) (c .span .ensures .0)
+    join-inside (turn .loop-test .taken) (wide .width-at .ensures .0) (one .names .ensures) (other .names2 .ensures) (turn .before .loop .inv) (made .join-change .ensures) (c .span .ensures .0)
 
 put-change-requires : tie.Need-put-change-requires Inv-loop μ-loop
 put-change-requires c κs =
@@ -43,7 +43,7 @@ put-change-requires c κs =
     let one = other .before in
     let wide = one .before in
     let turn = wide .before in
-    (join-long (turn .loop-test .taken) (wide .width-at .ensures .0) (one .names .ensures) (other .names2 .ensures) (turn .before .loop .inv) (made .joined-at .ensures) (spanned .span .ensures .0), wide .width-at .ensures .1)
+    (join-long (turn .loop-test .taken) (wide .width-at .ensures .0) (one .names .ensures) (other .names2 .ensures) (turn .before .loop .inv) (made .join-change .ensures) (spanned .span .ensures .0), wide .width-at .ensures .1)
 
 loop-again : tie.Need-loop-again Inv-loop μ-loop
 loop-again c =
@@ -56,7 +56,7 @@ loop-again c =
     let one = other .before in
     let wide = one .before in
     let turn = wide .before in
-    join-put (turn .loop-test .taken) (wide .width-at .ensures .0) (one .names .ensures) (other .names2 .ensures) (turn .before .loop .inv) (made .joined-at .ensures) (spanned .span .ensures .0)
+    join-put (turn .loop-test .taken) (wide .width-at .ensures .0) (one .names .ensures) (other .names2 .ensures) (turn .before .loop .inv) (made .join-change .ensures) (spanned .span .ensures .0)
     (put .put-change .ensures) (near .size-if .ensures) (far .size-if2 .ensures) (c .next .ensures)
 
 add-near : tie.Need-add-near Inv-loop μ-loop

@@ -5,8 +5,8 @@ use mathlib.Core.List.{[]}
 use lib.ListN.{length}
 use borrow.Author.Needs.{needs}
 use Rattle.steps.specs.declared.Walk.{Walk}
-use Rattle.steps.proofs.Leaves.{said-inside}
-use Rattle.walks.proofs.Turns.{Putting, none-put, put-keeps, all-put}
+use Rattle.steps.proofs.StepLaws.{said-inside}
+use Rattle.walks.proofs.Rounds.{Putting, none-put, put-keeps, all-put}
 use Rattle.walks.proofs.Lists.{said-fits, turn-fits, turn-inside, turn-long, turn-put}
 use Rattle.walks.proofs.put_turned.Statement.{statement}
 use Rattle.walks.proofs.put_turned.Tie as tie

@@ -2,7 +2,7 @@
 -- Written by catalogue/write.py. Assumes nothing.
 use mathlib.Core.Path.{sym, ap}
 use Prim.Native.Nat.{ℕ}
-use Rattle.kinds.specs.Kinds.{sortIn}
+use Rattle.kinds.specs.Kinds.{findIn}
 use Rattle.kinds.proofs.Lookup.{vain}
 use Rattle.elements.specs.Types.{typesUnder1}
 use Rattle.elements.proofs.types.under_1.Statement.{statement}
@@ -12,4 +12,4 @@ other : tie.Need-returns-12
 other c = vain (c .before .args .ty) typesUnder1 (c .match .rest .0 .0 .0 .0 .0 .0 .0 .0 .0 .0 .1, (c .match .rest .0 .0 .0 .0 .0 .0 .0 .0 .0 .1, (c .match .rest .0 .0 .0 .0 .0 .0 .0 .0 .1, (c .match .rest .0 .0 .0 .0 .0 .0 .0 .1, (c .match .rest .0 .0 .0 .0 .0 .0 .1, (c .match .rest .0 .0 .0 .0 .0 .1, (c .match .rest .0 .0 .0 .0 .1, (c .match .rest .0 .0 .0 .1, (c .match .rest .0 .0 .1, (c .match .rest .0 .1, (c .match .rest .1, tt)))))))))))
 
 pub under-1-spec : {M : Type 1} → statement M
-under-1-spec = tie.close (tie.spec (λ c. sym (ap (λ (n : ℕ). sortIn n typesUnder1) (c .match .keys1))) (λ c. sym (ap (λ (n : ℕ). sortIn n typesUnder1) (c .match .keys2))) (λ c. sym (ap (λ (n : ℕ). sortIn n typesUnder1) (c .match .keys3))) (λ c. sym (ap (λ (n : ℕ). sortIn n typesUnder1) (c .match .keys4))) (λ c. sym (ap (λ (n : ℕ). sortIn n typesUnder1) (c .match .keys5))) (λ c. sym (ap (λ (n : ℕ). sortIn n typesUnder1) (c .match .keys6))) (λ c. sym (ap (λ (n : ℕ). sortIn n typesUnder1) (c .match .keys7))) (λ c. sym (ap (λ (n : ℕ). sortIn n typesUnder1) (c .match .keys8))) (λ c. sym (ap (λ (n : ℕ). sortIn n typesUnder1) (c .match .keys9))) (λ c. sym (ap (λ (n : ℕ). sortIn n typesUnder1) (c .match .keys10))) (λ c. sym (ap (λ (n : ℕ). sortIn n typesUnder1) (c .match .keys11))) other)
+under-1-spec = tie.close (tie.spec (λ c. sym (ap (λ (n : ℕ). findIn n typesUnder1) (c .match .keys1))) (λ c. sym (ap (λ (n : ℕ). findIn n typesUnder1) (c .match .keys2))) (λ c. sym (ap (λ (n : ℕ). findIn n typesUnder1) (c .match .keys3))) (λ c. sym (ap (λ (n : ℕ). findIn n typesUnder1) (c .match .keys4))) (λ c. sym (ap (λ (n : ℕ). findIn n typesUnder1) (c .match .keys5))) (λ c. sym (ap (λ (n : ℕ). findIn n typesUnder1) (c .match .keys6))) (λ c. sym (ap (λ (n : ℕ). findIn n typesUnder1) (c .match .keys7))) (λ c. sym (ap (λ (n : ℕ). findIn n typesUnder1) (c .match .keys8))) (λ c. sym (ap (λ (n : ℕ). findIn n typesUnder1) (c .match .keys9))) (λ c. sym (ap (λ (n : ℕ). findIn n typesUnder1) (c .match .keys10))) (λ c. sym (ap (λ (n : ℕ). findIn n typesUnder1) (c .match .keys11))) other)

@@ -41,7 +41,7 @@ returns-5 c =
     c .check-words .ensures
     ∙ by-words _ _ _ _
     (yes (whole .before .is-whole .ensures) (whole .if1 .left))
-    (yes (version .before .is-version .ensures) (version .if2 .left))
+    (yes (version .before .is-image-version .ensures) (version .if2 .left))
     (yes (under .before .is-under .ensures) (under .if3 .left))
     _ (placed .elements-place .ensures .0)
     _ (sized .widths-of .ensures .0)

@@ -3,12 +3,12 @@
 use Prim.Native.Nat.{_-_}
 use native.Mathlib.Omega.{arith}
 use borrow.Author.Needs.{needs}
-use Rattle.tables.proofs.TableLaws.{Stands, stands-first, stands-last, two-there, stands-next}
+use Rattle.tables.proofs.TableLaws.{CursorAt, cursor-first, cursor-last, two-there, cursor-next}
 use Rattle.tables.proofs.place.entry_place.Statement.{statement}
 use Rattle.tables.proofs.place.entry_place.Tie as tie
 
 abbrev Inv-loop : tie.InvT-loop
-Inv-loop table object at₀ j₀ at j = Stands table object j at
+Inv-loop table object at₀ j₀ at j = CursorAt table object j at
 
 abbrev μ-loop : tie.MeasureT-loop
 μ-loop table object at₀ j₀ at j = object - j
@@ -20,10 +20,10 @@ entry-place-spec =
     Inv-loop
     μ-loop
     (λ c κs. search needs)
-    (λ c. search stands-first)
+    (λ c. search cursor-first)
     (λ c κs. search two-there)
     (λ c. omega arith)
     (λ c. omega arith)
     (λ c. omega arith)
-    (λ c. search stands-next)
-    (λ c. search stands-last))
+    (λ c. search cursor-next)
+    (λ c. search cursor-last))

@@ -18,11 +18,11 @@ refused-requires c κs = search needs
 returns : tie.Need-returns
 returns c = c .refused .ensures ∙ table-1 _ (search (needs, no))
 
-shared-slice-read-is-version : tie.Need-shared-slice-read-is-version
-shared-slice-read-is-version c = search (long-enough, needs)
+shared-slice-read-is-table-version : tie.Need-shared-slice-read-is-table-version
+shared-slice-read-is-table-version c = search (long-enough, needs)
 
-is-version-requires : tie.Need-is-version-requires
-is-version-requires c κs = search needs
+is-table-version-requires : tie.Need-is-table-version-requires
+is-table-version-requires c κs = search needs
 
 refused-requires-2 : tie.Need-refused-requires-2
 refused-requires-2 c κs = search needs
@@ -54,11 +54,11 @@ refused-requires-4 c κs = search needs
 returns-4 : tie.Need-returns-4
 returns-4 c = c .refused4 .ensures ∙ table-4 _ (search (needs, yes)) (search (needs, yes)) (search (needs, yes)) _ (c .before .before .object-count .ensures) (omega arith)
 
-check-entries-requires : tie.Need-check-entries-requires
-check-entries-requires c κs = search (table-room, needs)
+check-objects-requires : tie.Need-check-objects-requires
+check-objects-requires c κs = search (table-room, needs)
 
 returns-5 : tie.Need-returns-5
-returns-5 c = table-rest _ (search (needs, yes)) (search (needs, yes)) (search (needs, yes)) _ (c .before .before .object-count .ensures) (omega arith) _ (c .check-entries .ensures)
+returns-5 c = table-rest _ (search (needs, yes)) (search (needs, yes)) (search (needs, yes)) _ (c .before .before .object-count .ensures) (omega arith) _ (c .check-objects .ensures)
 
 pub check-table-spec : {M : Type 1} → statement M
 check-table-spec =
@@ -67,8 +67,8 @@ check-table-spec =
     is-whole-requires
     refused-requires
     returns
-    shared-slice-read-is-version
-    is-version-requires
+    shared-slice-read-is-table-version
+    is-table-version-requires
     refused-requires-2
     returns-2
     shared-slice-read-is-catalogue
@@ -79,5 +79,5 @@ check-table-spec =
     object-count-requires
     refused-requires-4
     returns-4
-    check-entries-requires
+    check-objects-requires
     returns-5)

@@ -1,7 +1,7 @@
 -- `states::LineTrackCircuit::values` meets its contract: each named field by what its number ensures.
 -- Written by catalogue/write.py. Assumes nothing.
 use mathlib.Core.List.{[], _∷_}
-use Rattle.rows.specs.Fields.{padded, bitNo}
+use Rattle.rows.specs.Values.{padded, bitNo}
 use Rattle.states.proofs.line_track_circuit.LineTrackCircuit.values.Statement.{statement}
 use Rattle.states.proofs.line_track_circuit.LineTrackCircuit.values.Tie as tie
 
