@@ -1,7 +1,7 @@
 #!/usr/bin/env python3
 """Writes what repeats by type in the catalogue's crates from fields.tsv, cases.tsv and types.tsv.
 
-    catalogue/write.py            write the files, laid out by rt fmt
+    catalogue/write.py            write the files, laid out by rt fmt and tools/lines.py
     catalogue/write.py --check    say which files are not as written (exit status 1), and write nothing
 
 fields.tsv has a line for each row of each layout: layout number, mnemonic of the annex, struct, field of the annex,
@@ -20,6 +20,8 @@ import tempfile
 
 HERE = os.path.dirname(os.path.abspath(__file__))
 ROOT = os.path.dirname(HERE)
+sys.path.append(os.path.join(ROOT, 'tools'))
+from lines import lay_out
 CRATES = ['rows', 'cases', 'states', 'kinds', 'elements']  # with files written here
 BY_HAND = 'Annex.antt'
 # folders in which every file but BY_HAND is written here
@@ -119,7 +121,7 @@ def read_types(layouts):
     for line in table('types.tsv'):
         types = catalogues.setdefault(line.number('x', 0, 255), {})
         number, layout = line.number('type', 0, 255), line.number('layout', 1, 255)
-        line.need(number not in types, f'type {number} stands there already')
+        line.need(number not in types, f'type {number} is there already')
         line.need(any(l.number == layout for l in layouts), f'fields.tsv has no layout {layout}')
         types[number] = next(l for l in layouts if l.number == layout)
         carried.add(layout)
@@ -175,7 +177,7 @@ def ties(crate, path):
     return f'use {at}.Statement.{{statement}}\nuse {at}.Tie as tie\n'
 
 
-# ---- rows: the table and the layouts
+# ---- rows: the rows and the layouts
 
 def rows_source():
     body = ''
@@ -195,11 +197,11 @@ pub const ROWS: Cells = [
 '''
 
 
-def rows_rows():
+def rows_specs():
     rows = '\n'.join(f'    {l.number} ∷ {r.low} ∷ {r.width} ∷ {r.top} ∷' for l in LAYOUTS for r in l.rows)
     layouts = ''.join(
         f'    layout {l.number} {l.first} {len(l.rows)} {l.bytes} {"true" if l.dat else "false"} ∷\n' for l in LAYOUTS)
-    return f'''-- Every row of every layout in one constant table: {TOTAL} rows of layout, lowest bit, width and highest admitted value (0: reserved).
+    return f'''-- Every row of every layout in one constant: {TOTAL} rows of layout, lowest bit, width and highest admitted value (0: reserved).
 -- Then the layouts: number, first row, number of rows, width in bytes, and whether bit 0 is DAT.
 -- Written by catalogue/write.py.
 use mathlib.Core.Bool.{{Bool, true, false}}
@@ -233,7 +235,7 @@ pub record Row : Type 0 where
   pub width : ℕ
   pub top : ℕ
 
--- the number at a place of the table
+-- the number at a place: four for each row
 abbrev pub cellAt : ℕ → ℕ
 cellAt place = getD cells place 0
 
@@ -600,7 +602,7 @@ pub struct Glance {{
     pub listed: bool,
 }}
 
-// A kind's layout: where its rows are in the table, its width, and whether it has DAT.
+// A kind's layout: which rows are its own, its width, and whether it has DAT.
 pub fn layout(kind: Kind) -> Layout
     ensures {{ λ r. ⌜ r ≡ layoutOf kind ⌝ }}
 {{
@@ -1067,7 +1069,7 @@ def files():
     """The files by their path below crates/."""
     out = {
         'rows/src/catalogue.rt': rows_source(),
-        'rows/specs/Rows.antt': rows_rows(),
+        'rows/specs/Rows.antt': rows_specs(),
         'cases/src/lib.rt': cases_source(),
         'cases/specs/Lib.antt': 'pub mod Cases\n',
         'cases/specs/Cases.antt': cases_specs(),
@@ -1138,9 +1140,7 @@ def write(root):
         with open(full, 'w') as f:
             f.write(text)
     removed = remove_left(root, paths)
-    done = subprocess.run(['rt', 'fmt'], cwd=root, capture_output=True, text=True)
-    if done.returncode:
-        sys.exit(done.stdout + done.stderr)
+    lay_out(root)
     return removed
 
 

@@ -37,7 +37,7 @@ uint8_t *lend_copy(struct lent *lent, const void *bytes, size_t len)
     return memcpy(lend(lent, len), bytes, len);
 }
 
-bool guard_stands(const struct lent *lent)
+bool guard_intact(const struct lent *lent)
 {
     for (const uint8_t *byte = lent->bytes - GUARD; byte < lent->bytes; byte++)
         if (*byte != lent->guard)

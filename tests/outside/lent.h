@@ -21,6 +21,6 @@ uint8_t *lend(struct lent *lent, size_t len);
 uint8_t *lend_copy(struct lent *lent, const void *bytes, size_t len);
 
 /* Whether the guard bytes are as they were. */
-bool guard_stands(const struct lent *lent);
+bool guard_intact(const struct lent *lent);
 
 #endif

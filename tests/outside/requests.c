@@ -177,8 +177,8 @@ struct outcome perform(const struct face *face, const struct request *request)
     call_face(face, request, b);
     struct outcome outcome = {(uint32_t *)(void *)b->answer.bytes, (uint32_t *)(void *)b->fields.bytes,
                               (uint32_t *)(void *)b->standing.bytes, b->out.bytes};
-    if (!guard_stands(&b->table) || !guard_stands(&b->first) || !guard_stands(&b->second) || !guard_stands(&b->out) ||
-        !guard_stands(&b->answer) || !guard_stands(&b->fields) || !guard_stands(&b->standing))
+    if (!guard_intact(&b->table) || !guard_intact(&b->first) || !guard_intact(&b->second) || !guard_intact(&b->out) ||
+        !guard_intact(&b->answer) || !guard_intact(&b->fields) || !guard_intact(&b->standing))
         fail(request, "bytes before a lent buffer are changed");
     if (!unchanged(&b->table, request->table) || !unchanged(&b->first, request->first) ||
         !unchanged(&b->second, request->second) ||
@@ -187,7 +187,7 @@ struct outcome perform(const struct face *face, const struct request *request)
     size_t front = outcome.answer[0] == 0 ? outcome.answer[3] : 0;
     for (size_t i = front; i < request->room; i++)
         if (outcome.out[i] != before_call(i)) {
-            fail(request, "the output is changed behind its front");
+            fail(request, "the output is changed after its front");
             break;
         }
     for (size_t i = 0; i < 128 && request->call == READ_STATE && outcome.answer[0] != 0; i++)

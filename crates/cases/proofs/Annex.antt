@@ -4,7 +4,11 @@
 -- Assumes nothing.
 use mathlib.Core.Path.{_≡_, refl}
 use mathlib.Core.List.{[], _∷_, map}
-use Rattle.cases.specs.Cases.{signalKindOf, signalAspectOf, mixedGaugeIndicationOf, autoRouteIndicationOf, changerAspectOf, boardAspectOf, sectionOccupancyOf, overlapOf, gaugePresenceOf, pointsSectionOccupancyOf, legOccupancyOf, legShownOf, pointsDetectionOf, pointsLockingOf, heaterIndicationOf, earthFaultIndicationOf, boundaryMovementOf, autoRouteOf, routerIndicationOf}
+use Rattle.cases.specs.Cases.{signalKindOf, signalAspectOf, mixedGaugeIndicationOf, autoRouteIndicationOf}
+use Rattle.cases.specs.Cases.{changerAspectOf, boardAspectOf, sectionOccupancyOf, overlapOf, gaugePresenceOf}
+use Rattle.cases.specs.Cases.{pointsSectionOccupancyOf, legOccupancyOf, legShownOf, pointsDetectionOf}
+use Rattle.cases.specs.Cases.{pointsLockingOf, heaterIndicationOf, earthFaultIndicationOf, boundaryMovementOf}
+use Rattle.cases.specs.Cases.{autoRouteOf, routerIndicationOf}
 use Rattle.cases.specs.declared.SignalKind.{SignalKind}
 use Rattle.cases.specs.declared.SignalAspect.{SignalAspect}
 use Rattle.cases.specs.declared.MixedGaugeIndication.{MixedGaugeIndication}

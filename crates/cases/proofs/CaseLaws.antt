@@ -1,9 +1,24 @@
--- A value read as a case and written back is the same if it is listed, and else 0; a case written as a value is read back.
+-- A value read as a case and written back is the same if it is listed, and else 0;
+-- a case written as a value is read back.
 -- Written by catalogue/write.py. Assumes nothing.
 use mathlib.Core.Path.{_≡_, refl}
 use Prim.Native.Nat.{ℕ}
 use Rattle.rows.proofs.Listed.{listed, named}
-use Rattle.cases.specs.Cases.{signalKindCases, signalKindOf, signalKindNo, signalAspectCases, signalAspectOf, signalAspectNo, mixedGaugeIndicationCases, mixedGaugeIndicationOf, mixedGaugeIndicationNo, autoRouteIndicationCases, autoRouteIndicationOf, autoRouteIndicationNo, changerAspectCases, changerAspectOf, changerAspectNo, boardAspectCases, boardAspectOf, boardAspectNo, sectionOccupancyCases, sectionOccupancyOf, sectionOccupancyNo, overlapCases, overlapOf, overlapNo, gaugePresenceCases, gaugePresenceOf, gaugePresenceNo, pointsSectionOccupancyCases, pointsSectionOccupancyOf, pointsSectionOccupancyNo, legOccupancyCases, legOccupancyOf, legOccupancyNo, legShownCases, legShownOf, legShownNo, pointsDetectionCases, pointsDetectionOf, pointsDetectionNo, pointsLockingCases, pointsLockingOf, pointsLockingNo, heaterIndicationCases, heaterIndicationOf, heaterIndicationNo, earthFaultIndicationCases, earthFaultIndicationOf, earthFaultIndicationNo, boundaryMovementCases, boundaryMovementOf, boundaryMovementNo, autoRouteCases, autoRouteOf, autoRouteNo, routerIndicationCases, routerIndicationOf, routerIndicationNo}
+use Rattle.cases.specs.Cases.{signalKindCases, signalKindOf, signalKindNo, signalAspectCases, signalAspectOf}
+use Rattle.cases.specs.Cases.{signalAspectNo, mixedGaugeIndicationCases, mixedGaugeIndicationOf}
+use Rattle.cases.specs.Cases.{mixedGaugeIndicationNo, autoRouteIndicationCases, autoRouteIndicationOf}
+use Rattle.cases.specs.Cases.{autoRouteIndicationNo, changerAspectCases, changerAspectOf, changerAspectNo}
+use Rattle.cases.specs.Cases.{boardAspectCases, boardAspectOf, boardAspectNo, sectionOccupancyCases}
+use Rattle.cases.specs.Cases.{sectionOccupancyOf, sectionOccupancyNo, overlapCases, overlapOf, overlapNo}
+use Rattle.cases.specs.Cases.{gaugePresenceCases, gaugePresenceOf, gaugePresenceNo, pointsSectionOccupancyCases}
+use Rattle.cases.specs.Cases.{pointsSectionOccupancyOf, pointsSectionOccupancyNo, legOccupancyCases}
+use Rattle.cases.specs.Cases.{legOccupancyOf, legOccupancyNo, legShownCases, legShownOf, legShownNo}
+use Rattle.cases.specs.Cases.{pointsDetectionCases, pointsDetectionOf, pointsDetectionNo, pointsLockingCases}
+use Rattle.cases.specs.Cases.{pointsLockingOf, pointsLockingNo, heaterIndicationCases, heaterIndicationOf}
+use Rattle.cases.specs.Cases.{heaterIndicationNo, earthFaultIndicationCases, earthFaultIndicationOf}
+use Rattle.cases.specs.Cases.{earthFaultIndicationNo, boundaryMovementCases, boundaryMovementOf}
+use Rattle.cases.specs.Cases.{boundaryMovementNo, autoRouteCases, autoRouteOf, autoRouteNo, routerIndicationCases}
+use Rattle.cases.specs.Cases.{routerIndicationOf, routerIndicationNo}
 use Rattle.cases.specs.declared.SignalKind.{SignalKind}
 use Rattle.cases.specs.declared.SignalAspect.{SignalAspect}
 use Rattle.cases.specs.declared.MixedGaugeIndication.{MixedGaugeIndication}
@@ -52,7 +67,8 @@ signalAspect-back SignalAspect.Green = refl
 signalAspect-back SignalAspect.GreenFlashing = refl
 
 pub mixedGaugeIndication-listed : (v : ℕ) → mixedGaugeIndicationNo (mixedGaugeIndicationOf v) ≡ listed 7 v
-mixedGaugeIndication-listed = named mixedGaugeIndicationNo mixedGaugeIndicationCases MixedGaugeIndication.NoThirdRail 7 tt refl refl
+mixedGaugeIndication-listed =
+    named mixedGaugeIndicationNo mixedGaugeIndicationCases MixedGaugeIndication.NoThirdRail 7 tt refl refl
 
 pub mixedGaugeIndication-back : (c : MixedGaugeIndication) → mixedGaugeIndicationOf (mixedGaugeIndicationNo c) ≡ c
 mixedGaugeIndication-back MixedGaugeIndication.NoThirdRail = refl
@@ -65,7 +81,8 @@ mixedGaugeIndication-back MixedGaugeIndication.ConventionalShuntSet = refl
 mixedGaugeIndication-back MixedGaugeIndication.ConventionalOccupancyConflict = refl
 
 pub autoRouteIndication-listed : (v : ℕ) → autoRouteIndicationNo (autoRouteIndicationOf v) ≡ listed 3 v
-autoRouteIndication-listed = named autoRouteIndicationNo autoRouteIndicationCases AutoRouteIndication.GreenSteady 3 tt refl refl
+autoRouteIndication-listed =
+    named autoRouteIndicationNo autoRouteIndicationCases AutoRouteIndication.GreenSteady 3 tt refl refl
 
 pub autoRouteIndication-back : (c : AutoRouteIndication) → autoRouteIndicationOf (autoRouteIndicationNo c) ≡ c
 autoRouteIndication-back AutoRouteIndication.GreenSteady = refl
@@ -118,9 +135,11 @@ gaugePresence-back GaugePresence.ConventionalTrain = refl
 gaugePresence-back GaugePresence.BothGauges = refl
 
 pub pointsSectionOccupancy-listed : (v : ℕ) → pointsSectionOccupancyNo (pointsSectionOccupancyOf v) ≡ listed 1 v
-pointsSectionOccupancy-listed = named pointsSectionOccupancyNo pointsSectionOccupancyCases PointsSectionOccupancy.Clear 1 tt refl refl
+pointsSectionOccupancy-listed =
+    named pointsSectionOccupancyNo pointsSectionOccupancyCases PointsSectionOccupancy.Clear 1 tt refl refl
 
-pub pointsSectionOccupancy-back : (c : PointsSectionOccupancy) → pointsSectionOccupancyOf (pointsSectionOccupancyNo c) ≡ c
+pub pointsSectionOccupancy-back : (c : PointsSectionOccupancy)
+    → pointsSectionOccupancyOf (pointsSectionOccupancyNo c) ≡ c
 pointsSectionOccupancy-back PointsSectionOccupancy.Clear = refl
 pointsSectionOccupancy-back PointsSectionOccupancy.Occupied = refl
 
@@ -170,7 +189,8 @@ heaterIndication-back HeaterIndication.Green = refl
 heaterIndication-back HeaterIndication.RedFlashing = refl
 
 pub earthFaultIndication-listed : (v : ℕ) → earthFaultIndicationNo (earthFaultIndicationOf v) ≡ listed 2 v
-earthFaultIndication-listed = named earthFaultIndicationNo earthFaultIndicationCases EarthFaultIndication.NotShown 2 tt refl refl
+earthFaultIndication-listed =
+    named earthFaultIndicationNo earthFaultIndicationCases EarthFaultIndication.NotShown 2 tt refl refl
 
 pub earthFaultIndication-back : (c : EarthFaultIndication) → earthFaultIndicationOf (earthFaultIndicationNo c) ≡ c
 earthFaultIndication-back EarthFaultIndication.NotShown = refl

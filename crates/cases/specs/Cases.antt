@@ -1,5 +1,5 @@
--- For every field wider than one bit: its named cases in the order of their values, the case of a value (the first if it has none),
--- and the value of a case.
+-- For every field wider than one bit: its named cases in the order of their values, the case of a value (the first if
+-- it has none), and the value of a case.
 -- Written by catalogue/write.py.
 use mathlib.Core.List.{List, [], _∷_}
 use Prim.Native.Nat.{ℕ}
@@ -37,7 +37,10 @@ signalKindNo SignalKind.HighWhiteOrBlue = 2
 signalKindNo SignalKind.Low = 3
 
 abbrev pub signalAspectCases : List SignalAspect
-signalAspectCases = SignalAspect.Dark ∷ SignalAspect.Red ∷ SignalAspect.RedBlue ∷ SignalAspect.RedBlueFlashing ∷ SignalAspect.RedWhite ∷ SignalAspect.RedWhiteFlashing ∷ SignalAspect.White ∷ SignalAspect.WhiteFlashing ∷ SignalAspect.Yellow ∷ SignalAspect.YellowFlashing ∷ SignalAspect.GreenYellow ∷ SignalAspect.Green ∷ SignalAspect.GreenFlashing ∷ []
+signalAspectCases =
+    SignalAspect.Dark ∷ SignalAspect.Red ∷ SignalAspect.RedBlue ∷ SignalAspect.RedBlueFlashing ∷ SignalAspect.RedWhite ∷
+    SignalAspect.RedWhiteFlashing ∷ SignalAspect.White ∷ SignalAspect.WhiteFlashing ∷ SignalAspect.Yellow ∷
+    SignalAspect.YellowFlashing ∷ SignalAspect.GreenYellow ∷ SignalAspect.Green ∷ SignalAspect.GreenFlashing ∷ []
 
 abbrev pub signalAspectOf : ℕ → SignalAspect
 signalAspectOf v = getD signalAspectCases v SignalAspect.Dark
@@ -58,7 +61,11 @@ signalAspectNo SignalAspect.Green = 11
 signalAspectNo SignalAspect.GreenFlashing = 12
 
 abbrev pub mixedGaugeIndicationCases : List MixedGaugeIndication
-mixedGaugeIndicationCases = MixedGaugeIndication.NoThirdRail ∷ MixedGaugeIndication.AtRest ∷ MixedGaugeIndication.UicMovementSet ∷ MixedGaugeIndication.UicShuntSet ∷ MixedGaugeIndication.UicOccupancyConflict ∷ MixedGaugeIndication.ConventionalMovementSet ∷ MixedGaugeIndication.ConventionalShuntSet ∷ MixedGaugeIndication.ConventionalOccupancyConflict ∷ []
+mixedGaugeIndicationCases =
+    MixedGaugeIndication.NoThirdRail ∷ MixedGaugeIndication.AtRest ∷ MixedGaugeIndication.UicMovementSet ∷
+    MixedGaugeIndication.UicShuntSet ∷ MixedGaugeIndication.UicOccupancyConflict ∷
+    MixedGaugeIndication.ConventionalMovementSet ∷ MixedGaugeIndication.ConventionalShuntSet ∷
+    MixedGaugeIndication.ConventionalOccupancyConflict ∷ []
 
 abbrev pub mixedGaugeIndicationOf : ℕ → MixedGaugeIndication
 mixedGaugeIndicationOf v = getD mixedGaugeIndicationCases v MixedGaugeIndication.NoThirdRail
@@ -74,7 +81,9 @@ mixedGaugeIndicationNo MixedGaugeIndication.ConventionalShuntSet = 6
 mixedGaugeIndicationNo MixedGaugeIndication.ConventionalOccupancyConflict = 7
 
 abbrev pub autoRouteIndicationCases : List AutoRouteIndication
-autoRouteIndicationCases = AutoRouteIndication.GreenSteady ∷ AutoRouteIndication.GreenFlashing ∷ AutoRouteIndication.RedSteady ∷ AutoRouteIndication.RedFlashing ∷ []
+autoRouteIndicationCases =
+    AutoRouteIndication.GreenSteady ∷ AutoRouteIndication.GreenFlashing ∷ AutoRouteIndication.RedSteady ∷
+    AutoRouteIndication.RedFlashing ∷ []
 
 abbrev pub autoRouteIndicationOf : ℕ → AutoRouteIndication
 autoRouteIndicationOf v = getD autoRouteIndicationCases v AutoRouteIndication.GreenSteady
@@ -109,7 +118,9 @@ boardAspectNo BoardAspect.Blue = 1
 boardAspectNo BoardAspect.White = 2
 
 abbrev pub sectionOccupancyCases : List SectionOccupancy
-sectionOccupancyCases = SectionOccupancy.ClearIdle ∷ SectionOccupancy.ClearMovementOrBlockSet ∷ SectionOccupancy.ClearShuntSet ∷ SectionOccupancy.Occupied ∷ []
+sectionOccupancyCases =
+    SectionOccupancy.ClearIdle ∷ SectionOccupancy.ClearMovementOrBlockSet ∷ SectionOccupancy.ClearShuntSet ∷
+    SectionOccupancy.Occupied ∷ []
 
 abbrev pub sectionOccupancyOf : ℕ → SectionOccupancy
 sectionOccupancyOf v = getD sectionOccupancyCases v SectionOccupancy.ClearIdle
@@ -132,7 +143,9 @@ overlapNo Overlap.MovementOverlap = 1
 overlapNo Overlap.ShuntOverlap = 2
 
 abbrev pub gaugePresenceCases : List GaugePresence
-gaugePresenceCases = GaugePresence.NotShown ∷ GaugePresence.NoTrain ∷ GaugePresence.UicTrain ∷ GaugePresence.ConventionalTrain ∷ GaugePresence.BothGauges ∷ []
+gaugePresenceCases =
+    GaugePresence.NotShown ∷ GaugePresence.NoTrain ∷ GaugePresence.UicTrain ∷ GaugePresence.ConventionalTrain ∷
+    GaugePresence.BothGauges ∷ []
 
 abbrev pub gaugePresenceOf : ℕ → GaugePresence
 gaugePresenceOf v = getD gaugePresenceCases v GaugePresence.NotShown
@@ -155,7 +168,8 @@ pointsSectionOccupancyNo PointsSectionOccupancy.Clear = 0
 pointsSectionOccupancyNo PointsSectionOccupancy.Occupied = 1
 
 abbrev pub legOccupancyCases : List LegOccupancy
-legOccupancyCases = LegOccupancy.ClearIdle ∷ LegOccupancy.ClearMovementSet ∷ LegOccupancy.ClearShuntSet ∷ LegOccupancy.Occupied ∷ []
+legOccupancyCases =
+    LegOccupancy.ClearIdle ∷ LegOccupancy.ClearMovementSet ∷ LegOccupancy.ClearShuntSet ∷ LegOccupancy.Occupied ∷ []
 
 abbrev pub legOccupancyOf : ℕ → LegOccupancy
 legOccupancyOf v = getD legOccupancyCases v LegOccupancy.ClearIdle
@@ -178,7 +192,9 @@ legShownNo LegShown.NormalOnly = 1
 legShownNo LegShown.ReverseOnly = 2
 
 abbrev pub pointsDetectionCases : List PointsDetection
-pointsDetectionCases = PointsDetection.NotDetected ∷ PointsDetection.CalledNormal ∷ PointsDetection.CalledReverse ∷ PointsDetection.DetectedNormal ∷ PointsDetection.DetectedReverse ∷ []
+pointsDetectionCases =
+    PointsDetection.NotDetected ∷ PointsDetection.CalledNormal ∷ PointsDetection.CalledReverse ∷
+    PointsDetection.DetectedNormal ∷ PointsDetection.DetectedReverse ∷ []
 
 abbrev pub pointsDetectionOf : ℕ → PointsDetection
 pointsDetectionOf v = getD pointsDetectionCases v PointsDetection.NotDetected
@@ -191,7 +207,9 @@ pointsDetectionNo PointsDetection.DetectedNormal = 3
 pointsDetectionNo PointsDetection.DetectedReverse = 4
 
 abbrev pub pointsLockingCases : List PointsLocking
-pointsLockingCases = PointsLocking.Free ∷ PointsLocking.Locked ∷ PointsLocking.MovementRequired ∷ PointsLocking.ReleasedForMaintenance ∷ []
+pointsLockingCases =
+    PointsLocking.Free ∷ PointsLocking.Locked ∷ PointsLocking.MovementRequired ∷
+    PointsLocking.ReleasedForMaintenance ∷ []
 
 abbrev pub pointsLockingOf : ℕ → PointsLocking
 pointsLockingOf v = getD pointsLockingCases v PointsLocking.Free
@@ -203,7 +221,8 @@ pointsLockingNo PointsLocking.MovementRequired = 2
 pointsLockingNo PointsLocking.ReleasedForMaintenance = 3
 
 abbrev pub heaterIndicationCases : List HeaterIndication
-heaterIndicationCases = HeaterIndication.NotShown ∷ HeaterIndication.Yellow ∷ HeaterIndication.Green ∷ HeaterIndication.RedFlashing ∷ []
+heaterIndicationCases =
+    HeaterIndication.NotShown ∷ HeaterIndication.Yellow ∷ HeaterIndication.Green ∷ HeaterIndication.RedFlashing ∷ []
 
 abbrev pub heaterIndicationOf : ℕ → HeaterIndication
 heaterIndicationOf v = getD heaterIndicationCases v HeaterIndication.NotShown
@@ -215,7 +234,8 @@ heaterIndicationNo HeaterIndication.Green = 2
 heaterIndicationNo HeaterIndication.RedFlashing = 3
 
 abbrev pub earthFaultIndicationCases : List EarthFaultIndication
-earthFaultIndicationCases = EarthFaultIndication.NotShown ∷ EarthFaultIndication.EarthFault ∷ EarthFaultIndication.TestRunning ∷ []
+earthFaultIndicationCases =
+    EarthFaultIndication.NotShown ∷ EarthFaultIndication.EarthFault ∷ EarthFaultIndication.TestRunning ∷ []
 
 abbrev pub earthFaultIndicationOf : ℕ → EarthFaultIndication
 earthFaultIndicationOf v = getD earthFaultIndicationCases v EarthFaultIndication.NotShown
@@ -226,7 +246,10 @@ earthFaultIndicationNo EarthFaultIndication.EarthFault = 1
 earthFaultIndicationNo EarthFaultIndication.TestRunning = 2
 
 abbrev pub boundaryMovementCases : List BoundaryMovement
-boundaryMovementCases = BoundaryMovement.AtRest ∷ BoundaryMovement.RouteSignalPending ∷ BoundaryMovement.RouteSignalOpen ∷ BoundaryMovement.OverrideSignalPending ∷ BoundaryMovement.OverrideSignalOpen ∷ BoundaryMovement.ShuntSignalPending ∷ BoundaryMovement.ShuntSignalOpen ∷ []
+boundaryMovementCases =
+    BoundaryMovement.AtRest ∷ BoundaryMovement.RouteSignalPending ∷ BoundaryMovement.RouteSignalOpen ∷
+    BoundaryMovement.OverrideSignalPending ∷ BoundaryMovement.OverrideSignalOpen ∷
+    BoundaryMovement.ShuntSignalPending ∷ BoundaryMovement.ShuntSignalOpen ∷ []
 
 abbrev pub boundaryMovementOf : ℕ → BoundaryMovement
 boundaryMovementOf v = getD boundaryMovementCases v BoundaryMovement.AtRest

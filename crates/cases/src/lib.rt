@@ -1,8 +1,18 @@
-// The floor of cases: the named cases of every field wider than one bit. Each enum has `of`, the case of a value, and `number`, the
-// value of a case. Written by catalogue/write.py from catalogue/cases.tsv. It checks nothing: a value without a case is read as the
-// first. Each arm of a match returns, which spares the check a local and a step.
+// The floor of cases: the named cases of every field wider than one bit. Each enum has `of`, the case of a value, and
+// `number`, the value of a case. Written by catalogue/write.py from catalogue/cases.tsv. It checks nothing: a value
+// without a case is read as the first. Each arm of a match returns, which spares the check a local and a step.
 ghost use mathlib.Core.Path.{_≡_};
-ghost use Rattle.cases.specs.Cases.{signalKindOf, signalKindNo, signalAspectOf, signalAspectNo, mixedGaugeIndicationOf, mixedGaugeIndicationNo, autoRouteIndicationOf, autoRouteIndicationNo, changerAspectOf, changerAspectNo, boardAspectOf, boardAspectNo, sectionOccupancyOf, sectionOccupancyNo, overlapOf, overlapNo, gaugePresenceOf, gaugePresenceNo, pointsSectionOccupancyOf, pointsSectionOccupancyNo, legOccupancyOf, legOccupancyNo, legShownOf, legShownNo, pointsDetectionOf, pointsDetectionNo, pointsLockingOf, pointsLockingNo, heaterIndicationOf, heaterIndicationNo, earthFaultIndicationOf, earthFaultIndicationNo, boundaryMovementOf, boundaryMovementNo, autoRouteOf, autoRouteNo, routerIndicationOf, routerIndicationNo};
+ghost use Rattle.cases.specs.Cases.{signalKindOf, signalKindNo, signalAspectOf, signalAspectNo};
+ghost use Rattle.cases.specs.Cases.{mixedGaugeIndicationOf, mixedGaugeIndicationNo, autoRouteIndicationOf};
+ghost use Rattle.cases.specs.Cases.{autoRouteIndicationNo, changerAspectOf, changerAspectNo, boardAspectOf};
+ghost use Rattle.cases.specs.Cases.{boardAspectNo, sectionOccupancyOf, sectionOccupancyNo, overlapOf, overlapNo};
+ghost use Rattle.cases.specs.Cases.{gaugePresenceOf, gaugePresenceNo, pointsSectionOccupancyOf};
+ghost use Rattle.cases.specs.Cases.{pointsSectionOccupancyNo, legOccupancyOf, legOccupancyNo, legShownOf};
+ghost use Rattle.cases.specs.Cases.{legShownNo, pointsDetectionOf, pointsDetectionNo, pointsLockingOf};
+ghost use Rattle.cases.specs.Cases.{pointsLockingNo, heaterIndicationOf, heaterIndicationNo};
+ghost use Rattle.cases.specs.Cases.{earthFaultIndicationOf, earthFaultIndicationNo, boundaryMovementOf};
+ghost use Rattle.cases.specs.Cases.{boundaryMovementNo, autoRouteOf, autoRouteNo, routerIndicationOf};
+ghost use Rattle.cases.specs.Cases.{routerIndicationNo};
 
 pub enum SignalKind {
     Unknown, // Kind not known

@@ -9,7 +9,8 @@ use Rattle.history.specs.Verdict.{told, Leaves}
 use Rattle.history.specs.Table.{Plan}
 use Rattle.history.specs.Image.{readImage, AcceptedImage}
 use Rattle.history.specs.Changes.{readList, AcceptedList}
-use Rattle.history.specs.Calls.{differenceUnder, differenceCall, applyUnder, applyCall, joinUnder, joinCall, turnUnder, turnCall}
+use Rattle.history.specs.Calls.{differenceUnder, differenceCall, applyUnder, applyCall, joinUnder, joinCall, turnUnder}
+use Rattle.history.specs.Calls.{turnCall}
 use Rattle.history.proofs.OutputLaws.{first-leaves}
 use Rattle.tables.specs.declared.answers.Outline.{Outline}
 use Rattle.tables.specs.Outlines.{planAs, Outlined}
@@ -36,7 +37,8 @@ turn-starts T L = record { is = refl }
 
 -- ---- under an accepted table the call depends on its plan
 
-module _ {T : List ℕ} {o : Outline} (k : Outlined T o) (good : o .answer .code ≡ 0) {ns : List ℕ} (n : ns ≡ take (o .count) (o .kinds)) where
+module _ {T : List ℕ} {o : Outline} (k : Outlined T o) (good : o .answer .code ≡ 0) {ns : List ℕ}
+    (n : ns ≡ take (o .count) (o .kinds)) where
   module _ (A B : List ℕ) where
     pub difference-goes : differenceUnder (planAs (o .x) (o .y) ns) A B ≡ differenceCall T A B
     difference-goes = under-plan k good n (difference-starts T A B)
@@ -77,6 +79,7 @@ module _ (p : Plan) (A B out : List ℕ) {r : Answer} (bad : r .code ≡ 0 → �
   unfolding joinUnder
   join-second l e = rw (l .reads) (first-leaves (readList p B) _ out e bad)
 
-pub turn-first : (p : Plan) (L out : List ℕ) {r : Answer} → (r .code ≡ 0 → ⊥) → r ≡ told (readList p L) → Leaves (turnUnder p L) out r out
+pub turn-first : (p : Plan) (L out : List ℕ) {r : Answer} → (r .code ≡ 0 → ⊥) → r ≡ told (readList p L)
+    → Leaves (turnUnder p L) out r out
 unfolding turnUnder
 turn-first p L out bad e = first-leaves (readList p L) _ out e bad

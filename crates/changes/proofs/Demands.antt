@@ -13,9 +13,11 @@ use Rattle.history.specs.Calls.{imageCall, differenceCall, applyCall, joinCall,
 use Rattle.history.proofs.OutputLaws.{Ran, Success, succeeds}
 use Rattle.history.proofs.CodeLaws.{delivered, apply-call-coded, join-call-coded}
 use Rattle.history.proofs.SizeLaws.{OneJoin}
-use Rattle.history.proofs.Demands.{has-difference, apply-of-difference, only-list, join-of-differences, turned-difference, three-lists, difference-not-longer, join-not-longer}
+use Rattle.history.proofs.Demands.{has-difference, apply-of-difference, only-list, join-of-differences}
+use Rattle.history.proofs.Demands.{turned-difference, three-lists, difference-not-longer, join-not-longer}
 
--- n bytes have room for b, and into any output with room for it the call writes b: 0, 65535, 255 and b's length, b at the front, the rest as it was
+-- n bytes have room for b, and into any output with room for it the call writes b:
+-- 0, 65535, 255 and b's length, b at the front, the rest as it was
 abbrev pub Gives : Verdict (List ℕ) → ℕ → List ℕ → Type 0
 Gives v n b = (length b ≤ n) × ((out : List ℕ) → length b ≤ length out → Success b out (settled v out))
 
@@ -42,14 +44,18 @@ pub record Demand3 (T A B C : List ℕ) : Type 0 where
   pub back : Gives (turnCall T AB) (4 * length B) BA
 
 -- an application that succeeds with B gives B
-apply-gave : (T A L : List ℕ) {B out : List ℕ} → Success B out (settled (applyCall T A L) out) → applyCall T A L ≡ done B
+apply-gave : (T A L : List ℕ) {B out : List ℕ} → Success B out (settled (applyCall T A L) out)
+    → applyCall T A L ≡ done B
 apply-gave T A L {B} {out} s =
-    let o : Ran (applyCall T A L) out (settled (applyCall T A L) out .answer) (settled (applyCall T A L) out .output) = record { leaves = (refl, refl) } in
+    let o : Ran (applyCall T A L) out (settled (applyCall T A L) out .answer) (settled (applyCall T A L) out .output) =
+    record { leaves = (refl, refl) } in
     let d = delivered (apply-call-coded T A L) o (ap (λ (r : Answer). r .code) (s .answer)) in
-    d .bytes ∙ ap done (ap (λ (r : Answer). take (r .length) (settled (applyCall T A L) out .output)) (s .answer) ∙ s .front)
+    d .bytes ∙ ap done
+    (ap (λ (r : Answer). take (r .length) (settled (applyCall T A L) out .output)) (s .answer) ∙ s .front)
 
 -- for any A, B and C accepted under T
-pub demand-3 : (T A B C : List ℕ) {a b c : Image} → Bytes A → Bytes B → Bytes C → imageCall T A ≡ done a → imageCall T B ≡ done b → imageCall T C ≡ done c → Demand3 T A B C
+pub demand-3 : (T A B C : List ℕ) {a b c : Image} → Bytes A → Bytes B → Bytes C → imageCall T A ≡ done a
+    → imageCall T B ≡ done b → imageCall T C ≡ done c → Demand3 T A B C
 demand-3 T A B C ha hb hc ea eb ec =
     let l = has-difference T A B ha hb ea eb in
     let m = has-difference T B C hb hc eb ec in
@@ -72,7 +78,8 @@ demand-3 T A B C ha hb hc ea eb ec =
       back = gives (turned-difference T A B ha hb (l .1) ∙ n .1) n-short;
     }
 
--- "three lists that some image takes in turn join to the same bytes, whichever pair is joined first"; no join takes more room than the lists joined
+-- "three lists that some image takes in turn join to the same bytes, whichever pair is joined first";
+-- no join takes more room than the lists joined
 pub record ThreeLists (T L M N : List ℕ) : Type 0 where
   pub LM : List ℕ
   pub MN : List ℕ
@@ -98,6 +105,7 @@ three-in-turn T A L M N ha hl hm hn x y z =
     }
 
 -- what `join` wrote is never longer than the two lists together
-pub joined-short : (T L M : List ℕ) {out : List ℕ} {r : Answer} {m : List ℕ} → Bytes L → Bytes M → Ran (joinCall T L M) out r m → r .code ≡ 0
+pub joined-short : (T L M : List ℕ) {out : List ℕ} {r : Answer} {m : List ℕ} → Bytes L → Bytes M
+    → Ran (joinCall T L M) out r m → r .code ≡ 0
     → length (take (r .length) m) ≤ length L + length M
 joined-short T L M hl hm o z = join-not-longer T L M hl hm (delivered (join-call-coded T L M) o z .bytes)

@@ -1,4 +1,5 @@
-// The operations on accepted forms: only positions and values are left to test, in the paper's order, and the room last.
+// The operations on accepted forms: only positions and values are left to test, in the paper's
+// order, and the room last.
 use heads::elements_of;
 use heads::entries_of;
 use heads::entry_count;
@@ -25,7 +26,8 @@ pub fn write_difference(x: u8, y: u8, kinds: &[u8], a: &[u8], b: &[u8], out: &mu
     requires { ⌜ length (now kinds) ≤ 1024 ⌝ }
     requires { ⌜ AcceptedImage (planAs x y (now kinds)) (now a) ⌝ }
     requires { ⌜ AcceptedImage (planAs x y (now kinds)) (now b) ⌝ }
-    ensures { λ r. ⌜ Leaves (differenceUnder (planAs x y (now (kinds .entry))) (now (a .entry)) (now (b .entry))) (now (out .entry)) r (now (out .exit)) ⌝ }
+    ensures { λ r. ⌜ Leaves (differenceUnder (planAs x y (now (kinds .entry))) (now (a .entry)) (now (b .entry)))
+        (now (out .entry)) r (now (out .exit)) ⌝ }
 {
     let from = position_of(a);
     let to = position_of(b);
@@ -47,7 +49,8 @@ pub fn write_applied(
     requires { ⌜ length (now kinds) ≤ 1024 ⌝ }
     requires { ⌜ AcceptedImage (planAs x y (now kinds)) (now image) ⌝ }
     requires { ⌜ AcceptedList (planAs x y (now kinds)) (now list) ⌝ }
-    ensures { λ r. ⌜ Leaves (applyUnder (planAs x y (now (kinds .entry))) (now (image .entry)) (now (list .entry))) (now (out .entry)) r (now (out .exit)) ⌝ }
+    ensures { λ r. ⌜ Leaves (applyUnder (planAs x y (now (kinds .entry))) (now (image .entry)) (now (list .entry)))
+        (now (out .entry)) r (now (out .exit)) ⌝ }
 {
     let answer = check_applies(x, y, kinds, image, list);
     if answer.code != 0 {
@@ -69,7 +72,8 @@ pub fn write_joined(
     requires { ⌜ length (now kinds) ≤ 1024 ⌝ }
     requires { ⌜ AcceptedList (planAs x y (now kinds)) (now first) ⌝ }
     requires { ⌜ AcceptedList (planAs x y (now kinds)) (now second) ⌝ }
-    ensures { λ r. ⌜ Leaves (joinUnder (planAs x y (now (kinds .entry))) (now (first .entry)) (now (second .entry))) (now (out .entry)) r (now (out .exit)) ⌝ }
+    ensures { λ r. ⌜ Leaves (joinUnder (planAs x y (now (kinds .entry))) (now (first .entry)) (now (second .entry)))
+        (now (out .entry)) r (now (out .exit)) ⌝ }
 {
     let end = to_of(first);
     let start = from_of(second);
@@ -99,11 +103,13 @@ pub fn write_joined(
     )
 }
 
-// Writes the list turned back. That is as long as the list, so nothing is measured; there is no second form, so that slice is empty.
+// Writes the list turned back. That is as long as the list, so nothing is measured;
+// there is no second form, so that slice is empty.
 pub fn write_turned(x: u8, y: u8, kinds: &[u8], list: &[u8], out: &mut [u8]) -> Answer
     requires { ⌜ length (now kinds) ≤ 1024 ⌝ }
     requires { ⌜ AcceptedList (planAs x y (now kinds)) (now list) ⌝ }
-    ensures { λ r. ⌜ Leaves (turnUnder (planAs x y (now (kinds .entry))) (now (list .entry))) (now (out .entry)) r (now (out .exit)) ⌝ }
+    ensures { λ r. ⌜ Leaves (turnUnder (planAs x y (now (kinds .entry))) (now (list .entry)))
+        (now (out .entry)) r (now (out .exit)) ⌝ }
 {
     let from = to_of(list);
     let to = from_of(list);
@@ -131,7 +137,8 @@ fn check_applies(x: u8, y: u8, kinds: &[u8], image: &[u8], list: &[u8]) -> Answe
     requires { ⌜ length (now kinds) ≤ 1024 ⌝ }
     requires { ⌜ AcceptedImage (planAs x y (now kinds)) (now image) ⌝ }
     requires { ⌜ AcceptedList (planAs x y (now kinds)) (now list) ⌝ }
-    ensures { λ r. ⌜ r ≡ told (applyUnder (planAs x y (now (kinds .entry))) (now (image .entry)) (now (list .entry))) ⌝ }
+    ensures { λ r.
+        ⌜ r ≡ told (applyUnder (planAs x y (now (kinds .entry))) (now (image .entry)) (now (list .entry))) ⌝ }
 {
     let position = position_of(image);
     let from = from_of(list);

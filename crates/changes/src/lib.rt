@@ -1,5 +1,6 @@
-// Change lists, over the bytes of the forms: the list between two images, an image after a list, the join of two lists, a list turned
-// back. The table is read once, then each other form in the order given; no byte is written before everything is checked.
+// Change lists, over the bytes of the forms: the list between two images, an image after a list, the join of two lists,
+// a list turned back. The table is read once, then each other form in the order given;
+// no byte is written before everything is checked.
 mod accepted;
 mod under;
 
@@ -15,7 +16,8 @@ ghost use Rattle.history.specs.Calls.{differenceCall, applyCall, joinCall, turn
 
 // Writes the list from image a to image b.
 pub fn difference(table: &[u8], a: &[u8], b: &[u8], out: &mut [u8]) -> Answer
-    ensures { λ r. ⌜ Leaves (differenceCall (now (table .entry)) (now (a .entry)) (now (b .entry))) (now (out .entry)) r (now (out .exit)) ⌝ }
+    ensures { λ r. ⌜ Leaves (differenceCall (now (table .entry)) (now (a .entry)) (now (b .entry)))
+        (now (out .entry)) r (now (out .exit)) ⌝ }
 {
     let known = outline(table);
     let answer = known.answer;
@@ -28,9 +30,11 @@ pub fn difference(table: &[u8], a: &[u8], b: &[u8], out: &mut [u8]) -> Answer
     difference_under(x, y, first_kinds(&known.kinds, count), a, b, out)
 }
 
-// Writes the image after the list: 16 if the list is late, 17 if there is a gap, 18 if an old element is not the image's.
+// Writes the image after the list: 16 if the list is late, 17 if there is a gap, 18 if an old
+// element is not the image's.
 pub fn apply(table: &[u8], image: &[u8], list: &[u8], out: &mut [u8]) -> Answer
-    ensures { λ r. ⌜ Leaves (applyCall (now (table .entry)) (now (image .entry)) (now (list .entry))) (now (out .entry)) r (now (out .exit)) ⌝ }
+    ensures { λ r. ⌜ Leaves (applyCall (now (table .entry)) (now (image .entry)) (now (list .entry)))
+        (now (out .entry)) r (now (out .exit)) ⌝ }
 {
     let known = outline(table);
     let answer = known.answer;
@@ -43,9 +47,11 @@ pub fn apply(table: &[u8], image: &[u8], list: &[u8], out: &mut [u8]) -> Answer
     apply_under(x, y, first_kinds(&known.kinds, count), image, list, out)
 }
 
-// Writes the join of two lists: 19 if the second does not start where the first ends, 20 if they do not agree on an object.
+// Writes the join of two lists: 19 if the second does not start where the first ends, 20 if
+// they do not agree on an object.
 pub fn join(table: &[u8], first: &[u8], second: &[u8], out: &mut [u8]) -> Answer
-    ensures { λ r. ⌜ Leaves (joinCall (now (table .entry)) (now (first .entry)) (now (second .entry))) (now (out .entry)) r (now (out .exit)) ⌝ }
+    ensures { λ r. ⌜ Leaves (joinCall (now (table .entry)) (now (first .entry)) (now (second .entry)))
+        (now (out .entry)) r (now (out .exit)) ⌝ }
 {
     let known = outline(table);
     let answer = known.answer;
@@ -60,7 +66,8 @@ pub fn join(table: &[u8], first: &[u8], second: &[u8], out: &mut [u8]) -> Answer
 
 // Writes the list turned back.
 pub fn turn_back(table: &[u8], list: &[u8], out: &mut [u8]) -> Answer
-    ensures { λ r. ⌜ Leaves (turnCall (now (table .entry)) (now (list .entry))) (now (out .entry)) r (now (out .exit)) ⌝ }
+    ensures { λ r. ⌜ Leaves (turnCall (now (table .entry)) (now (list .entry)))
+        (now (out .entry)) r (now (out .exit)) ⌝ }
 {
     let known = outline(table);
     let answer = known.answer;

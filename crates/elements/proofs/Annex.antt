@@ -1,6 +1,7 @@
--- Which types are carried; that a word of each type, by its number in annex 1 or 3 of NAS 831, is read as the state that the annex's bits
--- say; which bits are reserved; and which types two catalogues read alike.
--- Kept by hand and typed from the papers and the annexes' tables of types; the bits and the cases are in `Annex` of `states` and of `cases`.
+-- Which types are carried; that a word of each type, by its number in annex 1 or 3 of NAS 831, is read as the state
+-- that the annex's bits say; which bits are reserved; and which types two catalogues read alike.
+-- Kept by hand and typed from the papers and the annexes' tables of types;
+-- the bits and the cases are in `Annex` of `states` and of `cases`.
 -- Assumes nothing.
 use mathlib.Core.Path.{_≡_, refl, ap}
 use mathlib.Core.Bool.{Bool, true, false, cond, not, _||_}
@@ -10,7 +11,12 @@ use lib.Dec.{T, eqb, eqb→eq}
 use lib.ListN.{length}
 use borrow.Author.Tests.{eq-eqb}
 use Rattle.rows.specs.Rows.{Row, cells, layouts, rowTotal}
-use Rattle.states.proofs.Annex.{signalIn, signal-bits, changerSignalIn, changer-signal-bits, virtualBoardIn, virtual-board-bits, lineTrackCircuitIn, line-track-circuit-bits, pointsTrackCircuitIn, points-track-circuit-bits, crossingTrackCircuitIn, crossing-track-circuit-bits, dualDetectionIn, dual-detection-bits, pointsIn, points-bits, electricLockIn, electric-lock-bits, generalNoticesIn, general-notices-bits, controlBoundaryIn, control-boundary-bits, signalV3In, signal-v3-bits}
+use Rattle.states.proofs.Annex.{signalIn, signal-bits, changerSignalIn, changer-signal-bits, virtualBoardIn}
+use Rattle.states.proofs.Annex.{virtual-board-bits, lineTrackCircuitIn, line-track-circuit-bits, pointsTrackCircuitIn}
+use Rattle.states.proofs.Annex.{points-track-circuit-bits, crossingTrackCircuitIn, crossing-track-circuit-bits}
+use Rattle.states.proofs.Annex.{dualDetectionIn, dual-detection-bits, pointsIn, points-bits, electricLockIn}
+use Rattle.states.proofs.Annex.{electric-lock-bits, generalNoticesIn, general-notices-bits, controlBoundaryIn}
+use Rattle.states.proofs.Annex.{control-boundary-bits, signalV3In, signal-v3-bits}
 use Rattle.kinds.specs.Kinds.{Line, findIn, kindIn, kinds, layoutNo, rowsOf}
 use Rattle.kinds.specs.declared.Kind.{Kind}
 use Rattle.kinds.specs.declared.Element.{Element}
@@ -36,21 +42,26 @@ numbers ls = map (λ (l : Line). l .number) ls
 abbrev numbersIn : List Catalogue → List (ℕ × List ℕ)
 numbersIn cs = map (λ (c : Catalogue). (c .x, numbers (c .types))) cs
 
-either : (b : Bool) (s t : OptionalKind) {p q : Bool} → isCarried s ≡ p → isCarried t ≡ q → isCarried (cond b s t) ≡ cond b p q
+either : (b : Bool) (s t : OptionalKind) {p q : Bool} → isCarried s ≡ p → isCarried t ≡ q
+    → isCarried (cond b s t) ≡ cond b p q
 either true s t e f = e
 either false s t e f = f
 
 carried-in : (type : ℕ) (ls : List Line) → isCarried (findIn type ls) ≡ oneOf (numbers ls) type
 carried-in type [] = refl
-carried-in type (l ∷ ls) = either (eqb type (l .number)) (OptionalKind.Some (l .kind)) (findIn type ls) refl (carried-in type ls)
+carried-in type (l ∷ ls) =
+    either (eqb type (l .number)) (OptionalKind.Some (l .kind)) (findIn type ls) refl (carried-in type ls)
 
 carried-under : (x type : ℕ) (cs : List Catalogue) → isCarried (findUnder x type cs) ≡ carriedBy (numbersIn cs) x type
 carried-under x type [] = refl
-carried-under x type (c ∷ cs) = either (eqb x (c .x)) (findIn type (c .types)) (findUnder x type cs) (carried-in type (c .types)) (carried-under x type cs)
+carried-under x type (c ∷ cs) =
+    either (eqb x (c .x)) (findIn type (c .types)) (findUnder x type cs) (carried-in type (c .types))
+    (carried-under x type cs)
 
 -- "Catalogue 1.0, types 1 to 9, 22 and 23"; of 3.0 "its types 1 to 7"; and nothing else
 pub carried-exactly : (x type : ℕ) → carried x type
-    ≡ carriedBy ((1, 1 ∷ 2 ∷ 3 ∷ 4 ∷ 5 ∷ 6 ∷ 7 ∷ 8 ∷ 9 ∷ 22 ∷ 23 ∷ []) ∷ (3, 1 ∷ 2 ∷ 3 ∷ 4 ∷ 5 ∷ 6 ∷ 7 ∷ []) ∷ []) x type
+    ≡ carriedBy ((1, 1 ∷ 2 ∷ 3 ∷ 4 ∷ 5 ∷ 6 ∷ 7 ∷ 8 ∷ 9 ∷ 22 ∷ 23 ∷ []) ∷
+    (3, 1 ∷ 2 ∷ 3 ∷ 4 ∷ 5 ∷ 6 ∷ 7 ∷ []) ∷ []) x type
 unfolding carried
 carried-exactly x type = carried-under x type catalogues
 
@@ -136,13 +147,19 @@ same-type : (type : ℕ) (b : Bool) → T (not (eqb type type) || b) → T b
 same-type type b t = rw (eq-eqb type type refl) at t
 
 -- "Type 1 .. has a state of its own. Types 2 to 7 keep their admitted values": every type but 1 is of one kind in both
-pub one-kind : (x y type : ℕ) → carried x type ≡ true → carried y type ≡ true → sameKind (kindOf x type) (kindOf y type) ≡ (eqb x y || not (eqb type 1))
+pub one-kind : (x y type : ℕ) → carried x type ≡ true → carried y type ≡ true
+    → sameKind (kindOf x type) (kindOf y type) ≡ (eqb x y || not (eqb type 1))
 unfolding layouts
 one-kind x y type cx cy =
-    let other = every-carried (λ (x : ℕ) (type : ℕ) (k : Kind). allTypes (alikeUnder x type k) catalogues) tt x type cx in
+    let other =
+    every-carried (λ (x : ℕ) (type : ℕ) (k : Kind). allTypes (alikeUnder x type k) catalogues) tt x type cx in
     agreed _ _ (same-type type _ (every-carried (alikeUnder x type (kindOf x type)) other y type cy))
 
 -- a kind's number, which C sees, is the type's, except that of type 1 under catalogue 3.0, which is 31
-pub kind-number : (x type : ℕ) → carried x type ≡ true → layoutNo (kindOf x type) ≡ cond (eqb x 3) (cond (eqb type 1) 31 type) type
+pub kind-number : (x type : ℕ) → carried x type ≡ true
+    → layoutNo (kindOf x type) ≡ cond (eqb x 3) (cond (eqb type 1) 31 type) type
 unfolding layouts
-kind-number x type c = eqb→eq _ _ (every-carried (λ (x : ℕ) (type : ℕ) (k : Kind). eqb (layoutNo k) (cond (eqb x 3) (cond (eqb type 1) 31 type) type)) tt x type c)
+kind-number x type c =
+    eqb→eq _ _ (every-carried
+    (λ (x : ℕ) (type : ℕ) (k : Kind). eqb (layoutNo k) (cond (eqb x 3) (cond (eqb type 1) 31 type) type))
+    tt x type c)

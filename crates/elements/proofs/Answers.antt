@@ -31,7 +31,8 @@ module _ (k : Kind) (w : ℕ) where
   pub without-data : w ≡ 0 → datRule k w ≡ Finding.Accepted
   without-data z = not-stale k w (λ s. s .other z)
 
-  pub by-layout : {l : Layout} → l ≡ layoutOf k → (w % 2 ≡ 1 → ⊥) → (w ≡ 0 → ⊥) → datRule k w ≡ cond (l .dat) (Finding.Refused (codeAt 12 0)) Finding.Accepted
+  pub by-layout : {l : Layout} → l ≡ layoutOf k → (w % 2 ≡ 1 → ⊥) → (w ≡ 0 → ⊥)
+      → datRule k w ≡ cond (l .dat) (Finding.Refused (codeAt 12 0)) Finding.Accepted
   unfolding datRule
   by-layout e h z = rw (ne-eqb _ _ h, ne-eqb _ _ z, e)
 
@@ -47,12 +48,14 @@ module _ (k : Kind) (w : ℕ) (f : Finding) (e : f ≡ checkRows w (rowsOf k)) w
 
 -- from what a glance shows, and the rule of DAT
 pub shown : (k : Kind) {w : ℕ} {listed stale : Bool} → Shows (rowsOf k) w listed → listed ≡ true
-    → datRule k w ≡ cond stale (Finding.Refused (codeAt 12 0)) Finding.Accepted → stale ≡ false → Finding.Accepted ≡ elementCheck k w
+    → datRule k w ≡ cond stale (Finding.Refused (codeAt 12 0)) Finding.Accepted → stale ≡ false
+    → Finding.Accepted ≡ elementCheck k w
 unfolding elementCheck
 shown k s on e off = rw (s .accepted on, e, off)
 
 -- .. and so of the number that was read at a place
-pub number-at : (k : Kind) {b : List ℕ} {at : ℕ} {g : Glance} {f : Finding} → Glanced k b at g → f ≡ elementCheck k (g .word) → f ≡ elementCheck k (number (take (widthOf k) (drop at b)))
+pub number-at : (k : Kind) {b : List ℕ} {at : ℕ} {g : Glance} {f : Finding} → Glanced k b at g
+    → f ≡ elementCheck k (g .word) → f ≡ elementCheck k (number (take (widthOf k) (drop at b)))
 number-at k s e = e ∙ ap (elementCheck k) (s .read)
 
 -- from the values that were read
@@ -61,19 +64,21 @@ pub values-state : (k : Kind) (w : ℕ) {vs : List ℕ} {s : Element} → vs ≡
 unfolding stateRead
 values-state k w e h = h ∙ ap (elementOf k) e
 
--- the rows of a kind are in the table
-pub in-table : (k : Kind) (l : Layout) → l ≡ layoutOf k → (l .first + l .count ≤ rowTotal) × (l .count ≤ 24)
-in-table k l is = let g = cover k in rw is (g .inside, g .few)
+-- the rows of a kind are among all rows
+pub in-rows : (k : Kind) (l : Layout) → l ≡ layoutOf k → (l .first + l .count ≤ rowTotal) × (l .count ≤ 24)
+in-rows k l is = let g = cover k in rw is (g .inside, g .few)
 
 -- from what the callees of `word_of` ensure
-module _ (e : Element) (k : Kind) (vs : List ℕ) (l : Layout) (ek : k ≡ kindIn e) (ev : vs ≡ padded (elementValues e)) (el : l ≡ layoutOf k) where
+module _ (e : Element) (k : Kind) (vs : List ℕ) (l : Layout) (ek : k ≡ kindIn e) (ev : vs ≡ padded (elementValues e))
+    (el : l ≡ layoutOf k) where
   pub whole : composeOf (rowsFrom (l .first) (l .count)) vs ≡ wordOf e
   whole =
       ap (λ (m : Layout). composeOf (rowsFrom (m .first) (m .count)) vs) el
       ∙ ap₂ (λ (j : Kind) (us : List ℕ). composeOf (rowsOf j) us) ek ev
       ∙ compose-padded e
 
-  pub spans : (l .first + l .count ≤ rowTotal) × (l .count ≤ 24) × (composeOf (rowsFrom (l .first) (l .count)) vs < 4294967296)
+  pub spans : (l .first + l .count ≤ rowTotal) × (l .count ≤ 24)
+      × (composeOf (rowsFrom (l .first) (l .count)) vs < 4294967296)
   spans =
-      let g = in-table k l el in
+      let g = in-rows k l el in
       (g .0, g .1, rw whole (word-small e))

@@ -1,5 +1,5 @@
--- "Where DAT is 0, all other bits must be 0": a state that breaks this is refused with 12, any other is accepted; a number is
--- accepted exactly if it keeps this and its fields have listed values.
+-- "Where DAT is 0, all other bits must be 0": a state that breaks this is refused with 12, any other is accepted; a
+-- number is accepted exactly if it keeps this and its fields have listed values.
 -- Assumes nothing.
 use mathlib.Core.Path.{_≡_, refl, _∙_}
 use mathlib.Core.Bool.{Bool, true, false}
@@ -49,8 +49,10 @@ module _ (k : Kind) (w : ℕ) where
   pub dat-either : ((Stale k w → ⊥) × (datRule k w ≡ Finding.Accepted)) ⊎ Stale k w
   dat-either = go (layoutOf k .dat) (eqb (w % 2) 1) (eqb w 0) refl refl refl
     where
-      go : (has one none : Bool) → layoutOf k .dat ≡ has → eqb (w % 2) 1 ≡ one → eqb w 0 ≡ none → ((Stale k w → ⊥) × (datRule k w ≡ Finding.Accepted)) ⊎ Stale k w
-      go false one none a b c = inl ((λ s. absurd (let z : _≡_ {A = ℕ} 0 1 = cc (a, s .dat) in omega arith)), dat-absent a)
+      go : (has one none : Bool) → layoutOf k .dat ≡ has → eqb (w % 2) 1 ≡ one → eqb w 0 ≡ none
+          → ((Stale k w → ⊥) × (datRule k w ≡ Finding.Accepted)) ⊎ Stale k w
+      go false one none a b c =
+          inl ((λ s. absurd (let z : _≡_ {A = ℕ} 0 1 = cc (a, s .dat) in omega arith)), dat-absent a)
       go true true none a b c = inl ((λ s. s .silent (eqb-true _ _ b)), dat-one a (eqb-true _ _ b))
       go true false true a b c = inl ((λ s. s .other (eqb-true _ _ c)), dat-none a (eqb-false _ _ b) (eqb-true _ _ c))
       go true false false a b c = inr (record { dat = a; silent = eqb-false _ _ b; other = eqb-false _ _ c })
@@ -71,15 +73,20 @@ module _ (e : Element) where
   state-stale s = state-check e ∙ dat-stale (kindIn e) (wordOf e) s
 
 -- a number is accepted exactly if each field has a listed value and it is not stale
-pub element-exactly : (k : Kind) (w : ℕ) → (elementCheck k w ≡ Finding.Accepted) ↔ (Within (rowsOf k) (valuesOf w (rowsOf k)) × (Stale k w → ⊥))
+pub element-exactly : (k : Kind) (w : ℕ)
+    → (elementCheck k w ≡ Finding.Accepted) ↔ (Within (rowsOf k) (valuesOf w (rowsOf k)) × (Stale k w → ⊥))
 unfolding elementCheck
 element-exactly k w = (
-  (λ e. let f = accepted-fields k w e in (accepted-within w (rowsOf k) f, (λ s. let z : _≡_ {A = ℕ} 0 1 = cc (rw (f, dat-stale k w s) at e) in omega arith))),
+  (λ e. let f = accepted-fields k w e in (
+    accepted-within w (rowsOf k) f,
+    (λ s. let z : _≡_ {A = ℕ} 0 1 = cc (rw (f, dat-stale k w s) at e) in omega arith),
+  )),
   (λ h. rw (within-accepted w (rowsOf k) (h .0)) (not-stale k w (h .1))),
 )
 
 -- .. and is refused exactly if a field has not, naming the lowest such field, or else if it is stale, with 12
-pub element-first : (k : Kind) (w : ℕ) {x : Refusal} → FirstUnlisted w (rowsOf k) x → elementCheck k w ≡ Finding.Refused x
+pub element-first : (k : Kind) (w : ℕ) {x : Refusal} → FirstUnlisted w (rowsOf k) x
+    → elementCheck k w ≡ Finding.Refused x
 unfolding elementCheck
 element-first k w q = rw (refuses-first w (rowsOf k) q)
 
@@ -88,7 +95,8 @@ pub element-names : (k : Kind) (w : ℕ) {x : Refusal} → elementCheck k w ≡ 
 unfolding elementCheck
 element-names k w {x} e = go (checkRows w (rowsOf k)) refl e
   where
-    silent : ((Stale k w → ⊥) × (datRule k w ≡ Finding.Accepted)) ⊎ Stale k w → datRule k w ≡ Finding.Refused x → Stale k w × (x ≡ codeAt 12 0)
+    silent : ((Stale k w → ⊥) × (datRule k w ≡ Finding.Accepted)) ⊎ Stale k w → datRule k w ≡ Finding.Refused x
+        → Stale k w × (x ≡ codeAt 12 0)
     silent (inl q) d = absurd (let z : _≡_ {A = ℕ} 0 1 = cc (q .1) in omega arith)
     silent (inr s) d = (s, cc (dat-stale k w s))
 

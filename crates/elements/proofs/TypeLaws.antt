@@ -1,5 +1,5 @@
--- Looking up a catalogue by its X: if none has this X, no kind is found. And what a test says of every line of the catalogues holds of
--- every type that is carried and its kind.
+-- Looking up a catalogue by its X: if none has this X, no kind is found. And what a test says of every line of the
+-- catalogues holds of every type that is carried and its kind.
 -- Assumes nothing.
 use mathlib.Core.Path.{_≡_, _∙_, refl, sym, ap, subst⁻¹}
 use mathlib.Core.Bool.{Bool, true, false, cond, _&&_}
@@ -22,7 +22,9 @@ Unknown x (c ∷ cs) = (x ≡ c .x → ⊥) × Unknown x cs
 
 pub not-carried : (x type : ℕ) (cs : List Catalogue) → Unknown x cs → OptionalKind.None ≡ findUnder x type cs
 not-carried x type [] u = refl
-not-carried x type (c ∷ cs) u = not-carried x type cs (u .1) ∙ sym (ap (λ (b : Bool). cond b (findIn type (c .types)) (findUnder x type cs)) (ne-eqb x (c .x) (u .0)))
+not-carried x type (c ∷ cs) u =
+    not-carried x type cs (u .1)
+    ∙ sym (ap (λ (b : Bool). cond b (findIn type (c .types)) (findUnder x type cs)) (ne-eqb x (c .x) (u .0)))
 
 -- ---- every type that is carried
 
@@ -30,21 +32,26 @@ abbrev pub allTypes : (ℕ → ℕ → Kind → Bool) → List Catalogue → Boo
 allTypes test [] = true
 allTypes test (c ∷ cs) = allLines (test (c .x)) (c .types) && allTypes test cs
 
-every-found : (test : ℕ → ℕ → Kind → Bool) (cs : List Catalogue) → T (allTypes test cs) → (x type : ℕ) {k : Kind} → findUnder x type cs ≡ OptionalKind.Some k → T (test x type k)
+every-found : (test : ℕ → ℕ → Kind → Bool) (cs : List Catalogue) → T (allTypes test cs) → (x type : ℕ) {k : Kind}
+    → findUnder x type cs ≡ OptionalKind.Some k → T (test x type k)
 every-found test [] t x type e = absurd (let z : _≡_ {A = ℕ} 0 1 = cc in omega arith)
-every-found test (c ∷ cs) t x type {k} e = at (eqb x (c .x)) refl (every-found test cs (both-right (allLines (test (c .x)) (c .types)) (allTypes test cs) t) x type) e
+every-found test (c ∷ cs) t x type {k} e =
+    at (eqb x (c .x)) refl
+    (every-found test cs (both-right (allLines (test (c .x)) (c .types)) (allTypes test cs) t) x type) e
   where
     at : (b : Bool) → eqb x (c .x) ≡ b → (findUnder x type cs ≡ OptionalKind.Some k → T (test x type k))
         → cond b (findIn type (c .types)) (findUnder x type cs) ≡ OptionalKind.Some k → T (test x type k)
     at true q rest e =
         subst⁻¹ (λ (y : ℕ). T (test y type k)) (eqb-true x (c .x) q)
-        (every-line (test (c .x)) type (c .types) (both-left (allLines (test (c .x)) (c .types)) (allTypes test cs) t) e)
+        (every-line (test (c .x)) type (c .types)
+        (both-left (allLines (test (c .x)) (c .types)) (allTypes test cs) t) e)
     at false q rest e = rest e
 
 its-kind : (s : OptionalKind) → isCarried s ≡ true → s ≡ OptionalKind.Some (carriedKind s)
 its-kind (OptionalKind.Some k) e = refl
 its-kind OptionalKind.None e = absurd (let z : _≡_ {A = ℕ} 0 1 = cc in omega arith)
 
-pub every-carried : (test : ℕ → ℕ → Kind → Bool) → T (allTypes test catalogues) → (x type : ℕ) → carried x type ≡ true → T (test x type (kindOf x type))
+pub every-carried : (test : ℕ → ℕ → Kind → Bool) → T (allTypes test catalogues) → (x type : ℕ) → carried x type ≡ true
+    → T (test x type (kindOf x type))
 unfolding carried kindOf
 every-carried test t x type e = every-found test catalogues t x type (its-kind (findType x type) e)

@@ -1,5 +1,6 @@
 // The floor of elements: which types are carried, the check of an element, and a state as a number and back. It reads
-// the rows of a kind's layout, or only takes a glance where that is enough, and names no kind but the one it gives where there is none.
+// the rows of a kind's layout, or only takes a glance where that is enough, and names no kind
+// but the one it gives where there is none.
 // It knows no image and writes nothing.
 mod types;
 
@@ -17,10 +18,11 @@ ghost use Rattle.octets.specs.Octets.{number};
 ghost use Rattle.rows.specs.declared.Finding.{Finding};
 ghost use Rattle.rows.specs.Values.{codeAt, checkRows, valuesRead};
 ghost use Rattle.kinds.specs.Kinds.{layoutNo, widthOf, rowsOf};
-ghost use Rattle.elements.specs.Elements.{carried, kindOf, kindNumbered, sameKind, datRule, elementCheck, stateRead, wordOf};
+ghost use Rattle.elements.specs.Elements.{carried, kindOf, kindNumbered, sameKind, datRule, elementCheck};
+ghost use Rattle.elements.specs.Elements.{stateRead, wordOf};
 
-// Checks an element's number: the fields from bit 0 up, then the rule of DAT. Its rows are read only if a glance doesn't show that it
-// is accepted.
+// Checks an element's number: the fields from bit 0 up, then the rule of DAT. Its rows are read only if a glance
+// doesn't show that it is accepted.
 pub fn check_element(word: u32, kind: Kind) -> Finding
     ensures { λ r. ⌜ r ≡ elementCheck kind word ⌝ }
 {

@@ -1,4 +1,5 @@
-// Which types are carried under each catalogue's X, and as which kind. Written by catalogue/write.py from catalogue/types.tsv.
+// Which types are carried under each catalogue's X, and as which kind.
+// Written by catalogue/write.py from catalogue/types.tsv.
 use kinds::Kind;
 use kinds::OptionalKind;
 ghost use mathlib.Core.Path.{_≡_};

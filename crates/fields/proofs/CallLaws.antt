@@ -20,10 +20,12 @@ use Rattle.kinds.proofs.Lookup.{every-line}
 use Rattle.kinds.proofs.KindLaws.{every-kind, kind-found, element-kind}
 use Rattle.elements.specs.Elements.{sameKind, wordOf}
 use Rattle.history.specs.declared.Answer.{Answer}
-use Rattle.history.specs.Verdict.{Refused, naming, Verdict, refused, done, then, refusalAt, _unless_⨾_, numbers, told, Leaves}
+use Rattle.history.specs.Verdict.{Refused, naming, Verdict, refused, done, then, refusalAt, _unless_⨾_, numbers, told}
+use Rattle.history.specs.Verdict.{Leaves}
 use Rattle.history.specs.Table.{Plan, kindAt}
 use Rattle.history.specs.Image.{Image, element, foundIn, _of_⨾_, imageBytes, readImage}
-use Rattle.history.specs.Calls.{readPlan, placed, readStateUnder, readStateCall, checkState, writeStateUnder, writeStateCall}
+use Rattle.history.specs.Calls.{readPlan, placed, readStateUnder, readStateCall, checkState, writeStateUnder}
+use Rattle.history.specs.Calls.{writeStateCall}
 use Rattle.elements.proofs.Laws.{state-kind}
 use Rattle.history.proofs.OutputLaws.{leaves-as, refused-leaves}
 use Rattle.history.proofs.StateLaws.{stateAt}
@@ -41,7 +43,8 @@ refuses : (r : Refused) → Refuses (refused r)
 unfolding told
 refuses r out = refused-leaves (refused r) out refl refl
 
-all-refuse : (f : Element → Verdict (List ℕ)) (v : Verdict Element) → ((s : Element) → Refuses (f s)) → Refuses (then v f)
+all-refuse : (f : Element → Verdict (List ℕ)) (v : Verdict Element) → ((s : Element) → Refuses (f s))
+    → Refuses (then v f)
 all-refuse f (refused r) h = refuses r
 all-refuse f (done s) h = h s
 
@@ -59,7 +62,10 @@ its-kind j e q =
 
 -- a number that no kind has is not kind j's
 not-its : (n : ℕ) (j : Kind) → findNumbered n ≡ OptionalKind.None → eqb n (layoutNo j) ≡ false
-not-its n j e = ne-eqb n (layoutNo j) (λ q. let s : OptionalKind.Some j ≡ OptionalKind.None = sym (kind-found j) ∙ ap findNumbered (sym q) ∙ e in absurd (let z : _≡_ {A = ℕ} 0 1 = cc in omega arith))
+not-its n j e =
+    ne-eqb n (layoutNo j)
+    (λ q. let s : OptionalKind.Some j ≡ OptionalKind.None = sym (kind-found j) ∙ ap findNumbered (sym q) ∙ e in
+    absurd (let z : _≡_ {A = ℕ} 0 1 = cc in omega arith))
 
 -- no kind has the number 0, nor one above 255
 number-some : (k : Kind) → 0 < layoutNo k
@@ -84,28 +90,35 @@ module _ (i number : ℕ) (f : Refusal) where
   refused-by v = then v λ was. refusalAt 22 i unless eqb number (layoutNo (kindIn was)) ⨾ refused (foundIn f i)
 
   -- a reading whose kind is 0 is a refusal, and its answer is the call's
-  told-before : (v : Verdict Element) {x : Plain} → x ≡ plainOf (readingOf v) → x .kind ≡ 0 → x .answer ≡ told (refused-by v)
+  told-before : (v : Verdict Element) {x : Plain} → x ≡ plainOf (readingOf v) → x .kind ≡ 0
+      → x .answer ≡ told (refused-by v)
   unfolding told readingOf plainOf shownPlain refused-by
   told-before (refused r) e z = ap (λ (x : Plain). x .answer) e
-  told-before (done s) e z = absurd (let q = number-some (kindIn s) in let w = ap (λ (x : Plain). x .kind) e in omega arith)
+  told-before (done s) e z =
+      absurd (let q = number-some (kindIn s) in let w = ap (λ (x : Plain). x .kind) e in omega arith)
 
-  told-after : (v : Verdict Element) {x : Plain} {r : Answer} → x ≡ plainOf (readingOf v) → (x .kind ≡ 0 → ⊥) → (b : Bool) → eqb number (x .kind) ≡ b
+  told-after : (v : Verdict Element) {x : Plain} {r : Answer} → x ≡ plainOf (readingOf v) → (x .kind ≡ 0 → ⊥)
+      → (b : Bool) → eqb number (x .kind) ≡ b
       → r ≡ told {A = List ℕ} (refusalAt 22 i unless b ⨾ refused (foundIn f i)) → r ≡ told (refused-by v)
   unfolding told readingOf plainOf shownPlain refused-by
   told-after (refused y) e n d q w = absurd (n (ap (λ (x : Plain). x .kind) e))
   told-after (done s) e n d q w =
-      w ∙ ap (λ (b : Bool). told {A = List ℕ} (refusalAt 22 i unless b ⨾ refused (foundIn f i))) (sym q ∙ ap (λ (y : Plain). eqb number (y .kind)) e)
+      w ∙ ap (λ (b : Bool). told {A = List ℕ} (refusalAt 22 i unless b ⨾ refused (foundIn f i)))
+      (sym q ∙ ap (λ (y : Plain). eqb number (y .kind)) e)
 
-module _ (t a : List ℕ) (i : ℕ) {x : Plain} (is : x ≡ plainOf (readingOf (readStateCall t a i))) (number : ℕ) (f : Refusal) where
+module _ (t a : List ℕ) (i : ℕ) {x : Plain} (is : x ≡ plainOf (readingOf (readStateCall t a i))) (number : ℕ)
+    (f : Refusal) where
   pub refuses-first : x .kind ≡ 0 → x .answer ≡ told (stateRefused t a i number f)
   unfolding stateRefused refused-by
   refuses-first z = told-before i number f (readStateCall t a i) is z
 
-  pub refuses-22 : {r : Answer} → (x .kind ≡ 0 → ⊥) → (x .kind ≡ number → ⊥) → r ≡ numbers (naming 22 i 255) 0 → r ≡ told (stateRefused t a i number f)
+  pub refuses-22 : {r : Answer} → (x .kind ≡ 0 → ⊥) → (x .kind ≡ number → ⊥) → r ≡ numbers (naming 22 i 255) 0
+      → r ≡ told (stateRefused t a i number f)
   unfolding stateRefused refused-by told
   refuses-22 n d w = told-after i number f (readStateCall t a i) is n false (ne-eqb number (x .kind) (λ q. d (sym q))) w
 
-  pub refuses-it : {r : Answer} → (x .kind ≡ 0 → ⊥) → x .kind ≡ number → r ≡ numbers (foundIn f i) 0 → r ≡ told (stateRefused t a i number f)
+  pub refuses-it : {r : Answer} → (x .kind ≡ 0 → ⊥) → x .kind ≡ number → r ≡ numbers (foundIn f i) 0
+      → r ≡ told (stateRefused t a i number f)
   unfolding stateRefused refused-by told
   refuses-it n d w = told-after i number f (readStateCall t a i) is n true (eq-eqb number (x .kind) (sym d)) w
 
@@ -122,8 +135,11 @@ state-refuses t a i number f = all-refuse _ (readStateCall t a i) (λ s. either 
 module _ (t a : List ℕ) (i number : ℕ) (fields : List ℕ) (position : ℕ) where
   -- two ways to go on that agree for each kind, once 22 is tested, give the same call
   pub of-kinds : (f g : Kind → Verdict (List ℕ)) (v : Verdict Element)
-      → ((j : Kind) → (refusalAt 22 i unless eqb number (layoutNo j) ⨾ f j) ≡ (refusalAt 22 i unless eqb number (layoutNo j) ⨾ g j))
-      → then v (λ was. refusalAt 22 i unless eqb number (layoutNo (kindIn was)) ⨾ f (kindIn was)) ≡ then v (λ was. refusalAt 22 i unless eqb number (layoutNo (kindIn was)) ⨾ g (kindIn was))
+      → ((j : Kind)
+      → (refusalAt 22 i unless eqb number (layoutNo j) ⨾ f j)
+      ≡ (refusalAt 22 i unless eqb number (layoutNo j) ⨾ g j))
+      → then v (λ was. refusalAt 22 i unless eqb number (layoutNo (kindIn was)) ⨾ f (kindIn was))
+      ≡ then v (λ was. refusalAt 22 i unless eqb number (layoutNo (kindIn was)) ⨾ g (kindIn was))
   of-kinds f g (refused r) h = refl
   of-kinds f g (done s) h = h (kindIn s)
 
@@ -142,7 +158,8 @@ module _ (t a : List ℕ) (i number : ℕ) (fields : List ℕ) (position : ℕ) 
       writeStateCall t a i (elementOf k (valuesIn k fields)) position
 
   -- testing 22 twice is testing it once
-  twice : (v : Verdict ℕ) (f : ℕ → Verdict (List ℕ)) (b : Bool) → (refusalAt 22 i unless b ⨾ then (refusalAt 22 i unless b ⨾ v) f) ≡ then (refusalAt 22 i unless b ⨾ v) f
+  twice : (v : Verdict ℕ) (f : ℕ → Verdict (List ℕ)) (b : Bool)
+      → (refusalAt 22 i unless b ⨾ then (refusalAt 22 i unless b ⨾ v) f) ≡ then (refusalAt 22 i unless b ⨾ v) f
   twice v f true = refl
   twice v f false = refl
 
@@ -151,65 +168,88 @@ module _ (t a : List ℕ) (i number : ℕ) (fields : List ℕ) (position : ℕ) 
   checked e k = refusalAt 22 i unless sameKind (kindIn e) k ⨾ element k (wordOf e) of i ⨾ done (wordOf e)
 
   -- to test what reading refuses, and 22, before a write changes nothing: the write tests the same first
-  after-reading : (e : Element) → then (readStateCall t a i) (λ was. refusalAt 22 i unless sameKind (kindIn e) (kindIn was) ⨾ writeStateCall t a i e position) ≡ writeStateCall t a i e position
+  after-reading : (e : Element)
+      → then (readStateCall t a i)
+      (λ was. refusalAt 22 i unless sameKind (kindIn e) (kindIn was) ⨾ writeStateCall t a i e position)
+      ≡ writeStateCall t a i e position
   unfolding readStateCall readStateUnder writeStateCall writeStateUnder checkState
   after-reading e = planned (readPlan t)
     where
       numbered : (s : Element) (k : Kind) (f : ℕ → Verdict (List ℕ)) (b : Bool) → kindIn s ≡ k
-          → then (refusalAt 13 i unless b ⨾ done s) (λ was. refusalAt 22 i unless sameKind (kindIn e) (kindIn was) ⨾ then (refusalAt 13 i unless b ⨾ checked e k) f)
+          → then (refusalAt 13 i unless b ⨾ done s)
+          (λ was. refusalAt 22 i unless sameKind (kindIn e) (kindIn was) ⨾
+          then (refusalAt 13 i unless b ⨾ checked e k) f)
           ≡ then (refusalAt 13 i unless b ⨾ checked e k) f
       numbered s k f false q = refl
       numbered s k f true q =
-          ap (λ (j : Kind). refusalAt 22 i unless sameKind (kindIn e) j ⨾ then (checked e k) f) q ∙ twice (element k (wordOf e) of i ⨾ done (wordOf e)) f (sameKind (kindIn e) k)
+          ap (λ (j : Kind). refusalAt 22 i unless sameKind (kindIn e) j ⨾ then (checked e k) f) q
+          ∙ twice (element k (wordOf e) of i ⨾ done (wordOf e)) f (sameKind (kindIn e) k)
 
       imaged : (p : Plan) (v : Verdict Image)
           → then (then v λ m. refusalAt 13 i unless ltb i (length (p .kinds)) ⨾ done (stateAt p m i))
-          (λ was. refusalAt 22 i unless sameKind (kindIn e) (kindIn was) ⨾ then v λ m. then (checkState (p .kinds) i e) λ w. done (imageBytes p (placed m i w position)))
+          (λ was. refusalAt 22 i unless sameKind (kindIn e) (kindIn was) ⨾
+          then v λ m. then (checkState (p .kinds) i e) λ w. done (imageBytes p (placed m i w position)))
           ≡ (then v λ m. then (checkState (p .kinds) i e) λ w. done (imageBytes p (placed m i w position)))
       imaged p (refused r) = refl
-      imaged p (done m) = numbered (stateAt p m i) (kindAt (p .kinds) i) _ (ltb i (length (p .kinds))) (state-kind (kindAt (p .kinds) i) (getD (m .words) i 0))
+      imaged p (done m) =
+          numbered (stateAt p m i) (kindAt (p .kinds) i) _ (ltb i (length (p .kinds)))
+          (state-kind (kindAt (p .kinds) i) (getD (m .words) i 0))
 
       planned : (v : Verdict Plan)
-          → then (then v λ p. readStateUnder p a i) (λ was. refusalAt 22 i unless sameKind (kindIn e) (kindIn was) ⨾ then v λ p. writeStateUnder p a i e position)
+          → then (then v λ p. readStateUnder p a i)
+          (λ was. refusalAt 22 i unless sameKind (kindIn e) (kindIn was) ⨾
+          then v λ p. writeStateUnder p a i e position)
           ≡ (then v λ p. writeStateUnder p a i e position)
       planned (refused r) = refl
       planned (done p) = imaged p (readImage p a)
 
-  pub writes : {k : Kind} → findNumbered number ≡ OptionalKind.Some k → checkNamed (rowsOf k) (valuesIn k fields) ≡ Finding.Accepted
+  pub writes : {k : Kind} → findNumbered number ≡ OptionalKind.Some k
+      → checkNamed (rowsOf k) (valuesIn k fields) ≡ Finding.Accepted
       → writeFieldsCall t a i number fields position ≡ writeStateCall t a i (elementOf k (valuesIn k fields)) position
   unfolding writeFieldsCall
   writes {k} e f =
       let s = elementOf k (valuesIn k fields) in
       let written : Verdict (List ℕ) = writeStateCall t a i s position in
       let no : number ≡ layoutNo (kindIn s) = its-number e ∙ ap layoutNo (sym (element-kind k (valuesIn k fields))) in
-      of-kinds valued (λ j. written) (readStateCall t a i) (only valued (λ j. written) e (ap (λ (v : Finding). v of i ⨾ written) f))
-      ∙ ap (λ (n : ℕ). then (readStateCall t a i) (λ was. refusalAt 22 i unless eqb n (layoutNo (kindIn was)) ⨾ written)) no
+      of-kinds valued (λ j. written) (readStateCall t a i)
+      (only valued (λ j. written) e (ap (λ (v : Finding). v of i ⨾ written) f))
+      ∙ ap (λ (n : ℕ). then (readStateCall t a i)
+      (λ was. refusalAt 22 i unless eqb n (layoutNo (kindIn was)) ⨾ written)) no
       ∙ after-reading s
 
   -- from what the code has: the kind of the number, if there is one, the values, what is found of them, the state
   module _ {s : OptionalKind} (s-is : s ≡ findNumbered number) where
-    pub no-kind : s ≡ OptionalKind.None → writeFieldsCall t a i number fields position ≡ stateRefused t a i number (codeAt 22 255)
+    pub no-kind : s ≡ OptionalKind.None
+        → writeFieldsCall t a i number fields position ≡ stateRefused t a i number (codeAt 22 255)
     unfolding writeFieldsCall stateRefused
     no-kind e =
         let not-it : (j : Kind) → eqb number (layoutNo j) ≡ false = λ j. not-its number j (sym s-is ∙ e) in
         of-kinds valued (λ k. refusalAt 22 i) (readStateCall t a i)
-        (λ j. ap (λ (b : Bool). refusalAt 22 i unless b ⨾ valued j) (not-it j) ∙ sym (ap (λ (b : Bool). refusalAt 22 i unless b ⨾ refusalAt 22 i) (not-it j)))
+        (λ j. ap (λ (b : Bool). refusalAt 22 i unless b ⨾ valued j) (not-it j)
+        ∙ sym (ap (λ (b : Bool). refusalAt 22 i unless b ⨾ refusalAt 22 i) (not-it j)))
 
-    module _ {k : Kind} (k-is : s ≡ OptionalKind.Some k) {vs : List ℕ} (vs-is : vs ≡ valuesIn k fields) {f : Finding} (f-is : f ≡ checkNamed (rowsOf k) vs) where
+    module _ {k : Kind} (k-is : s ≡ OptionalKind.Some k) {vs : List ℕ} (vs-is : vs ≡ valuesIn k fields) {f : Finding}
+        (f-is : f ≡ checkNamed (rowsOf k) vs) where
       found : {g : Finding} → f ≡ g → checkNamed (rowsOf k) (valuesIn k fields) ≡ g
       found e = sym (f-is ∙ ap (checkNamed (rowsOf k)) vs-is) ∙ e
 
-      pub no-value : {r : Refusal} → f ≡ Finding.Refused r → writeFieldsCall t a i number fields position ≡ stateRefused t a i number r
+      pub no-value : {r : Refusal} → f ≡ Finding.Refused r
+          → writeFieldsCall t a i number fields position ≡ stateRefused t a i number r
       unfolding writeFieldsCall stateRefused
       no-value {r} e =
           of-kinds valued (λ k. refused (foundIn r i)) (readStateCall t a i)
-          (only valued (λ k. refused (foundIn r i)) (sym s-is ∙ k-is) (ap (λ (v : Finding). v of i ⨾ writeStateCall t a i (elementOf k (valuesIn k fields)) position) (found e)))
+          (only valued (λ k. refused (foundIn r i)) (sym s-is ∙ k-is)
+          (ap (λ (v : Finding). v of i ⨾
+          writeStateCall t a i (elementOf k (valuesIn k fields)) position) (found e)))
 
-      pub state-writes : f ≡ Finding.Accepted → {e : Element} → e ≡ elementOf k vs → writeStateCall t a i e position ≡ writeFieldsCall t a i number fields position
+      pub state-writes : f ≡ Finding.Accepted → {e : Element} → e ≡ elementOf k vs
+          → writeStateCall t a i e position ≡ writeFieldsCall t a i number fields position
       state-writes g e-is =
-          ap (λ (e : Element). writeStateCall t a i e position) (e-is ∙ ap (elementOf k) vs-is) ∙ sym (writes (sym s-is ∙ k-is) (found g))
+          ap (λ (e : Element). writeStateCall t a i e position) (e-is ∙ ap (elementOf k) vs-is)
+          ∙ sym (writes (sym s-is ∙ k-is) (found g))
 
 -- ---- what a refused call leaves
 
-pub refused-settles : {v w : Verdict (List ℕ)} → v ≡ w → Refuses w → (out : List ℕ) {r : Answer} → r ≡ told w → Leaves v out r out
+pub refused-settles : {v w : Verdict (List ℕ)} → v ≡ w → Refuses w → (out : List ℕ) {r : Answer} → r ≡ told w
+    → Leaves v out r out
 refused-settles e q out t = leaves-as out (sym e) (rw t (q out))

@@ -1,4 +1,5 @@
--- What the three loops over a kind's rows keep: the one that hands fields out, the one that takes them in, and the check of values.
+-- What the three loops over a kind's rows keep: the one that hands fields out, the one that
+-- takes them in, and the check of values.
 -- Assumes nothing.
 use Prim.Native.Nat.{ℕ, zero, suc, _+_, _-_, _≤_, _<_}
 use native.Mathlib.Omega.{arith}
@@ -36,21 +37,24 @@ none i = eqb (rowAt i .top) 0
 
 -- one more row, at the end
 shown-on : (t b : Bool) (xs : List ℕ) (v x : ℕ)
-    → cond t (cond b xs (xs ++ (x ∷ []))) (v ∷ cond b xs (xs ++ (x ∷ []))) ≡ cond b (cond t xs (v ∷ xs)) (cond t xs (v ∷ xs) ++ (x ∷ []))
+    → cond t (cond b xs (xs ++ (x ∷ []))) (v ∷ cond b xs (xs ++ (x ∷ [])))
+    ≡ cond b (cond t xs (v ∷ xs)) (cond t xs (v ∷ xs) ++ (x ∷ []))
 shown-on true true xs v x = refl
 shown-on true false xs v x = refl
 shown-on false true xs v x = refl
 shown-on false false xs v x = refl
 
 shown-snoc : (n i : ℕ) (vs : List ℕ) → n < length vs
-    → shown (rowsFrom i (suc n)) vs ≡ cond (none (i + n)) (shown (rowsFrom i n) vs) (shown (rowsFrom i n) vs ++ (getD vs n 0 ∷ []))
+    → shown (rowsFrom i (suc n)) vs
+    ≡ cond (none (i + n)) (shown (rowsFrom i n) vs) (shown (rowsFrom i n) vs ++ (getD vs n 0 ∷ []))
 shown-snoc n i [] h = absurd (omega arith)
 shown-snoc zero i (v ∷ vs) h = ap (λ (j : ℕ). cond (eqb (rowAt j .top) 0) [] (v ∷ [])) (sym (add-zero i))
 shown-snoc (suc n) i (v ∷ vs) h =
     let xs = shown (rowsFrom (suc i) n) vs in
     ap (λ (l : List ℕ). cond (none i) l (v ∷ l)) (shown-snoc n (suc i) vs (omega arith))
     ∙ shown-on (none i) (none (suc i + n)) xs v (getD vs n 0)
-    ∙ ap (λ (j : ℕ). cond (none j) (cond (none i) xs (v ∷ xs)) (cond (none i) xs (v ∷ xs) ++ (getD vs n 0 ∷ []))) (suc-add i n ∙ sym (add-suc i n))
+    ∙ ap (λ (j : ℕ). cond (none j) (cond (none i) xs (v ∷ xs)) (cond (none i) xs (v ∷ xs) ++ (getD vs n 0 ∷ [])))
+    (suc-add i n ∙ sym (add-suc i n))
 
 pub record Showing (first count : ℕ) (vs fields : List ℕ) (n k : ℕ) : Type 0 where
   pub bound : k ≤ count
@@ -61,11 +65,13 @@ pub record Showing (first count : ℕ) (vs fields : List ℕ) (n k : ℕ) : Type
 pub showing : (first count : ℕ) (vs : List ℕ) → Showing first count vs (replicate 32 0) 0 0
 showing first count vs = record { bound = omega arith; below = omega arith; size = refl; so-far = refl }
 
-module _ {first count : ℕ} {vs fields : List ℕ} {n k : ℕ} (s : Showing first count vs fields n k) (h : k < count) (few : count ≤ 24) (full : length vs ≡ 24) where
+module _ {first count : ℕ} {vs fields : List ℕ} {n k : ℕ} (s : Showing first count vs fields n k) (h : k < count)
+    (few : count ≤ 24) (full : length vs ≡ 24) where
   xs : List ℕ
   xs = shown (rowsFrom first k) vs
 
-  next-shown : (b : Bool) → none (first + k) ≡ b → shown (rowsFrom first (k + 1)) vs ≡ cond b xs (xs ++ (getD vs k 0 ∷ []))
+  next-shown : (b : Bool) → none (first + k) ≡ b
+      → shown (rowsFrom first (k + 1)) vs ≡ cond b xs (xs ++ (getD vs k 0 ∷ []))
   unfolding xs
   next-shown b e =
       ap (λ (j : ℕ). shown (rowsFrom first j) vs) (add-one k)
@@ -99,8 +105,10 @@ module _ {first count : ℕ} {vs fields : List ℕ} {n k : ℕ} (s : Showing fir
       }
 
   -- one turn: the row has a field, or is reserved
-  pub shows-on : {top : ℕ} → top ≡ rowAt (first + k) .top → {P Q : Type 0} → (P → top ≡ 0 → ⊥) → (Q → top ≡ 0) → {fields′ : List ℕ} {n′ : ℕ}
-      → (P × (fields′ ≡ set fields n (getD vs k 0)) × (n′ ≡ n + 1)) ⊎ (Q × (fields′ ≡ fields) × (n′ ≡ n)) → Showing first count vs fields′ n′ (k + 1)
+  pub shows-on : {top : ℕ} → top ≡ rowAt (first + k) .top → {P Q : Type 0} → (P → top ≡ 0 → ⊥) → (Q → top ≡ 0)
+      → {fields′ : List ℕ} {n′ : ℕ}
+      → (P × (fields′ ≡ set fields n (getD vs k 0)) × (n′ ≡ n + 1)) ⊎ (Q × (fields′ ≡ fields) × (n′ ≡ n))
+      → Showing first count vs fields′ n′ (k + 1)
   shows-on t p q (inl (x, e, f)) = rw (e, f) (shows (λ z. p x (t ∙ z)))
   shows-on t p q (inr (x, e, f)) = rw (e, f) (skips (sym t ∙ q x))
 
@@ -113,8 +121,10 @@ shown-all {first} {count} {vs} {fields} {n} {k} s h =
     λ i. record { count = size i; fields = so-far i }
 
 -- the fields of a state
-pub state-shown : (e : Element) {k : Kind} {l : Layout} {vs : List ℕ} {s : Shown} {a : Answer} → k ≡ kindIn e → l ≡ layoutOf k → vs ≡ padded (elementValues e)
-    → s ≡ shownIn (layoutRows l) vs → a ≡ unnamed 0 0 → _≡_ {A = Plain} (record { answer = a; kind = l .number; count = s .count; fields = s .fields }) (shownPlain e)
+pub state-shown : (e : Element) {k : Kind} {l : Layout} {vs : List ℕ} {s : Shown} {a : Answer} → k ≡ kindIn e
+    → l ≡ layoutOf k → vs ≡ padded (elementValues e)
+    → s ≡ shownIn (layoutRows l) vs → a ≡ unnamed 0 0
+    → _≡_ {A = Plain} (record { answer = a; kind = l .number; count = s .count; fields = s .fields }) (shownPlain e)
 unfolding shownPlain
 state-shown e p q r t u =
     let l-is = q ∙ ap layoutOf p in
@@ -139,19 +149,24 @@ taken-first true fs = refl
 taken-first false fs = refl
 
 taken-on : (b : Bool) (fs xs ys : List ℕ) (c : Bool) (u : ℕ)
-    → front b fs (xs ++ (taken c fs u ∷ [])) (ys ++ (taken c (drop 1 fs) u ∷ [])) ≡ front b fs xs ys ++ (taken c fs (cond b u (suc u)) ∷ [])
+    → front b fs (xs ++ (taken c fs u ∷ [])) (ys ++ (taken c (drop 1 fs) u ∷ []))
+    ≡ front b fs xs ys ++ (taken c fs (cond b u (suc u)) ∷ [])
 taken-on true fs xs ys c u = refl
 taken-on false fs xs ys c u = ap (λ (x : ℕ). getD fs 0 0 ∷ (ys ++ (cond c 0 x ∷ []))) (after-one fs u)
 
-spread-snoc : (n i : ℕ) (fs : List ℕ) → spread (rowsFrom i (suc n)) fs ≡ spread (rowsFrom i n) fs ++ (taken (none (i + n)) fs (own (rowsFrom i n)) ∷ [])
+spread-snoc : (n i : ℕ) (fs : List ℕ)
+    → spread (rowsFrom i (suc n)) fs ≡ spread (rowsFrom i n) fs ++ (taken (none (i + n)) fs (own (rowsFrom i n)) ∷ [])
 spread-snoc zero i fs = taken-first (none i) fs ∙ ap (λ (j : ℕ). taken (none j) fs 0 ∷ []) (sym (add-zero i))
 spread-snoc (suc n) i fs =
     let rs = rowsFrom (suc i) n in
     ap₂ (front (none i) fs) (spread-snoc n (suc i) fs) (spread-snoc n (suc i) (drop 1 fs))
     ∙ taken-on (none i) fs (spread rs fs) (spread rs (drop 1 fs)) (none (suc i + n)) (own rs)
-    ∙ ap (λ (j : ℕ). front (none i) fs (spread rs fs) (spread rs (drop 1 fs)) ++ (taken (none j) fs (cond (none i) (own rs) (suc (own rs))) ∷ [])) (suc-add i n ∙ sym (add-suc i n))
+    ∙ ap (λ (j : ℕ). front (none i) fs (spread rs fs) (spread rs (drop 1 fs))
+    ++ (taken (none j) fs (cond (none i) (own rs) (suc (own rs))) ∷ []))
+    (suc-add i n ∙ sym (add-suc i n))
 
-own-on : (t b : Bool) (u : ℕ) → cond t (cond b u (suc u)) (suc (cond b u (suc u))) ≡ cond b (cond t u (suc u)) (suc (cond t u (suc u)))
+own-on : (t b : Bool) (u : ℕ)
+    → cond t (cond b u (suc u)) (suc (cond b u (suc u))) ≡ cond b (cond t u (suc u)) (suc (cond t u (suc u)))
 own-on true true u = refl
 own-on true false u = refl
 own-on false true u = refl
@@ -163,7 +178,8 @@ own-snoc (suc n) i =
     let u = own (rowsFrom (suc i) n) in
     ap (λ (m : ℕ). cond (none i) m (suc m)) (own-snoc n (suc i))
     ∙ own-on (none i) (none (suc i + n)) u
-    ∙ ap (λ (j : ℕ). cond (none j) (cond (none i) u (suc u)) (suc (cond (none i) u (suc u)))) (suc-add i n ∙ sym (add-suc i n))
+    ∙ ap (λ (j : ℕ). cond (none j) (cond (none i) u (suc u)) (suc (cond (none i) u (suc u))))
+    (suc-add i n ∙ sym (add-suc i n))
 
 -- one more zero is one of the padding
 pad-zero : (xs : List ℕ) → length xs < 24 → padded xs ≡ padded (xs ++ (0 ∷ []))
@@ -171,7 +187,8 @@ pad-zero xs h =
     let m = 24 - suc (length xs) in
     let e : 24 - length xs ≡ suc m = omega arith in
     let e′ : 24 - length (xs ++ (0 ∷ [])) ≡ m = omega (arith, length-append xs (0 ∷ [])) in
-    ap (λ (n : ℕ). xs ++ replicate n 0) e ∙ sym (append-snoc xs 0 (replicate m 0)) ∙ ap (λ (n : ℕ). (xs ++ (0 ∷ [])) ++ replicate n 0) (sym e′)
+    ap (λ (n : ℕ). xs ++ replicate n 0) e ∙ sym (append-snoc xs 0 (replicate m 0))
+    ∙ ap (λ (n : ℕ). (xs ++ (0 ∷ [])) ++ replicate n 0) (sym e′)
 
 pub record Taking (first count : ℕ) (fs values : List ℕ) (n k : ℕ) : Type 0 where
   pub bound : k ≤ count
@@ -182,7 +199,8 @@ pub record Taking (first count : ℕ) (fs values : List ℕ) (n k : ℕ) : Type 
 pub taking : (first count : ℕ) (fs : List ℕ) → Taking first count fs (replicate 24 0) 0 0
 taking first count fs = record { bound = omega arith; below = omega arith; size = refl; so-far = refl }
 
-module _ {first count : ℕ} {fs values : List ℕ} {n k : ℕ} (s : Taking first count fs values n k) (h : k < count) (few : count ≤ 24) where
+module _ {first count : ℕ} {fs values : List ℕ} {n k : ℕ} (s : Taking first count fs values n k) (h : k < count)
+    (few : count ≤ 24) where
   ys : List ℕ
   ys = spread (rowsFrom first k) fs
 
@@ -207,7 +225,8 @@ module _ {first count : ℕ} {fs values : List ℕ} {n k : ℕ} (s : Taking firs
         bound = omega arith;
         below = omega (arith, s .below);
         size = sym (next-own true e);
-        so-far = s .so-far ∙ pad-zero ys (omega (arith, spread-length k first fs)) ∙ ap padded (sym (next-spread true e));
+        so-far =
+            s .so-far ∙ pad-zero ys (omega (arith, spread-length k first fs)) ∙ ap padded (sym (next-spread true e));
       }
 
   takes : (rowAt (first + k) .top ≡ 0 → ⊥) → Taking first count fs (set values k (getD fs n 0)) (n + 1) (k + 1)
@@ -226,12 +245,15 @@ module _ {first count : ℕ} {fs values : List ℕ} {n k : ℕ} (s : Taking firs
       }
 
   -- one turn: the row has a field, or is reserved
-  pub takes-on : {top : ℕ} → top ≡ rowAt (first + k) .top → {P Q : Type 0} → (P → top ≡ 0 → ⊥) → (Q → top ≡ 0) → {values′ : List ℕ} {n′ : ℕ}
-      → (P × (values′ ≡ set values k (getD fs n 0)) × (n′ ≡ n + 1)) ⊎ (Q × (values′ ≡ values) × (n′ ≡ n)) → Taking first count fs values′ n′ (k + 1)
+  pub takes-on : {top : ℕ} → top ≡ rowAt (first + k) .top → {P Q : Type 0} → (P → top ≡ 0 → ⊥) → (Q → top ≡ 0)
+      → {values′ : List ℕ} {n′ : ℕ}
+      → (P × (values′ ≡ set values k (getD fs n 0)) × (n′ ≡ n + 1)) ⊎ (Q × (values′ ≡ values) × (n′ ≡ n))
+      → Taking first count fs values′ n′ (k + 1)
   takes-on t p q (inl (x, e, f)) = rw (e, f) (takes (λ z. p x (t ∙ z)))
   takes-on t p q (inr (x, e, f)) = rw (e, f) (passes (sym t ∙ q x))
 
-pub taken-all : {first count : ℕ} {fs values : List ℕ} {n k : ℕ} → Taking first count fs values n k → count ≤ k → values ≡ padded (spread (rowsFrom first count) fs)
+pub taken-all : {first count : ℕ} {fs values : List ℕ} {n k : ℕ} → Taking first count fs values n k → count ≤ k
+    → values ≡ padded (spread (rowsFrom first count) fs)
 taken-all {first} {count} {fs} {values} {n} {k} s h =
     let e : k ≡ count = omega (arith, s .bound) in
     s .so-far ∙ ap (λ (j : ℕ). padded (spread (rowsFrom first j) fs)) e
@@ -248,30 +270,39 @@ checking first count vs =
     let e′ : count - 0 ≡ count = omega arith in
     record { bound = omega arith; to-come = ap₂ (λ (i n : ℕ). checkNamed (rowsFrom i n) vs) (sym e) (sym e′) }
 
-module _ {first count : ℕ} {vs : List ℕ} {k : ℕ} (s : Checking first count vs k) (h : k < count) (few : count ≤ 24) (full : length vs ≡ 24) {top : ℕ} (top-is : top ≡ rowAt (first + k) .top) where
+module _ {first count : ℕ} {vs : List ℕ} {k : ℕ} (s : Checking first count vs k) (h : k < count) (few : count ≤ 24)
+    (full : length vs ≡ 24) {top : ℕ} (top-is : top ≡ rowAt (first + k) .top) where
   rest : Finding
   rest = checkNamed (rowsFrom (first + (k + 1)) (count - (k + 1))) (drop (k + 1) vs)
 
-  next-named : checkNamed (rowsFrom first count) vs ≡ cond (leb (getD vs k 0) (rowAt (first + k) .top)) rest (Finding.Refused (codeAt 11 (rowAt (first + k) .low)))
+  next-named : checkNamed (rowsFrom first count) vs
+      ≡ cond (leb (getD vs k 0) (rowAt (first + k) .top)) rest (Finding.Refused (codeAt 11 (rowAt (first + k) .low)))
   unfolding rest
   next-named =
       s .to-come
-      ∙ ap₂ checkNamed (rows-next first count k h) (drop-cons vs k 0 (omega arith) ∙ ap (λ (j : ℕ). getD vs k 0 ∷ drop j vs) (sym (add-one k)))
+      ∙ ap₂ checkNamed (rows-next first count k h)
+      (drop-cons vs k 0 (omega arith) ∙ ap (λ (j : ℕ). getD vs k 0 ∷ drop j vs) (sym (add-one k)))
 
   pub goes-on : getD vs k 0 ≤ top → Checking first count vs (k + 1)
   unfolding rest
   goes-on l =
       record {
         bound = omega arith;
-        to-come = next-named ∙ ap (λ (b : Bool). cond b rest (Finding.Refused (codeAt 11 (rowAt (first + k) .low)))) (le-leb (getD vs k 0) (rowAt (first + k) .top) (omega arith));
+        to-come =
+            next-named ∙ ap (λ (b : Bool). cond b rest (Finding.Refused (codeAt 11 (rowAt (first + k) .low))))
+            (le-leb (getD vs k 0) (rowAt (first + k) .top) (omega arith));
       }
 
-  pub stops : top < getD vs k 0 → {bit : ℕ} → bit ≡ rowAt (first + k) .low → Finding.Refused (codeAt 11 bit) ≡ checkNamed (rowsFrom first count) vs
+  pub stops : top < getD vs k 0 → {bit : ℕ} → bit ≡ rowAt (first + k) .low
+      → Finding.Refused (codeAt 11 bit) ≡ checkNamed (rowsFrom first count) vs
   stops l bit-is =
       ap (λ (bit : ℕ). Finding.Refused (codeAt 11 bit)) bit-is
-      ∙ sym (next-named ∙ ap (λ (b : Bool). cond b rest (Finding.Refused (codeAt 11 (rowAt (first + k) .low)))) (lt-leb (getD vs k 0) (rowAt (first + k) .top) (omega arith)))
+      ∙ sym (next-named
+      ∙ ap (λ (b : Bool). cond b rest (Finding.Refused (codeAt 11 (rowAt (first + k) .low))))
+      (lt-leb (getD vs k 0) (rowAt (first + k) .top) (omega arith)))
 
-pub checked : {first count : ℕ} {vs : List ℕ} {k : ℕ} → Checking first count vs k → count ≤ k → Finding.Accepted ≡ checkNamed (rowsFrom first count) vs
+pub checked : {first count : ℕ} {vs : List ℕ} {k : ℕ} → Checking first count vs k → count ≤ k
+    → Finding.Accepted ≡ checkNamed (rowsFrom first count) vs
 checked {first} {count} {vs} {k} s h =
     let z : count - k ≡ 0 = omega arith in
     sym (s .to-come ∙ ap (λ (n : ℕ). checkNamed (rowsFrom (first + k) n) (drop k vs)) z)

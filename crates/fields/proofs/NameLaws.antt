@@ -1,4 +1,5 @@
--- What a refusal names where a state is handed in as numbers: the same as where a state is written; and 11 names the lowest bit of a field that is not reserved.
+-- What a refusal names where a state is handed in as numbers: the same as where a state is written;
+-- and 11 names the lowest bit of a field that is not reserved.
 -- Assumes nothing.
 use Prim.Native.Nat.{ℕ}
 use native.Mathlib.Omega.{arith}
@@ -16,28 +17,35 @@ use Rattle.kinds.specs.Kinds.{layoutNo, rowsOf, kindIn}
 use Rattle.kinds.specs.declared.Kind.{Kind}
 use Rattle.elements.proofs.Findings.{Refuses, unlisted}
 use Rattle.history.specs.Calls.{readStateCall}
-use Rattle.history.proofs.NameLaws.{its-number, its-field, Named, refuses, named-unless, named-of, named-then, NamesIn, TheNumber, read-call-named, write-call-named, read-object}
+use Rattle.history.proofs.NameLaws.{its-number, its-field, Named, refuses, named-unless, named-of, named-then, NamesIn}
+use Rattle.history.proofs.NameLaws.{TheNumber, read-call-named, write-call-named, read-object}
 use Rattle.history.proofs.CodeLaws.{Coded, coded}
 use Rattle.fields.specs.Plain.{spread, valuesIn, checkNamed}
 use Rattle.fields.specs.Calls.{writeFieldsCall}
 
 -- what a value with no named case, among the last rows rs of a kind, is refused with
-value-refuses : (k : Kind) (below rs : List Row) (fields zeros : List ℕ) {x : Refusal} → rowsOf k ≡ below ++ rs → checkNamed rs (spread rs fields ++ zeros) ≡ Finding.Refused x
+value-refuses : (k : Kind) (below rs : List Row) (fields zeros : List ℕ) {x : Refusal} → rowsOf k ≡ below ++ rs
+    → checkNamed rs (spread rs fields ++ zeros) ≡ Finding.Refused x
     → Refuses k (x .code) (x .bit)
 value-refuses k below [] fields zeros all e = absurd (let z : _≡_ {A = ℕ} 0 1 = cc in omega arith)
 value-refuses k below (r ∷ rs) fields zeros {x} all e =
     let next : rowsOf k ≡ (below ++ (r ∷ [])) ++ rs = all ∙ sym (append-assoc below (r ∷ []) rs) in
-    at (eqb (r .top) 0) refl (value-refuses k (below ++ (r ∷ [])) rs fields zeros next) (value-refuses k (below ++ (r ∷ [])) rs (drop 1 fields) zeros next) e
+    at (eqb (r .top) 0) refl (value-refuses k (below ++ (r ∷ [])) rs fields zeros next)
+    (value-refuses k (below ++ (r ∷ [])) rs (drop 1 fields) zeros next) e
   where
-    here : (b : Bool) → (r .top ≡ 0 → ⊥) → (rest : Finding) → (rest ≡ Finding.Refused x → Refuses k (x .code) (x .bit)) → cond b rest (Finding.Refused (codeAt 11 (r .low))) ≡ Finding.Refused x → Refuses k (x .code) (x .bit)
+    here : (b : Bool) → (r .top ≡ 0 → ⊥) → (rest : Finding) → (rest ≡ Finding.Refused x → Refuses k (x .code) (x .bit))
+        → cond b rest (Finding.Refused (codeAt 11 (r .low))) ≡ Finding.Refused x → Refuses k (x .code) (x .bit)
     here true n rest later e = later e
     here false n rest later e =
         let x-is : codeAt 11 (r .low) ≡ x = cc in
         rw (← x-is) (unlisted (record { below = below; above = rs; parts = all }) n)
 
     at : (b : Bool) → eqb (r .top) 0 ≡ b
-        → (checkNamed rs (spread rs fields ++ zeros) ≡ Finding.Refused x → Refuses k (x .code) (x .bit)) → (checkNamed rs (spread rs (drop 1 fields) ++ zeros) ≡ Finding.Refused x → Refuses k (x .code) (x .bit))
-        → checkNamed (r ∷ rs) (cond b (0 ∷ spread rs fields) (getD fields 0 0 ∷ spread rs (drop 1 fields)) ++ zeros) ≡ Finding.Refused x → Refuses k (x .code) (x .bit)
+        → (checkNamed rs (spread rs fields ++ zeros) ≡ Finding.Refused x → Refuses k (x .code) (x .bit))
+        → (checkNamed rs (spread rs (drop 1 fields) ++ zeros) ≡ Finding.Refused x → Refuses k (x .code) (x .bit))
+        → checkNamed (r ∷ rs) (cond b (0 ∷ spread rs fields) (getD fields 0 0 ∷ spread rs (drop 1 fields)) ++ zeros)
+        ≡ Finding.Refused x
+        → Refuses k (x .code) (x .bit)
     at true q skip later e = skip (rw (le-leb 0 (r .top) (omega arith)) at e)
     at false q skip later e = here (leb (getD fields 0 0) (r .top)) (eqb-false _ _ q) _ later e
 

@@ -13,9 +13,11 @@ use Rattle.fields.specs.Plain.{plainOf}
 use Rattle.fields.specs.Calls.{writeFieldsCall}
 
 module _ (T A : List ℕ) (i : ℕ) where
-  pub one-fields-read : {r r′ : Plain} → r ≡ plainOf (readingOf (readStateCall T A i)) → r′ ≡ plainOf (readingOf (readStateCall T A i)) → r ≡ r′
+  pub one-fields-read : {r r′ : Plain} → r ≡ plainOf (readingOf (readStateCall T A i))
+      → r′ ≡ plainOf (readingOf (readStateCall T A i)) → r ≡ r′
   one-fields-read = one-outcome
 
   pub one-fields-write : (number : ℕ) (fields : List ℕ) (position : ℕ) (out : List ℕ) {r r′ : Answer} {m m′ : List ℕ}
-      → Leaves (writeFieldsCall T A i number fields position) out r m → Leaves (writeFieldsCall T A i number fields position) out r′ m′ → (r ≡ r′) × (m ≡ m′)
+      → Leaves (writeFieldsCall T A i number fields position) out r m
+      → Leaves (writeFieldsCall T A i number fields position) out r′ m′ → (r ≡ r′) × (m ≡ m′)
   one-fields-write number fields position out = one-pair

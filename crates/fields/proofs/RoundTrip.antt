@@ -35,7 +35,8 @@ spread-shown [] (v ∷ vs) xs ys h = absurd h
 spread-shown (r ∷ rs) [] xs ys h = absurd h
 spread-shown (r ∷ rs) (v ∷ vs) xs ys h = at (eqb (r .top) 0) refl (spread-shown rs vs xs ys (h .1))
   where
-    at : (b : Bool) → eqb (r .top) 0 ≡ b → spread rs (shown rs (vs ++ xs) ++ ys) ≡ vs → spread (r ∷ rs) (shown (r ∷ rs) (v ∷ (vs ++ xs)) ++ ys) ≡ v ∷ vs
+    at : (b : Bool) → eqb (r .top) 0 ≡ b → spread rs (shown rs (vs ++ xs) ++ ys) ≡ vs
+        → spread (r ∷ rs) (shown (r ∷ rs) (v ∷ (vs ++ xs)) ++ ys) ≡ v ∷ vs
     at true e rest = let z : v ≡ 0 = omega (arith, eqb-true (r .top) 0 e) in rw (e, rest, z)
     at false e rest = rw (e, rest)
 
@@ -57,24 +58,30 @@ module _ (e : Element) where
 
   -- none of them is refused
   pub handed-named : checkNamed (rowsOf (kindIn e)) (valuesIn (kindIn e) (fieldsOf e .fields)) ≡ Finding.Accepted
-  handed-named = ap (checkNamed (rowsOf (kindIn e))) values-back ∙ all-named (rowsOf (kindIn e)) (elementValues e) _ (state-within e)
+  handed-named =
+      ap (checkNamed (rowsOf (kindIn e))) values-back
+      ∙ all-named (rowsOf (kindIn e)) (elementValues e) _ (state-within e)
 
 -- ---- the calls
 
 module _ (T A : List ℕ) (i : ℕ) where
   -- a state handed in as its fields is written as the state
-  pub handed-in : (e : Element) (position : ℕ) → writeFieldsCall T A i (shownPlain e .kind) (shownPlain e .fields) position ≡ writeStateCall T A i e position
+  pub handed-in : (e : Element) (position : ℕ)
+      → writeFieldsCall T A i (shownPlain e .kind) (shownPlain e .fields) position ≡ writeStateCall T A i e position
   unfolding shownPlain
   handed-in e position =
       writes T A i (shownPlain e .kind) (shownPlain e .fields) position (kind-found (kindIn e)) (handed-named e)
       ∙ ap (λ (s : Element). writeStateCall T A i s position) (handed-back e)
 
-  module _ {x : Plain} {e : Element} (is : x ≡ plainOf (readingOf (readStateCall T A i))) (q : readStateCall T A i ≡ done e) where
+  module _ {x : Plain} {e : Element} (is : x ≡ plainOf (readingOf (readStateCall T A i)))
+      (q : readStateCall T A i ≡ done e) where
     -- fields that were read, handed in for the same object, write the state that was read
-    pub read-handed-in : (position : ℕ) → writeFieldsCall T A i (x .kind) (x .fields) position ≡ writeStateCall T A i e position
+    pub read-handed-in : (position : ℕ)
+        → writeFieldsCall T A i (x .kind) (x .fields) position ≡ writeStateCall T A i e position
     unfolding readingOf plainOf
     read-handed-in position = rw (is, q) (handed-in e position)
 
     -- at the image's own position that gives the image
-    pub image-again : {a : Image} → Bytes A → imageCall T A ≡ done a → writeFieldsCall T A i (x .kind) (x .fields) (a .position) ≡ done A
+    pub image-again : {a : Image} → Bytes A → imageCall T A ≡ done a
+        → writeFieldsCall T A i (x .kind) (x .fields) (a .position) ≡ done A
     image-again {a} h ea = read-handed-in (a .position) ∙ read-then-write T A i h ea q

@@ -10,7 +10,8 @@ use Rattle.history.specs.Image.{foundIn, _of_⨾_}
 use Rattle.history.specs.Calls.{readStateCall, writeStateCall}
 use Rattle.fields.specs.Plain.{valuesIn, checkNamed}
 
--- what is tested before a state's values: table, image and 13 as in reading, then 22 if the object's kind has another number
+-- what is tested before a state's values: table, image and 13 as in reading, then 22 if the
+-- object's kind has another number
 abbrev pub ofKind : List ℕ → List ℕ → ℕ → ℕ → (Kind → Verdict (List ℕ)) → Verdict (List ℕ)
 ofKind T A i number next =
     then (readStateCall T A i) λ was.

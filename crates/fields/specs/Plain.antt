@@ -1,4 +1,5 @@
--- A state's fields as numbers: the values of fields that are not reserved, from bit 0 up, in the first of 32 places, then zeros.
+-- A state's fields as numbers: the values of fields that are not reserved, from bit 0 up, in
+-- the first of 32 places, then zeros.
 use Prim.Native.Nat.{ℕ}
 use mathlib.Core.Bool.{cond}
 use mathlib.Core.List.{List, [], _∷_}
@@ -31,7 +32,8 @@ fieldsOf e = shownIn (rowsOf (kindIn e)) (padded (elementValues e))
 
 -- a state as numbers; success writes no bytes
 unfoldable pub shownPlain : Element → Plain
-shownPlain e = record { answer = unnamed 0 0; kind = layoutNo (kindIn e); count = fieldsOf e .count; fields = fieldsOf e .fields }
+shownPlain e =
+    record { answer = unnamed 0 0; kind = layoutNo (kindIn e); count = fieldsOf e .count; fields = fieldsOf e .fields }
 
 -- a refused reading gives a code and no state
 unfoldable pub plainOf : Reading → Plain

@@ -1,5 +1,6 @@
-// A state as plain numbers: its kind's number, and the values of its fields that are not reserved, from bit 0 up, then zeros. It is for
-// callers that can't hold a state, such as C. It reads and writes through `panel`, and checks only the numbers itself.
+// A state as plain numbers: its kind's number, and the values of its fields that are not reserved, from bit 0 up, then
+// zeros. It is for callers that can't hold a state, such as C.
+// It reads and writes through `panel`, and checks only the numbers itself.
 mod by_rows;
 
 use by_rows::check_named;
@@ -25,7 +26,8 @@ ghost use Rattle.panel.specs.Readings.{readingOf};
 ghost use Rattle.fields.specs.Plain.{shownPlain, plainOf, valuesIn, checkNamed};
 ghost use Rattle.fields.specs.Calls.{writeFieldsCall, stateRefused};
 
-// What reading gives: the answer, and for a state its kind's number, how many fields are not reserved and their values; zeros for a refusal.
+// What reading gives: the answer, and for a state its kind's number, how many fields are not
+// reserved and their values; zeros for a refusal.
 pub struct Plain {
     pub answer: Answer,
     pub kind: u32,
@@ -50,7 +52,8 @@ pub fn write_fields(
     position: u32,
     out: &mut [u8],
 ) -> Answer
-    ensures { λ r. ⌜ Leaves (writeFieldsCall (now (table .entry)) (now (image .entry)) object number fields position) (now (out .entry)) r (now (out .exit)) ⌝ }
+    ensures { λ r. ⌜ Leaves (writeFieldsCall (now (table .entry)) (now (image .entry)) object number fields position)
+        (now (out .entry)) r (now (out .exit)) ⌝ }
 {
     let found = find_kind(number);
     let OptionalKind::Some(kind) = found else {

@@ -1,4 +1,5 @@
--- An object's element among an image's elements: where it is, which number is read there, and that laying a new one over it gives the elements with that one changed.
+-- An object's element among an image's elements: where it is, which number is read there, and that laying a new one
+-- over it gives the elements with that one changed.
 -- Assumes nothing.
 use Prim.Native.Nat.{ℕ, zero, suc, _+_, _-_, _≤_, _<_}
 use native.Mathlib.Omega.{arith}
@@ -42,29 +43,38 @@ module _ (w : ℕ) where
       → over (widths (take i ks)) (bytes (widthOf (kindAt ks i)) w) (wordsBytes ks ws) ≡ wordsBytes ks (set ws i w)
   words-over nil i l = absurd (omega arith)
   words-over (and {a = k} {b = u} {xs = ks} {ys = ws} h r) zero l =
-      over-here (bytes (widthOf k) u) (bytes (widthOf k) w) (wordsBytes ks ws) (length-bytes (widthOf k) w ∙ sym (length-bytes (widthOf k) u))
+      over-here (bytes (widthOf k) u) (bytes (widthOf k) w) (wordsBytes ks ws)
+      (length-bytes (widthOf k) w ∙ sym (length-bytes (widthOf k) u))
   words-over (and {a = k} {b = u} {xs = ks} {ys = ws} h r) (suc i) l =
-      over-past (bytes (widthOf k) u) (bytes (widthOf (kindAt ks i)) w) (wordsBytes ks ws) (widthOf k + widths (take i ks)) (widths (take i ks))
+      over-past (bytes (widthOf k) u) (bytes (widthOf (kindAt ks i)) w) (wordsBytes ks ws)
+      (widthOf k + widths (take i ks)) (widths (take i ks))
       (ap (λ (n : ℕ). n + widths (take i ks)) (sym (length-bytes (widthOf k) u)))
       ∙ ap (λ (l : List ℕ). bytes (widthOf k) u ++ l) (words-over r i (omega arith))
 
   -- a new element leaves the elements as long as they were
-  pub words-long : {ks : List Kind} {ws : List ℕ} → Every admits ks ws → (i : ℕ) → length (wordsBytes ks (set ws i w)) ≡ length (wordsBytes ks ws)
+  pub words-long : {ks : List Kind} {ws : List ℕ} → Every admits ks ws → (i : ℕ)
+      → length (wordsBytes ks (set ws i w)) ≡ length (wordsBytes ks ws)
   words-long nil i = refl
   words-long (and {a = k} {b = u} {xs = ks} {ys = ws} h r) zero =
-      length-append (bytes (widthOf k) w) (wordsBytes ks ws) ∙ ap (λ (n : ℕ). n + length (wordsBytes ks ws)) (length-bytes (widthOf k) w ∙ sym (length-bytes (widthOf k) u))
+      length-append (bytes (widthOf k) w) (wordsBytes ks ws)
+      ∙ ap (λ (n : ℕ). n + length (wordsBytes ks ws))
+      (length-bytes (widthOf k) w ∙ sym (length-bytes (widthOf k) u))
       ∙ sym (length-append (bytes (widthOf k) u) (wordsBytes ks ws))
   words-long (and {a = k} {b = u} {xs = ks} {ys = ws} h r) (suc i) =
-      length-append (bytes (widthOf k) u) (wordsBytes ks (set ws i w)) ∙ ap (λ (n : ℕ). length (bytes (widthOf k) u) + n) (words-long r i) ∙ sym (length-append (bytes (widthOf k) u) (wordsBytes ks ws))
+      length-append (bytes (widthOf k) u) (wordsBytes ks (set ws i w))
+      ∙ ap (λ (n : ℕ). length (bytes (widthOf k) u) + n) (words-long r i)
+      ∙ sym (length-append (bytes (widthOf k) u) (wordsBytes ks ws))
 
 -- object i's element is read from its place
 pub words-number : {ks : List Kind} {ws : List ℕ} → Every admits ks ws → (i : ℕ) → i < length ks
     → number (take (widthOf (kindAt ks i)) (drop (widths (take i ks)) (wordsBytes ks ws))) ≡ getD ws i 0
 words-number nil i l = absurd (omega arith)
-words-number (and {a = k} {b = w} {xs = ks} {ys = ws} h r) zero l = read-bytes (widthOf k) w (wordsBytes ks ws) (admits-fits k w h)
+words-number (and {a = k} {b = w} {xs = ks} {ys = ws} h r) zero l =
+    read-bytes (widthOf k) w (wordsBytes ks ws) (admits-fits k w h)
 words-number (and {a = k} {b = w} {xs = ks} {ys = ws} h r) (suc i) l =
     ap (λ (b : List ℕ). number (take (widthOf (kindAt ks i)) b))
-    (sym (drop-drop (widths (take i ks)) (widthOf k) (wordsBytes (k ∷ ks) (w ∷ ws))) ∙ ap (drop (widths (take i ks))) (drop-bytes (widthOf k) w (wordsBytes ks ws)))
+    (sym (drop-drop (widths (take i ks)) (widthOf k) (wordsBytes (k ∷ ks) (w ∷ ws)))
+    ∙ ap (drop (widths (take i ks))) (drop-bytes (widthOf k) w (wordsBytes ks ws)))
     ∙ words-number r i (omega arith)
 
 -- it ends within the elements
@@ -88,14 +98,17 @@ place-sum ns i sum e =
 
 -- ---- from what the code knows of an object: its place, its kind, its width
 
-module _ {ns es : List ℕ} {i : ℕ} (s : Sized ns es i) {at : ℕ} (at-is : at ≡ placeIn (kindsOf ns) i) {kind : Kind} (kind-is : kind ≡ kindAt (kindsOf ns) i) {w : ℕ} (w-is : w ≡ widthOf kind) where
+module _ {ns es : List ℕ} {i : ℕ} (s : Sized ns es i) {at : ℕ} (at-is : at ≡ placeIn (kindsOf ns) i) {kind : Kind}
+    (kind-is : kind ≡ kindAt (kindsOf ns) i) {w : ℕ} (w-is : w ≡ widthOf kind) where
   pub own-width : w ≡ widthOf (kindAt (kindsOf ns) i)
   own-width = w-is ∙ ap widthOf kind-is
 
   -- the element ends within the bytes
   pub element-inside : at + w ≤ length es
-  element-inside = omega (arith, own-width, at-is, s .long, place-within (kindsOf ns) i (omega (arith, s .below, length-kinds ns)))
+  element-inside =
+      omega (arith, own-width, at-is, s .long, place-within (kindsOf ns) i (omega (arith, s .below, length-kinds ns)))
 
   -- the number read there is the element's
-  pub number-at : number (take w (drop at es)) ≡ number (take (widthOf (kindAt (kindsOf ns) i)) (drop (placeIn (kindsOf ns) i) es))
+  pub number-at : number (take w (drop at es))
+      ≡ number (take (widthOf (kindAt (kindsOf ns) i)) (drop (placeIn (kindsOf ns) i) es))
   number-at = ap₂ (λ (n m : ℕ). number (take n (drop m es))) own-width at-is

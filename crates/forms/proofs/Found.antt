@@ -7,7 +7,8 @@ use Rattle.rows.specs.declared.Refusal.{Refusal}
 use Rattle.history.specs.Verdict.{Verdict, refused}
 use Rattle.history.specs.Image.{foundIn, _of_⨾_}
 
-pub is-bad : {A : Type 0} (f : Finding) (i : ℕ) (rest : Verdict A) (r : Refusal) → f ≡ Finding.Refused r → (f of i ⨾ rest) ≡ refused (foundIn r i)
+pub is-bad : {A : Type 0} (f : Finding) (i : ℕ) (rest : Verdict A) (r : Refusal) → f ≡ Finding.Refused r
+    → (f of i ⨾ rest) ≡ refused (foundIn r i)
 is-bad f i rest r e = ap (λ (f : Finding). f of i ⨾ rest) e
 
 pub is-good : {A : Type 0} (f : Finding) (i : ℕ) (rest : Verdict A) → f ≡ Finding.Accepted → (f of i ⨾ rest) ≡ rest

@@ -28,15 +28,22 @@ module _ (x y : ℕ) (ns b : List ℕ) where
       pub not-under : isUnder x y b ≡ false → unnamed 9 0 ≡ told (readImage (planAs x y ns) b)
       not-under e = told-refused _ (image-chain (planAs x y ns) b ∙ rw (whole, version, e)) refl
 
-      module _ (under : isUnder x y b ≡ true) (place : ℕ) (place-is : place ≡ elementsPlace (getD b 4 0)) (w : ℕ) (w-is : w ≡ widths (kindsOf ns)) where
+      module _ (under : isUnder x y b ≡ true) (place : ℕ) (place-is : place ≡ elementsPlace (getD b 4 0)) (w : ℕ)
+          (w-is : w ≡ widths (kindsOf ns)) where
         pub other-size : (length b ≡ place + w → ⊥) → unnamed 8 0 ≡ told (readImage (planAs x y ns) b)
         other-size h =
-            let n : (length b ≡ imageHead b + widths (kindsOf ns) → ⊥) = λ e. h (omega (arith, head-is b place place-is)) in
-            told-refused _ (image-chain (planAs x y ns) b ∙ rw (whole, version, under, ne-eqb (length b) (imageHead b + widths (kindsOf ns)) n)) refl
+            let n : (length b ≡ imageHead b + widths (kindsOf ns) → ⊥) =
+            λ e. h (omega (arith, head-is b place place-is)) in
+            told-refused _
+            (image-chain (planAs x y ns) b
+            ∙ rw (whole, version, under, ne-eqb (length b) (imageHead b + widths (kindsOf ns)) n)) refl
 
-        pub by-words : length b ≡ place + w → (words : List ℕ) → words ≡ elementsIn b → told (readWords 0 (kindsOf ns) words) ≡ told (readImage (planAs x y ns) b)
+        pub by-words : length b ≡ place + w → (words : List ℕ) → words ≡ elementsIn b
+            → told (readWords 0 (kindsOf ns) words) ≡ told (readImage (planAs x y ns) b)
         by-words h words e =
             let size : length b ≡ imageHead b + widths (kindsOf ns) = omega (arith, head-is b place place-is) in
             ap (λ (c : List ℕ). told (readWords 0 (kindsOf ns) c)) e
-            ∙ sym (ap told (image-chain (planAs x y ns) b ∙ rw (whole, version, under, eq-eqb (length b) (imageHead b + widths (kindsOf ns)) size))
+            ∙ sym (ap told
+            (image-chain (planAs x y ns) b
+            ∙ rw (whole, version, under, eq-eqb (length b) (imageHead b + widths (kindsOf ns)) size))
             ∙ told-then (readWords 0 (kindsOf ns) (elementsIn b)) (imageWith b))

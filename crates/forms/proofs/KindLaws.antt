@@ -27,7 +27,8 @@ module _ (ns : List ℕ) (i : ℕ) where
   pub kinds-next : i < length ns → drop i (kindsOf ns) ≡ kindAt (kindsOf ns) i ∷ drop (i + 1) (kindsOf ns)
   kinds-next h =
       let one : suc i ≡ i + 1 = omega arith in
-      drop-cons (kindsOf ns) i Kind.Signal (omega (arith, length-kinds ns)) ∙ ap (λ (n : ℕ). kindAt (kindsOf ns) i ∷ drop n (kindsOf ns)) one
+      drop-cons (kindsOf ns) i Kind.Signal (omega (arith, length-kinds ns))
+      ∙ ap (λ (n : ℕ). kindAt (kindsOf ns) i ∷ drop n (kindsOf ns)) one
 
   pub kinds-end : length ns ≤ i → drop i (kindsOf ns) ≡ []
   kinds-end h = drop-of-length-le (kindsOf ns) {i = i} (omega (arith, length-kinds ns))
@@ -42,7 +43,8 @@ pub none : (ns : List ℕ) → Summed ns 0 0
 none ns = record { inside = omega arith; small = omega arith; rest = omega arith }
 
 module _ {ns : List ℕ} {i sum : ℕ} (s : Summed ns i sum) where
-  pub one-more : (k : Kind) (w : ℕ) → i < length ns → k ≡ kindAt (kindsOf ns) i → w ≡ widthOf k → Summed ns (i + 1) (sum + w)
+  pub one-more : (k : Kind) (w : ℕ) → i < length ns → k ≡ kindAt (kindsOf ns) i → w ≡ widthOf k
+      → Summed ns (i + 1) (sum + w)
   one-more k w h e f =
       let g : w ≡ widthOf (kindAt (kindsOf ns) i) = f ∙ ap widthOf e in
       record {

@@ -22,7 +22,8 @@ module _ (x y : ℕ) (ns b : List ℕ) where
   module _ (whole : isWhole 13 b ≡ true) where
     pub other-version : (getD b 4 0 ≡ 1 → ⊥) → unnamed 2 0 ≡ told (readList (planAs x y ns) b)
     unfolding listVersion
-    other-version h = told-refused _ (list-chain (planAs x y ns) b ∙ rw (whole, ne-eqb 1 (getD b 4 0) (λ e. h (sym e)))) refl
+    other-version h =
+        told-refused _ (list-chain (planAs x y ns) b ∙ rw (whole, ne-eqb 1 (getD b 4 0) (λ e. h (sym e)))) refl
 
     module _ (version : getD b 4 0 ≡ 1) where
       good : eqb listVersion (getD b 4 0) ≡ true
@@ -33,7 +34,9 @@ module _ (x y : ℕ) (ns b : List ℕ) where
       not-under e = told-refused _ (list-chain (planAs x y ns) b ∙ rw (whole, good, e)) refl
 
       module _ (under : isUnder x y b ≡ true) where
-        pub by-entries : (count : ℕ) (entries : List ℕ) → count ≡ entryCountIn b → entries ≡ entriesIn b → told (readEntries (kindsOf ns) 0 count entries) ≡ told (readList (planAs x y ns) b)
+        pub by-entries : (count : ℕ) (entries : List ℕ) → count ≡ entryCountIn b → entries ≡ entriesIn b
+            → told (readEntries (kindsOf ns) 0 count entries) ≡ told (readList (planAs x y ns) b)
         by-entries count entries e f =
             ap₂ (λ (n : ℕ) (c : List ℕ). told (readEntries (kindsOf ns) 0 n c)) e f
-            ∙ sym (ap told (list-chain (planAs x y ns) b ∙ rw (whole, good, under)) ∙ told-then (readEntries (kindsOf ns) 0 (entryCountIn b) (entriesIn b)) (listWith b))
+            ∙ sym (ap told (list-chain (planAs x y ns) b ∙ rw (whole, good, under))
+            ∙ told-then (readEntries (kindsOf ns) 0 (entryCountIn b) (entriesIn b)) (listWith b))

@@ -1,4 +1,5 @@
--- Calls that read the table first: a refused table's answer is the whole answer; under an accepted one the rest of the call depends on its plan.
+-- Calls that read the table first: a refused table's answer is the whole answer;
+-- under an accepted one the rest of the call depends on its plan.
 -- Assumes nothing.
 use Prim.Native.Nat.{ℕ, _≤_}
 use native.Mathlib.Omega.{arith}
@@ -28,15 +29,18 @@ module _ {b : List ℕ} {r : Outline} (o : Outlined b r) where
   module _ (bad : r .answer .code ≡ 0 → ⊥) where
     pub table-refused : {A : Type 0} {v : Verdict A} {next : Plan → Verdict A} → Starts b v next → r .answer ≡ told v
     table-refused {next = next} s =
-        sym plan-told ∙ told-first (readPlan b) next (λ e. bad (ap (λ (a : Answer). a .code) (sym plan-told) ∙ e)) ∙ ap told (sym (s .is))
+        sym plan-told ∙ told-first (readPlan b) next (λ e. bad (ap (λ (a : Answer). a .code) (sym plan-told) ∙ e))
+        ∙ ap told (sym (s .is))
 
-    pub table-leaves : {v : Verdict (List ℕ)} {next : Plan → Verdict (List ℕ)} → Starts b v next → (out : List ℕ) → Leaves v out (r .answer) out
+    pub table-leaves : {v : Verdict (List ℕ)} {next : Plan → Verdict (List ℕ)} → Starts b v next → (out : List ℕ)
+        → Leaves v out (r .answer) out
     table-leaves s out = told-leaves _ out (table-refused s) bad
 
   module _ (good : r .answer .code ≡ 0) where
     -- ns are the layout numbers that the code passes on
     module _ {ns : List ℕ} (e : ns ≡ take (r .count) (r .kinds)) where
-      pub under-plan : {A : Type 0} {v : Verdict A} {next : Plan → Verdict A} → Starts b v next → next (planAs (r .x) (r .y) ns) ≡ v
+      pub under-plan : {A : Type 0} {v : Verdict A} {next : Plan → Verdict A} → Starts b v next
+          → next (planAs (r .x) (r .y) ns) ≡ v
       under-plan {next = next} s = sym (s .is ∙ rw e (ap (λ (v : Verdict Plan). then v next) (o .plan good)))
 
   pub kinds-inside : r .count ≤ length (r .kinds)
@@ -56,7 +60,8 @@ module _ (T b : List ℕ) where
   unfolding listCall
   list-starts = record { is = refl }
 
-  module _ {r : Outline} (o : Outlined T r) (good : r .answer .code ≡ 0) {ns : List ℕ} (e : ns ≡ take (r .count) (r .kinds)) where
+  module _ {r : Outline} (o : Outlined T r) (good : r .answer .code ≡ 0) {ns : List ℕ}
+      (e : ns ≡ take (r .count) (r .kinds)) where
     pub image-under : readImage (planAs (r .x) (r .y) ns) b ≡ imageCall T b
     image-under = under-plan o good e image-starts
 

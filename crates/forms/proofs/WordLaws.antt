@@ -29,12 +29,15 @@ pub record Left (ns b : List ℕ) (i at : ℕ) : Type 0 where
 pub begin : (ns b : List ℕ) → length b ≡ widths (kindsOf ns) → Left ns b 0 0
 begin ns b h = record { inside = omega arith; room = omega arith; same = refl }
 
-pub ended : {ns b : List ℕ} {i at : ℕ} → Left ns b i at → length ns ≤ i → unnamed 0 0 ≡ told (readWords 0 (kindsOf ns) b)
+pub ended : {ns b : List ℕ} {i at : ℕ} → Left ns b i at → length ns ≤ i
+    → unnamed 0 0 ≡ told (readWords 0 (kindsOf ns) b)
 ended {ns} {b} {i} {at} l h =
-    told-done (readWords i [] (drop at b)) refl refl ∙ sym (l .same ∙ ap (λ (ks : List Kind). told (readWords i ks (drop at b))) (kinds-end ns i h))
+    told-done (readWords i [] (drop at b)) refl refl
+    ∙ sym (l .same ∙ ap (λ (ks : List Kind). told (readWords i ks (drop at b))) (kinds-end ns i h))
 
 -- from what the code has: the kind, what is found, and the width
-module _ {ns b : List ℕ} {i at : ℕ} (l : Left ns b i at) (h : i < length ns) {kind : Kind} (kind-is : kind ≡ kindAt (kindsOf ns) i) where
+module _ {ns b : List ℕ} {i at : ℕ} (l : Left ns b i at) (h : i < length ns) {kind : Kind}
+    (kind-is : kind ≡ kindAt (kindsOf ns) i) where
   pub has-room : at + widthOf kind ≤ length b
   has-room = omega (arith, l .room, ap widths (kinds-next ns i h), ap widthOf kind-is)
 
@@ -44,12 +47,14 @@ module _ {ns b : List ℕ} {i at : ℕ} (l : Left ns b i at) (h : i < length ns)
 
     -- the rest, after this object's element
     next : Verdict (List ℕ)
-    next = then (readWords (suc i) (drop (i + 1) (kindsOf ns)) (drop (widthOf kind) (drop at b))) (λ ws. done (word ∷ ws))
+    next =
+        then (readWords (suc i) (drop (i + 1) (kindsOf ns)) (drop (widthOf kind) (drop at b))) (λ ws. done (word ∷ ws))
 
     here : told (readWords 0 (kindsOf ns) b) ≡ told (found of i ⨾ next)
     unfolding element next word
     here =
-        l .same ∙ ap (λ (ks : List Kind). told (readWords i ks (drop at b))) (kinds-next ns i h ∙ ap (λ (k : Kind). k ∷ drop (i + 1) (kindsOf ns)) (sym kind-is))
+        l .same ∙ ap (λ (ks : List Kind). told (readWords i ks (drop at b)))
+        (kinds-next ns i h ∙ ap (λ (k : Kind). k ∷ drop (i + 1) (kindsOf ns)) (sym kind-is))
         ∙ rw (← found-is)
 
     pub stops : {r : Refusal} → found ≡ Finding.Refused r → numbers (foundIn r i) 0 ≡ told (readWords 0 (kindsOf ns) b)
@@ -62,6 +67,10 @@ module _ {ns b : List ℕ} {i at : ℕ} (l : Left ns b i at) (h : i < length ns)
         record {
           inside = omega arith;
           room = omega (arith, l .room, ap widths (kinds-next ns i h), ap widthOf kind-is);
-          same = here ∙ ap told (is-good found i next e) ∙ told-then (readWords (suc i) (drop (i + 1) (kindsOf ns)) (drop (widthOf kind) (drop at b))) (λ ws. word ∷ ws)
-              ∙ ap₂ (λ (n : ℕ) (c : List ℕ). told (readWords n (drop (i + 1) (kindsOf ns)) c)) one (ap (λ (n : ℕ). drop n (drop at b)) (sym wide) ∙ drop-drop w at b);
+          same =
+              here ∙ ap told (is-good found i next e)
+              ∙ told-then (readWords (suc i) (drop (i + 1) (kindsOf ns)) (drop (widthOf kind) (drop at b)))
+              (λ ws. word ∷ ws)
+              ∙ ap₂ (λ (n : ℕ) (c : List ℕ). told (readWords n (drop (i + 1) (kindsOf ns)) c)) one
+              (ap (λ (n : ℕ). drop n (drop at b)) (sym wide) ∙ drop-drop w at b);
         }

@@ -1,4 +1,5 @@
-// The floor of forms: checks an image or a change list under its table. It uses tables, heads and elements; it writes no output and keeps nothing.
+// The floor of forms: checks an image or a change list under its table. It uses tables, heads and elements;
+// it writes no output and keeps nothing.
 mod image;
 mod list;
 mod objects;

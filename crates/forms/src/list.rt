@@ -92,7 +92,8 @@ pub enum Numbered {
     Object(u16),
 }
 
-// What `check_entry` and `check_elements` give: an answer that refuses, or the entry's object, its elements and the place after it.
+// What `check_entry` and `check_elements` give: an answer that refuses, or the entry's object,
+// its elements and the place after it.
 pub enum Passed {
     Refused(Answer),
     Entry {
@@ -106,7 +107,8 @@ pub enum Passed {
 // Checks the entry at a place, whose object must not be below `low`: its number, 14, its elements, 15.
 fn check_entry(kinds: &[u8], low: usize, entries: &[u8], at: usize) -> Passed
     requires { ⌜ (at ≤ length (now entries)) × (length (now kinds) ≤ 1024) ⌝ }
-    ensures { λ r. ⌜ r ≡ passed (at + 2) (checkEntry (kindsOf (now (kinds .entry))) low (drop at (now (entries .entry)))) ⌝ }
+    ensures { λ r.
+        ⌜ r ≡ passed (at + 2) (checkEntry (kindsOf (now (kinds .entry))) low (drop at (now (entries .entry)))) ⌝ }
 {
     let number = check_number(kinds, entries, at);
     match number {

@@ -10,15 +10,17 @@ use Rattle.gateway.specs.Calls.{elementCall}
 
 -- code, object, bit, length, 0, zeros; with the kind; with the label's offset and size; applied, late, gap, other
 pub places : (answerSlots (numbers (naming 11 4 10) 3) ≡ 11 ∷ 4 ∷ 10 ∷ 3 ∷ 0 ∷ 0 ∷ 0 ∷ 0 ∷ [])
-    × (readSlots (record { answer = unnamed 0 0; kind = 5; count = 8; fields = [] }) ≡ 0 ∷ 65535 ∷ 255 ∷ 0 ∷ 0 ∷ 5 ∷ 0 ∷ 0 ∷ [])
+    × (readSlots (record { answer = unnamed 0 0; kind = 5; count = 8; fields = [] })
+    ≡ 0 ∷ 65535 ∷ 255 ∷ 0 ∷ 0 ∷ 5 ∷ 0 ∷ 0 ∷ [])
     × (labelSlots (record { answer = unnamed 0 0; offset = 19; size = 6 }) ≡ 0 ∷ 65535 ∷ 255 ∷ 0 ∷ 0 ∷ 19 ∷ 6 ∷ 0 ∷ [])
     × (talliesOf (record { applied = 1; late = 2; gap = 3; other = 4 }) ≡ 1 ∷ 2 ∷ 3 ∷ 4 ∷ [])
     × (standingIn (1 ∷ 2 ∷ 3 ∷ 4 ∷ []) ≡ record { applied = 1; late = 2; gap = 3; other = 4 })
 unfolding answerSlots readSlots labelSlots
 places = search
 
--- IC 03, AVG 01 00, SIG 00 00 01 D5; a type that is not carried, whatever the length; a length that is not the type's, whatever the bits; a
--- catalogue that is not carried, whatever the type; the same under 3.0, whose signal has EAR in bit 3 and GRP_ARS in bits 30 and 31
+-- IC 03, AVG 01 00, SIG 00 00 01 D5; a type that is not carried, whatever the length; a length that is not the type's,
+-- whatever the bits; a catalogue that is not carried, whatever the type;
+-- the same under 3.0, whose signal has EAR in bit 3 and GRP_ARS in bits 30 and 31
 pub elements : (elementCall 1 0 2 (0x03 ∷ []) ≡ done 0x03)
     × (elementCall 1 0 22 (0x01 ∷ 0x00 ∷ []) ≡ done 0x0100)
     × (elementCall 1 0 1 (0x00 ∷ 0x00 ∷ 0x01 ∷ 0xD5 ∷ []) ≡ refused (naming 11 65535 4))

@@ -35,7 +35,8 @@ module _ (x y type : ℕ) (b : List ℕ) where
       named-unless (catalogueGood x y) _ _ (λ f. refuses (nothing refl)) λ t.
       named-unless (carried x type) _ _ (λ f. refuses (nothing refl)) λ t.
       named-unless (eqb (length b) (widthOf (kindOf x type))) _ _ (λ f. refuses (nothing refl)) λ t.
-      named-of (element (kindOf x type) (number b)) 65535 _ (λ r q. its-field (refuses-as (kindOf x type) (number b) q)) accepts
+      named-of (element (kindOf x type) (number b)) 65535 _
+      (λ r q. its-field (refuses-as (kindOf x type) (number b) q)) accepts
 
   pub element-call-coded : Coded (elementCall x y type b)
   element-call-coded = coded-by (λ r. code-of) element-call-named

@@ -10,7 +10,8 @@ use Rattle.history.specs.Verdict.{Verdict, done, refusal, _unless_⨾_}
 use Rattle.history.specs.Table.{catalogueGood}
 use Rattle.history.specs.Image.{element, _of_⨾_}
 
--- 3 (catalogue), 5 (type), 8 (a length that is not the type's width); then the element's check, which names no object (65535)
+-- 3 (catalogue), 5 (type), 8 (a length that is not the type's width);
+-- then the element's check, which names no object (65535)
 unfoldable pub elementCall : ℕ → ℕ → ℕ → List ℕ → Verdict ℕ
 elementCall x y type b =
     refusal 3 unless catalogueGood x y ⨾

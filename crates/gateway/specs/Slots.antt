@@ -1,5 +1,5 @@
--- The eight numbers of a call: code, object, bit, length, a place kept for a value, which is 0 for now, then what the call adds, then
--- zeros. Also the fields of a state that is read, and a standing from its tallies.
+-- The eight numbers of a call: code, object, bit, length, a place kept for a value, which is 0 for now, then what the
+-- call adds, then zeros. Also the fields of a state that is read, and a standing from its tallies.
 use Prim.Native.Nat.{ℕ}
 use mathlib.Core.Path.{_≡_}
 use mathlib.Core.List.{List, [], _∷_}
@@ -37,4 +37,5 @@ labelSlots l = slots (l .answer) (l .offset) (l .size)
 
 -- a standing from its four tallies
 abbrev pub standingIn : List ℕ → Standing
-standingIn tallies = record { applied = getD tallies 0 0; late = getD tallies 1 0; gap = getD tallies 2 0; other = getD tallies 3 0 }
+standingIn tallies =
+    record { applied = getD tallies 0 0; late = getD tallies 1 0; gap = getD tallies 2 0; other = getD tallies 3 0 }

@@ -1,5 +1,5 @@
-// The gateway: the calls as C sees them. Each exported function wraps one call, which checks its input, and fills eight numbers: code,
-// object, bit, length, a place kept for a value, then what the call adds, then zeros. It keeps nothing.
+// The gateway: the calls as C sees them. Each exported function wraps one call, which checks its input, and fills eight
+// numbers: code, object, bit, length, a place kept for a value, then what the call adds, then zeros. It keeps nothing.
 mod calls;
 mod slots;
 
@@ -17,7 +17,8 @@ use slots::tallies_of;
 use tables::check_table;
 ghost use mathlib.Core.Path.{_≡_};
 ghost use Rattle.history.specs.Verdict.{told};
-ghost use Rattle.history.specs.Calls.{tableCall, imageCall, listCall, readStateCall, labelCall, differenceCall, applyCall, joinCall, turnCall};
+ghost use Rattle.history.specs.Calls.{tableCall, imageCall, listCall, readStateCall, labelCall, differenceCall};
+ghost use Rattle.history.specs.Calls.{applyCall, joinCall, turnCall};
 ghost use Rattle.tables.specs.LabelPlaces.{labelTold};
 ghost use Rattle.panel.specs.Readings.{readingOf};
 ghost use Rattle.fields.specs.Plain.{plainOf};
@@ -66,7 +67,8 @@ pub extern "C" fn shefumbari_check_list(table: &[u8], list: &[u8], answer: &mut 
 
 // ---- states and labels
 
-// The fields are the values that are not reserved, from bit 0 up; the kind is the sixth number. A refusal leaves the fields as they were.
+// The fields are the values that are not reserved, from bit 0 up; the kind is the sixth number.
+// A refusal leaves the fields as they were.
 #[no_mangle]
 pub extern "C" fn shefumbari_read_state(
     table: &[u8],
@@ -75,8 +77,12 @@ pub extern "C" fn shefumbari_read_state(
     fields: &mut [u32; 32],
     answer: &mut [u32; 8],
 )
-    ensures { λ _. ⌜ now (fields .exit) ≡ fieldsAfter (readStateCall (now (table .entry)) (now (image .entry)) object) (now (fields .entry)) ⌝ }
-    ensures { λ _. ⌜ now (answer .exit) ≡ readSlots (plainOf (readingOf (readStateCall (now (table .entry)) (now (image .entry)) object))) ⌝ }
+    ensures { λ _.
+        ⌜ now (fields .exit)
+        ≡ fieldsAfter (readStateCall (now (table .entry)) (now (image .entry)) object) (now (fields .entry)) ⌝ }
+    ensures { λ _.
+        ⌜ now (answer .exit)
+        ≡ readSlots (plainOf (readingOf (readStateCall (now (table .entry)) (now (image .entry)) object))) ⌝ }
 {
     let plain = read_fields(table, image, object);
     *answer = read_slots(plain.answer, plain.kind);
@@ -97,7 +103,10 @@ pub extern "C" fn shefumbari_write_state(
     out: &mut [u8],
     answer: &mut [u32; 8],
 )
-    ensures { λ _. ⌜ LeavesSlots (writeFieldsCall (now (table .entry)) (now (image .entry)) object kind (now (fields .entry)) position) (now (out .entry)) (now (answer .exit)) (now (out .exit)) ⌝ }
+    ensures { λ _.
+        ⌜ LeavesSlots
+        (writeFieldsCall (now (table .entry)) (now (image .entry)) object kind (now (fields .entry)) position)
+        (now (out .entry)) (now (answer .exit)) (now (out .exit)) ⌝ }
 {
     *answer = answer_slots(write_fields(table, image, object, kind, *fields, position, out));
 }
@@ -120,7 +129,8 @@ pub extern "C" fn shefumbari_difference(
     out: &mut [u8],
     answer: &mut [u32; 8],
 )
-    ensures { λ _. ⌜ LeavesSlots (differenceCall (now (table .entry)) (now (a .entry)) (now (b .entry))) (now (out .entry)) (now (answer .exit)) (now (out .exit)) ⌝ }
+    ensures { λ _. ⌜ LeavesSlots (differenceCall (now (table .entry)) (now (a .entry)) (now (b .entry)))
+        (now (out .entry)) (now (answer .exit)) (now (out .exit)) ⌝ }
 {
     *answer = answer_slots(changes::difference(table, a, b, out));
 }
@@ -133,7 +143,8 @@ pub extern "C" fn shefumbari_apply(
     out: &mut [u8],
     answer: &mut [u32; 8],
 )
-    ensures { λ _. ⌜ LeavesSlots (applyCall (now (table .entry)) (now (image .entry)) (now (list .entry))) (now (out .entry)) (now (answer .exit)) (now (out .exit)) ⌝ }
+    ensures { λ _. ⌜ LeavesSlots (applyCall (now (table .entry)) (now (image .entry)) (now (list .entry)))
+        (now (out .entry)) (now (answer .exit)) (now (out .exit)) ⌝ }
 {
     *answer = answer_slots(changes::apply(table, image, list, out));
 }
@@ -146,7 +157,8 @@ pub extern "C" fn shefumbari_join(
     out: &mut [u8],
     answer: &mut [u32; 8],
 )
-    ensures { λ _. ⌜ LeavesSlots (joinCall (now (table .entry)) (now (first .entry)) (now (second .entry))) (now (out .entry)) (now (answer .exit)) (now (out .exit)) ⌝ }
+    ensures { λ _. ⌜ LeavesSlots (joinCall (now (table .entry)) (now (first .entry)) (now (second .entry)))
+        (now (out .entry)) (now (answer .exit)) (now (out .exit)) ⌝ }
 {
     *answer = answer_slots(changes::join(table, first, second, out));
 }
@@ -158,7 +170,8 @@ pub extern "C" fn shefumbari_turn_back(
     out: &mut [u8],
     answer: &mut [u32; 8],
 )
-    ensures { λ _. ⌜ LeavesSlots (turnCall (now (table .entry)) (now (list .entry))) (now (out .entry)) (now (answer .exit)) (now (out .exit)) ⌝ }
+    ensures { λ _. ⌜ LeavesSlots (turnCall (now (table .entry)) (now (list .entry)))
+        (now (out .entry)) (now (answer .exit)) (now (out .exit)) ⌝ }
 {
     *answer = answer_slots(changes::turn_back(table, list, out));
 }
@@ -173,9 +186,17 @@ pub extern "C" fn shefumbari_receive(
     standing: &mut [u32; 4],
     answer: &mut [u32; 8],
 )
-    ensures { λ _. ⌜ now (answer .exit) ≡ answerSlots (answerOf (now (table .entry)) (now (image .entry)) (now (list .entry)) (now (out .entry))) ⌝ }
-    ensures { λ _. ⌜ now (out .exit) ≡ outputOf (now (table .entry)) (now (image .entry)) (now (list .entry)) (now (out .entry)) ⌝ }
-    ensures { λ _. ⌜ now (standing .exit) ≡ talliesOf (standingOf (now (table .entry)) (now (image .entry)) (now (list .entry)) (now (out .entry)) (standingIn (now (standing .entry)))) ⌝ }
+    ensures { λ _.
+        ⌜ now (answer .exit)
+        ≡ answerSlots
+        (answerOf (now (table .entry)) (now (image .entry)) (now (list .entry)) (now (out .entry))) ⌝ }
+    ensures { λ _.
+        ⌜ now (out .exit)
+        ≡ outputOf (now (table .entry)) (now (image .entry)) (now (list .entry)) (now (out .entry)) ⌝ }
+    ensures { λ _.
+        ⌜ now (standing .exit)
+        ≡ talliesOf (standingOf (now (table .entry)) (now (image .entry)) (now (list .entry)) (now (out .entry))
+        (standingIn (now (standing .entry)))) ⌝ }
 {
     let taken = received(table, image, list, out, standing_in(*standing));
     *standing = tallies_of(taken.standing);
@@ -187,7 +208,8 @@ pub extern "C" fn shefumbari_receive(
 // The text of a table followed by its image.
 #[no_mangle]
 pub extern "C" fn shefumbari_listing(input: &[u8], out: &mut [u8], answer: &mut [u32; 8])
-    ensures { λ _. ⌜ LeavesSlots (listingCall (now (input .entry))) (now (out .entry)) (now (answer .exit)) (now (out .exit)) ⌝ }
+    ensures { λ _. ⌜ LeavesSlots (listingCall (now (input .entry)))
+        (now (out .entry)) (now (answer .exit)) (now (out .exit)) ⌝ }
 {
     *answer = answer_slots(listing::list_into(input, out));
 }

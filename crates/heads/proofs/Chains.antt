@@ -17,11 +17,13 @@ use Rattle.history.specs.declared.Change.{Change}
 use Rattle.history.specs.Changes.{Changes, listVersion, readEntries, readList}
 use Rattle.history.proofs.VerdictLaws.{held}
 use Rattle.history.proofs.FormLaws.{whole}
-use Rattle.heads.specs.Heads.{isUnder, countIn, objectsPlace, elementsPlace, imageHead, positionIn, elementsIn, fromIn, toIn, entryCountIn, entriesPlace, entriesIn}
+use Rattle.heads.specs.Heads.{isUnder, countIn, objectsPlace, elementsPlace, imageHead, positionIn, elementsIn}
+use Rattle.heads.specs.Heads.{fromIn, toIn, entryCountIn, entriesPlace, entriesIn}
 use Rattle.heads.proofs.Forms.{form-then, table-inside}
 
 -- what follows may use that the test holds
-unless-same : {A : Type 0} (t : Bool) (r : Verdict A) {u v : Verdict A} → (t ≡ true → u ≡ v) → (r unless t ⨾ u) ≡ (r unless t ⨾ v)
+unless-same : {A : Type 0} (t : Bool) (r : Verdict A) {u v : Verdict A} → (t ≡ true → u ≡ v)
+    → (r unless t ⨾ u) ≡ (r unless t ⨾ v)
 unless-same true r h = h refl
 unless-same false r h = refl
 
@@ -30,7 +32,8 @@ eqb-left : (n m : ℕ) (b : List ℕ) → n ≤ length b → eqb (length (drop n
 eqb-left n m b h = go (eqb (length b) (n + m)) refl
   where
     go : (u : Bool) → eqb (length b) (n + m) ≡ u → eqb (length (drop n b)) m ≡ u
-    go true e = let l : length b ≡ n + m = eqb-true _ _ e in eq-eqb (length (drop n b)) m (length-drop n b ∙ omega arith)
+    go true e =
+        let l : length b ≡ n + m = eqb-true _ _ e in eq-eqb (length (drop n b)) m (length-drop n b ∙ omega arith)
     go false e = ne-eqb (length (drop n b)) m (λ z. eqb-false (length b) (n + m) e (omega (arith, length-drop n b)))
 
 -- the table that the bytes hold, with these objects
@@ -39,8 +42,10 @@ tableWith b os = record { version = getD b 4 0; x = getD b 5 0; y = getD b 6 0; 
 
 -- 1, 2, 3, 4, then the objects
 pub table-chain : (b : List ℕ) → readTable b
-    ≡ (refusal 1 unless isWhole 5 b ⨾ refusal 2 unless versionGood (getD b 4 0) ⨾ refusal 3 unless catalogueGood (getD b 5 0) (getD b 6 0) ⨾
-    refusal 4 unless leb (countIn b) 1024 ⨾ then (readObjects (getD b 4 0) (getD b 5 0) [] (countIn b) (drop objectsPlace b)) (λ os. done (tableWith b os)))
+    ≡ (refusal 1 unless isWhole 5 b ⨾ refusal 2 unless versionGood (getD b 4 0) ⨾
+    refusal 3 unless catalogueGood (getD b 5 0) (getD b 6 0) ⨾
+    refusal 4 unless leb (countIn b) 1024 ⨾
+    then (readObjects (getD b 4 0) (getD b 5 0) [] (countIn b) (drop objectsPlace b)) (λ os. done (tableWith b os)))
 unfolding readTable countIn objectsPlace
 table-chain b = form-then 5 versionGood b _ ∙ rw (drop-drop 2 7 b)
 
@@ -53,17 +58,21 @@ imageWith b ws = record { version = getD b 4 0; position = positionIn b; words =
 
 -- 1, 2, 9, 8, then the elements
 pub image-chain : (p : Plan) (b : List ℕ) → readImage p b
-    ≡ (refusal 1 unless isWhole 7 b ⨾ refusal 2 unless imageVersionGood (getD b 4 0) ⨾ refusal 9 unless isUnder (p .x) (p .y) b ⨾
-    refusal 8 unless eqb (length b) (imageHead b + widths (p .kinds)) ⨾ then (readWords 0 (p .kinds) (elementsIn b)) (λ ws. done (imageWith b ws)))
+    ≡ (refusal 1 unless isWhole 7 b ⨾ refusal 2 unless imageVersionGood (getD b 4 0) ⨾
+    refusal 9 unless isUnder (p .x) (p .y) b ⨾
+    refusal 8 unless eqb (length b) (imageHead b + widths (p .kinds)) ⨾
+    then (readWords 0 (p .kinds) (elementsIn b)) (λ ws. done (imageWith b ws)))
 unfolding readImage isUnder elementsPlace imageHead positionIn elementsIn
 image-chain p b =
     let from : ℕ = elementsFrom (getD b 4 0) in
     let w : ℕ = widths (p .kinds) in
     let last : Bool → List ℕ → Verdict Image = λ t c.
-    refusal 9 unless isUnder (p .x) (p .y) b ⨾ refusal 8 unless t ⨾ then (readWords 0 (p .kinds) c) (λ ws. done (imageWith b ws)) in
+    refusal 9 unless isUnder (p .x) (p .y) b ⨾ refusal 8 unless t ⨾
+    then (readWords 0 (p .kinds) c) (λ ws. done (imageWith b ws)) in
     form-then 7 imageVersionGood b _
     ∙ unless-same (isWhole 7 b) (refusal 1) λ h.
-    let size : eqb (length (drop 7 b)) (from + w) ≡ eqb (length b) (7 + from + w) = eqb-left 7 (from + w) b (omega (arith, whole 7 b h .long)) ∙ ap (eqb (length b)) (omega arith) in
+    let size : eqb (length (drop 7 b)) (from + w) ≡ eqb (length b) (7 + from + w) =
+    eqb-left 7 (from + w) b (omega (arith, whole 7 b h .long)) ∙ ap (eqb (length b)) (omega arith) in
     ap (λ (v : Verdict Image). refusal 2 unless imageVersionGood (getD b 4 0) ⨾ v) (ap₂ last size (drop-drop from 7 b))
 
 pub image-held : (p : Plan) (b : List ℕ) {a : Image} → readImage p b ≡ done a → imageHead b ≤ length b
@@ -80,7 +89,8 @@ listWith b cs = record { from = fromIn b; to = toIn b; each = cs }
 
 -- 1, 2, 9, then the entries
 pub list-chain : (p : Plan) (b : List ℕ) → readList p b
-    ≡ (refusal 1 unless isWhole 13 b ⨾ refusal 2 unless eqb listVersion (getD b 4 0) ⨾ refusal 9 unless isUnder (p .x) (p .y) b ⨾
+    ≡ (refusal 1 unless isWhole 13 b ⨾ refusal 2 unless eqb listVersion (getD b 4 0) ⨾
+    refusal 9 unless isUnder (p .x) (p .y) b ⨾
     then (readEntries (p .kinds) 0 (entryCountIn b) (entriesIn b)) (λ cs. done (listWith b cs)))
 unfolding readList isUnder fromIn toIn entryCountIn entriesPlace entriesIn
 list-chain p b = form-then 13 (eqb listVersion) b _ ∙ rw (drop-drop 8 7 b, drop-drop 10 7 b, drop-drop 4 7 b)

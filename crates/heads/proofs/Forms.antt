@@ -20,7 +20,8 @@ table-inside b h = whole 5 b h .long
 
 -- how long a form is that passed the test of code 1
 module _ {t : Bool} where
-  pub long-enough : (least : ℕ) (b : List ℕ) → t ≡ isWhole least b → not t ≡ false → (n : ℕ) → n ≤ 4 + least → n ≤ length b
+  pub long-enough : (least : ℕ) (b : List ℕ) → t ≡ isWhole least b → not t ≡ false → (n : ℕ) → n ≤ 4 + least
+      → n ≤ length b
   long-enough least b e h n l = omega (arith, whole least b (sym e ∙ not-false t h) .long)
 
   -- the head of a whole table is inside, and so is the head of a whole list
@@ -57,6 +58,7 @@ then-tests true false a next = refl
 then-tests false t a next = refl
 
 pub form-then : {A : Type 0} (least : ℕ) (good : ℕ → Bool) (b : List ℕ) (next : Form → Verdict A)
-    → then (readForm least good b) next ≡ (refusal 1 unless isWhole least b ⨾ refusal 2 unless good (getD b 4 0) ⨾ next (formIn b))
+    → then (readForm least good b) next
+    ≡ (refusal 1 unless isWhole least b ⨾ refusal 2 unless good (getD b 4 0) ⨾ next (formIn b))
 unfolding readForm
 form-then least good b next = then-tests (isWhole least b) (good (getD b 4 0)) (formIn b) next

@@ -32,4 +32,5 @@ front-alone least L rest h =
 -- if the first is cut off, what is given is no whole form
 pub front-cut : (least : ℕ) (b : List ℕ) → length b < 4 + number (take 4 b) → isWhole least (frontForm b) ≡ false
 front-cut least b h =
-    ap (isWhole least) (sym (front-all b (omega arith))) ∙ refuted (isWhole least b) (λ e. omega (arith, whole least b e .length-is))
+    ap (isWhole least) (sym (front-all b (omega arith)))
+    ∙ refuted (isWhole least b) (λ e. omega (arith, whole least b e .length-is))

@@ -12,7 +12,8 @@ use Rattle.history.specs.Table.{Table, objectsBytes, tableBytes, Plan}
 use Rattle.history.specs.Image.{Image, widths, wordsBytes, imageBytes, elementsFrom, LegalImage, AcceptedImage}
 use Rattle.history.specs.Changes.{Changes, entries, entriesBytes, listBytes, AcceptedList}
 use Rattle.history.proofs.ImageLaws.{length-words}
-use Rattle.heads.specs.Heads.{objectsPlace, elementsPlace, imageHead, positionIn, elementsIn, fromIn, toIn, entryCountIn, entriesPlace, entriesIn}
+use Rattle.heads.specs.Heads.{objectsPlace, elementsPlace, imageHead, positionIn, elementsIn, fromIn, toIn}
+use Rattle.heads.specs.Heads.{entryCountIn, entriesPlace, entriesIn}
 
 -- ---- a table and an image as they are written
 
@@ -24,7 +25,8 @@ pub written-elements : (p : Plan) (a : Image) → elementsIn (imageBytes p a) �
 unfolding elementsIn imageHead elementsPlace elementsFrom imageBytes formBytes bytes
 written-elements p a = refl
 
-image-tail : (p : Plan) (a : Image) → positionIn (imageBytes p a) ≡ number (take 4 (bytes 4 (a .position) ++ wordsBytes (p .kinds) (a .words)))
+image-tail : (p : Plan) (a : Image)
+    → positionIn (imageBytes p a) ≡ number (take 4 (bytes 4 (a .position) ++ wordsBytes (p .kinds) (a .words)))
 unfolding positionIn imageBytes formBytes bytes
 image-tail p a = refl
 
@@ -90,7 +92,8 @@ module _ {p : Plan} {L : List ℕ} (l : AcceptedList p L) where
   to-in = ap toIn (l .same) ∙ list-to p (l .list) ∙ read-bytes 4 (l .list .to) _ (l .legal .to)
 
   pub count-in : entries (l .list .each) ≤ 1024 → entryCountIn L ≡ entries (l .list .each)
-  count-in h = ap entryCountIn (l .same) ∙ list-count p (l .list) ∙ read-bytes 2 (entries (l .list .each)) _ (omega arith)
+  count-in h =
+      ap entryCountIn (l .same) ∙ list-count p (l .list) ∙ read-bytes 2 (entries (l .list .each)) _ (omega arith)
 
   pub entries-in : entriesIn L ≡ entriesBytes 0 (p .kinds) (l .list .each)
   entries-in = ap entriesIn (l .same) ∙ list-entries p (l .list)

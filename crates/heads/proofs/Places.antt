@@ -17,7 +17,12 @@ unfolding objectsPlace
 objects-place = refl
 
 -- before a label are the earlier entries and its own type and length
-pub label-from : (t : Table) (i : ℕ) → labelPlace t i ≡ record { offset = objectsPlace + (length (objectsBytes (take i (t .objects))) + 2); size = length (object t i .label) }
+pub label-from : (t : Table) (i : ℕ)
+    → labelPlace t i
+    ≡ record {
+      offset = objectsPlace + (length (objectsBytes (take i (t .objects))) + 2);
+      size = length (object t i .label);
+    }
 unfolding objectsPlace
 label-from t i = refl
 
@@ -56,7 +61,8 @@ module _ (b : List ℕ) (place : ℕ) (e : place ≡ elementsPlace (getD b 4 0))
   elements-fill h f = ap length f ∙ length-drop (imageHead b) b ∙ omega (arith, head-is)
 
 -- the bytes from that place on are the elements
-pub elements-from : (b : List ℕ) (place : ℕ) → place ≡ imageHead b → take (length b - place) (drop place b) ≡ elementsIn b
+pub elements-from : (b : List ℕ) (place : ℕ) → place ≡ imageHead b
+    → take (length b - place) (drop place b) ≡ elementsIn b
 unfolding elementsIn
 elements-from b place e = to-end place b ∙ ap (λ (n : ℕ). drop n b) e
 

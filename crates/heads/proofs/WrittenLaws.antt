@@ -60,14 +60,16 @@ pub list-split : (x y : ℕ) (ks : List Kind) (from to : ℕ) (cs : List Change)
     ≡ listHead x y from to (entries cs) (length (entriesBytes 0 ks cs)) ++ entriesBytes 0 ks cs
 unfolding listBytes formBytes listHead opening
 list-split x y ks from to cs =
-    let long : 3 + length (bytes 4 from ++ (bytes 4 to ++ (bytes 2 (entries cs) ++ entriesBytes 0 ks cs))) ≡ 13 + length (entriesBytes 0 ks cs) =
+    let long : 3 + length (bytes 4 from ++ (bytes 4 to ++ (bytes 2 (entries cs) ++ entriesBytes 0 ks cs)))
+    ≡ 13 + length (entriesBytes 0 ks cs) =
     simp (length-append, length-bytes) (omega arith) in
     rw long (simp append-assoc)
 
 -- ---- an image
 
 -- writing the position through its part of the bytes
-pub position-put : (b : List ℕ) → imageHead b ≤ length b → (position : ℕ) {ps : List ℕ} → ps ≡ bytes (length (midOf 7 4 b)) position
+pub position-put : (b : List ℕ) → imageHead b ≤ length b → (position : ℕ) {ps : List ℕ}
+    → ps ≡ bytes (length (midOf 7 4 b)) position
     → putMid 7 4 b ps ≡ withElements b position (elementsIn b)
 unfolding withElements elementsIn imageHead elementsPlace elementsFrom
 position-put b h position e =
@@ -85,7 +87,9 @@ module _ (b es : List ℕ) (h : imageHead b ≤ length b) where
   renewed-head : imageHead renewed ≡ imageHead b
   unfolding imageHead
   renewed-head =
-      ap elementsPlace (List·getD-append (take (imageHead b) b) es 0 4 (omega (arith, front-long, head-place b)) ∙ getD-take (imageHead b) b 4 0 (omega (arith, head-place b)))
+      ap elementsPlace
+      (List·getD-append (take (imageHead b) b) es 0 4 (omega (arith, front-long, head-place b))
+      ∙ getD-take (imageHead b) b 4 0 (omega (arith, head-place b)))
 
   pub renewed-inside : imageHead renewed ≤ length renewed
   renewed-inside = omega (arith, renewed-head, length-append (take (imageHead b) b) es, front-long)
@@ -95,11 +99,14 @@ module _ (b es : List ℕ) (h : imageHead b ≤ length b) where
   unfolding withElements elementsIn
   renewed-with position =
       let front : take 7 renewed ≡ take 7 b =
-      take-append-le 7 (take (imageHead b) b) es (omega (arith, front-long, head-place b)) ∙ take-take 7 (imageHead b) b (omega (arith, head-place b)) in
-      let behind : drop (imageHead renewed) renewed ≡ es = drop-at (take (imageHead b) b) es (imageHead renewed) (front-long ∙ sym renewed-head) in
+      take-append-le 7 (take (imageHead b) b) es (omega (arith, front-long, head-place b))
+      ∙ take-take 7 (imageHead b) b (omega (arith, head-place b)) in
+      let behind : drop (imageHead renewed) renewed ≡ es =
+      drop-at (take (imageHead b) b) es (imageHead renewed) (front-long ∙ sym renewed-head) in
       ap₂ (λ (f e : List ℕ). f ++ (bytes 4 position ++ e)) front behind
 
-pub with-long : (b es : List ℕ) (position : ℕ) → imageHead b ≤ length b → length (withElements b position es) ≡ imageHead b + length es
+pub with-long : (b es : List ℕ) (position : ℕ) → imageHead b ≤ length b
+    → length (withElements b position es) ≡ imageHead b + length es
 unfolding withElements imageHead elementsPlace elementsFrom
 with-long b es position h = simp (length-append, length-bytes, length-take-le 7 b (omega arith)) (omega arith)
 
@@ -107,19 +114,26 @@ front : (n v x y : ℕ) (r : List ℕ) → take 7 (bytes 4 n ++ (v ∷ x ∷ y �
 unfolding bytes
 front n v x y r = refl
 
-image-front : (p : Plan) (a : Image) → take 7 (imageBytes p a) ≡ bytes 4 (7 + length (wordsBytes (p .kinds) (a .words))) ++ (a .version ∷ p .x ∷ p .y ∷ [])
+image-front : (p : Plan) (a : Image)
+    → take 7 (imageBytes p a)
+    ≡ bytes 4 (7 + length (wordsBytes (p .kinds) (a .words))) ++ (a .version ∷ p .x ∷ p .y ∷ [])
 unfolding imageBytes formBytes
 image-front p a =
     let n : ℕ = 7 + length (wordsBytes (p .kinds) (a .words)) in
-    let long : 3 + length (bytes 4 (a .position) ++ wordsBytes (p .kinds) (a .words)) ≡ n = simp (length-append, length-bytes) (omega arith) in
+    let long : 3 + length (bytes 4 (a .position) ++ wordsBytes (p .kinds) (a .words)) ≡ n =
+    simp (length-append, length-bytes) (omega arith) in
     rw long (front n (a .version) (p .x) (p .y) (bytes 4 (a .position) ++ wordsBytes (p .kinds) (a .words)))
 
 -- putting another position and other words into an accepted image's bytes gives the new image, written
-pub image-again : {p : Plan} {A : List ℕ} (a : AcceptedImage p A) (to : ℕ) (ws : List ℕ) → length (wordsBytes (p .kinds) ws) ≡ widths (p .kinds)
-    → withElements A to (wordsBytes (p .kinds) ws) ≡ imageBytes p (record { version = a .image .version; position = to; words = ws })
+pub image-again : {p : Plan} {A : List ℕ} (a : AcceptedImage p A) (to : ℕ) (ws : List ℕ)
+    → length (wordsBytes (p .kinds) ws) ≡ widths (p .kinds)
+    → withElements A to (wordsBytes (p .kinds) ws)
+    ≡ imageBytes p (record { version = a .image .version; position = to; words = ws })
 unfolding withElements imageBytes formBytes
 image-again {p} a to ws h =
     let w : List ℕ = wordsBytes (p .kinds) ws in
-    let long : 3 + length (bytes 4 to ++ w) ≡ 7 + widths (p .kinds) = simp (length-append, length-bytes, h) (omega arith) in
+    let long : 3 + length (bytes 4 to ++ w) ≡ 7 + widths (p .kinds) =
+    simp (length-append, length-bytes, h) (omega arith) in
     ap (λ (b : List ℕ). take 7 b ++ (bytes 4 to ++ w)) (a .same)
-    ∙ rw (image-front p (a .image), length-words (a .legal .words), long) (append-assoc (bytes 4 (7 + widths (p .kinds))) _ (bytes 4 to ++ w))
+    ∙ rw (image-front p (a .image), length-words (a .legal .words), long)
+    (append-assoc (bytes 4 (7 + widths (p .kinds))) _ (bytes 4 to ++ w))

@@ -38,7 +38,8 @@ pub fn is_under(form: &[u8], x: u8, y: u8) -> bool
     form[6] == y
 }
 
-// The first of several forms that lie end to end. Bytes that hold none in full are returned as they are, and `is_whole` is false for them.
+// The first of several forms that lie end to end. Bytes that hold none in full are returned as
+// they are, and `is_whole` is false for them.
 pub fn front_form(forms: &[u8]) -> &[u8]
     ensures { λ r. ⌜ now r ≡ frontForm (now (forms .entry)) ⌝ }
 {

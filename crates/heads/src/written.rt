@@ -37,7 +37,8 @@ fn put_opening(part: &mut [u8], after: u32, x: u8, y: u8)
 // Writes a position into an image; all else stays.
 pub fn put_position(image: &mut [u8], position: u32)
     requires { ⌜ imageHead (now image) ≤ length (now image) ⌝ }
-    ensures { λ _. ⌜ now (image .exit) ≡ withElements (now (image .entry)) position (elementsIn (now (image .entry))) ⌝ }
+    ensures { λ _.
+        ⌜ now (image .exit) ≡ withElements (now (image .entry)) position (elementsIn (now (image .entry))) ⌝ }
 {
     octets::put(&mut image[7..11], position);
 }

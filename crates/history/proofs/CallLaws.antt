@@ -7,10 +7,13 @@ use Rattle.octets.specs.Octets.{Bytes}
 use Rattle.history.specs.Verdict.{done, then}
 use Rattle.history.specs.Table.{Plan}
 use Rattle.history.specs.Image.{Image, imageBytes, readImage, LegalImage, AcceptedImage}
-use Rattle.history.specs.Changes.{Changes, listBytes, readList, LegalList, AcceptedList, difference, applied, join, turned}
-use Rattle.history.specs.Calls.{readPlan, imageCall, listCall, differenceUnder, differenceCall, applyUnder, applyCall, joinUnder, joinCall, turnUnder, turnCall}
+use Rattle.history.specs.Changes.{Changes, listBytes, readList, LegalList, AcceptedList, difference, applied}
+use Rattle.history.specs.Changes.{join, turned}
+use Rattle.history.specs.Calls.{readPlan, imageCall, listCall, differenceUnder, differenceCall, applyUnder}
+use Rattle.history.specs.Calls.{applyCall, joinUnder, joinCall, turnUnder, turnCall}
 use Rattle.history.proofs.VerdictLaws.{used}
-use Rattle.history.proofs.OperationLaws.{difference-legal, apply-difference, only-difference, result-legal, join-differences, join-legal, turned-legal, turned-difference}
+use Rattle.history.proofs.OperationLaws.{difference-legal, apply-difference, only-difference, result-legal}
+use Rattle.history.proofs.OperationLaws.{join-differences, join-legal, turned-legal, turned-difference}
 use Rattle.history.proofs.ImageLaws.{image-is, image-reads}
 use Rattle.history.proofs.ListLaws.{list-is, list-reads}
 use Rattle.history.proofs.TableLaws.{plan-fair}
@@ -41,22 +44,27 @@ module _ (T : List ℕ) {p : Plan} (t : readPlan T ≡ done p) where
 
   -- what is legal is accepted when written
   abbrev pub legal-image : {A : List ℕ} {a : Image} → LegalImage p a → A ≡ imageBytes p a → AcceptedImage p A
-  legal-image {A} {a} h e = record { image = a; legal = h; reads = ap (readImage p) e ∙ image-reads (plan-fair T t) h; same = e }
+  legal-image {A} {a} h e =
+      record { image = a; legal = h; reads = ap (readImage p) e ∙ image-reads (plan-fair T t) h; same = e }
 
   abbrev pub legal-list : {L : List ℕ} {l : Changes} → LegalList p l → L ≡ listBytes p l → AcceptedList p L
-  legal-list {L} {l} h e = record { list = l; legal = h; reads = ap (readList p) e ∙ list-reads (plan-fair T t) h; same = e }
+  legal-list {L} {l} h e =
+      record { list = l; legal = h; reads = ap (readList p) e ∙ list-reads (plan-fair T t) h; same = e }
 
   -- ---- what each call gives, once its forms are accepted
 
-  pub difference-is : {A B : List ℕ} (a : AcceptedImage p A) (b : AcceptedImage p B) → differenceCall T A B ≡ done (listBytes p (difference (a .image) (b .image)))
+  pub difference-is : {A B : List ℕ} (a : AcceptedImage p A) (b : AcceptedImage p B)
+      → differenceCall T A B ≡ done (listBytes p (difference (a .image) (b .image)))
   unfolding differenceCall differenceUnder
   difference-is a b = rw (t, a .reads, b .reads)
 
-  pub apply-is : {A L : List ℕ} (a : AcceptedImage p A) (l : AcceptedList p L) → applyCall T A L ≡ then (applied (l .list) (a .image)) (λ b. done (imageBytes p b))
+  pub apply-is : {A L : List ℕ} (a : AcceptedImage p A) (l : AcceptedList p L)
+      → applyCall T A L ≡ then (applied (l .list) (a .image)) (λ b. done (imageBytes p b))
   unfolding applyCall applyUnder
   apply-is a l = rw (t, a .reads, l .reads)
 
-  pub join-is : {L M : List ℕ} (l : AcceptedList p L) (m : AcceptedList p M) → joinCall T L M ≡ then (join (l .list) (m .list)) (λ k. done (listBytes p k))
+  pub join-is : {L M : List ℕ} (l : AcceptedList p L) (m : AcceptedList p M)
+      → joinCall T L M ≡ then (join (l .list) (m .list)) (λ k. done (listBytes p k))
   unfolding joinCall joinUnder
   join-is l m = rw (t, l .reads, m .reads)
 
@@ -66,7 +74,8 @@ module _ (T : List ℕ) {p : Plan} (t : readPlan T ≡ done p) where
 
   -- ---- answers are accepted again
 
-  pub difference-list : {A B L : List ℕ} (a : AcceptedImage p A) (b : AcceptedImage p B) → differenceCall T A B ≡ done L → AcceptedList p L
+  pub difference-list : {A B L : List ℕ} (a : AcceptedImage p A) (b : AcceptedImage p B) → differenceCall T A B ≡ done L
+      → AcceptedList p L
   difference-list {L = L} a b e =
       let L-is : L ≡ listBytes p (difference (a .image) (b .image)) = cc (difference-is a b) in
       legal-list (difference-legal (a .legal) (b .legal)) L-is
@@ -93,20 +102,24 @@ module _ (T : List ℕ) {p : Plan} (t : readPlan T ≡ done p) where
   -- ---- demand 3
 
   -- the list from A to B turns A into B, if both have the same version
-  pub difference-applies : {A B L : List ℕ} (a : AcceptedImage p A) (b : AcceptedImage p B) → a .image .version ≡ b .image .version → differenceCall T A B ≡ done L → applyCall T A L ≡ done B
+  pub difference-applies : {A B L : List ℕ} (a : AcceptedImage p A) (b : AcceptedImage p B)
+      → a .image .version ≡ b .image .version → differenceCall T A B ≡ done L → applyCall T A L ≡ done B
   difference-applies {A} {B} {L} a b v e =
       let L-is : L ≡ listBytes p (difference (a .image) (b .image)) = cc (difference-is a b) in
       let l = legal-list (difference-legal (a .legal) (b .legal)) L-is in
       apply-is a l ∙ rw (apply-difference (a .legal) (b .legal) v, b .same)
 
   -- .. and is the only accepted list that does
-  pub only-difference-applies : {A B L : List ℕ} → AcceptedImage p A → AcceptedList p L → applyCall T A L ≡ done B → differenceCall T A B ≡ done L
+  pub only-difference-applies : {A B L : List ℕ} → AcceptedImage p A → AcceptedList p L → applyCall T A L ≡ done B
+      → differenceCall T A B ≡ done L
   only-difference-applies a l e =
       let q = applied-image a l e in
-      difference-is a (q .0) ∙ ap done (ap (listBytes p) (sym (only-difference (l .legal) (a .legal) (q .1))) ∙ sym (l .same))
+      difference-is a (q .0)
+      ∙ ap done (ap (listBytes p) (sym (only-difference (l .legal) (a .legal) (q .1))) ∙ sym (l .same))
 
   -- the list from A to B joined with the list from B to C is the list from A to C
-  pub differences-join : {A B C L M : List ℕ} → AcceptedImage p A → AcceptedImage p B → AcceptedImage p C → differenceCall T A B ≡ done L → differenceCall T B C ≡ done M
+  pub differences-join : {A B C L M : List ℕ} → AcceptedImage p A → AcceptedImage p B → AcceptedImage p C
+      → differenceCall T A B ≡ done L → differenceCall T B C ≡ done M
       → joinCall T L M ≡ differenceCall T A C
   differences-join {L = L} {M = M} a b c e g =
       let L-is : L ≡ listBytes p (difference (a .image) (b .image)) = cc (difference-is a b) in
@@ -116,7 +129,9 @@ module _ (T : List ℕ) {p : Plan} (t : readPlan T ≡ done p) where
       join-is l m ∙ rw (join-differences (a .legal) (b .legal) (c .legal)) (sym (difference-is a c))
 
   -- turned back, it is the list from B to A
-  pub difference-turned : {A B L : List ℕ} → AcceptedImage p A → AcceptedImage p B → differenceCall T A B ≡ done L → turnCall T L ≡ differenceCall T B A
+  pub difference-turned : {A B L : List ℕ} → AcceptedImage p A → AcceptedImage p B → differenceCall T A B ≡ done L
+      → turnCall T L ≡ differenceCall T B A
   difference-turned {L = L} a b e =
       let L-is : L ≡ listBytes p (difference (a .image) (b .image)) = cc (difference-is a b) in
-      turn-is (legal-list (difference-legal (a .legal) (b .legal)) L-is) ∙ rw (turned-difference (a .image) (b .image)) (sym (difference-is b a))
+      turn-is (legal-list (difference-legal (a .legal) (b .legal)) L-is)
+      ∙ rw (turned-difference (a .image) (b .image)) (sym (difference-is b a))

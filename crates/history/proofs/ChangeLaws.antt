@@ -28,7 +28,8 @@ by-cases P a b p q = go (ℕ-discrete a b)
     go (no h) = q h
 
 pub fits-differ : (a b : ℕ) → fits (differ a b) a ≡ true
-fits-differ a b = by-cases (λ b. fits (differ a b) a ≡ true) a b (rw differ-same) (λ h. rw (differ-other a b h) (eq-eqb a a refl))
+fits-differ a b =
+    by-cases (λ b. fits (differ a b) a ≡ true) a b (rw differ-same) (λ h. rw (differ-other a b h) (eq-eqb a a refl))
 
 pub after-differ : (a b : ℕ) → after (differ a b) a ≡ b
 after-differ a b = by-cases (λ b. after (differ a b) a ≡ b) a b (rw differ-same) (λ h. rw (differ-other a b h))
@@ -36,15 +37,19 @@ after-differ a b = by-cases (λ b. after (differ a b) a ≡ b) a b (rw differ-sa
 pub meets-differ : (a b c : ℕ) → meets (differ a b) (differ b c) ≡ true
 meets-differ a b c =
     by-cases (λ b. meets (differ a b) (differ b c) ≡ true) a b (rw differ-same)
-    (λ h. by-cases (λ c. meets (differ a b) (differ b c) ≡ true) b c (rw (differ-same b, differ-other a b h)) (λ k. rw (differ-other a b h, differ-other b c k) (eq-eqb b b refl)))
+    (λ h. by-cases (λ c. meets (differ a b) (differ b c) ≡ true) b c (rw (differ-same b, differ-other a b h))
+    (λ k. rw (differ-other a b h, differ-other b c k) (eq-eqb b b refl)))
 
 pub joined-differ : (a b c : ℕ) → joined (differ a b) (differ b c) ≡ differ a c
 joined-differ a b c =
     by-cases (λ b. joined (differ a b) (differ b c) ≡ differ a c) a b (rw (differ-same a))
-    (λ h. by-cases (λ c. joined (differ a b) (differ b c) ≡ differ a c) b c (rw (differ-same b, differ-other a b h)) (λ k. rw (differ-other a b h, differ-other b c k)))
+    (λ h. by-cases (λ c. joined (differ a b) (differ b c) ≡ differ a c) b c (rw (differ-same b, differ-other a b h))
+    (λ k. rw (differ-other a b h, differ-other b c k)))
 
 pub back-differ : (a b : ℕ) → back (differ a b) ≡ differ b a
-back-differ a b = by-cases (λ b. back (differ a b) ≡ differ b a) a b (rw (differ-same a)) (λ h. rw (differ-other a b h, differ-other b a (λ e. h (sym e))))
+back-differ a b =
+    by-cases (λ b. back (differ a b) ≡ differ b a) a b (rw (differ-same a))
+    (λ h. rw (differ-other a b h, differ-other b a (λ e. h (sym e))))
 
 -- what a lawful swap tells
 pub record Lawful (k : Kind) (a b : ℕ) : Type 0 where
@@ -61,12 +66,14 @@ lawful-swap k old new h = record {
 
 pub lawful-differ : (k : Kind) (a b : ℕ) → admits k a ≡ true → admits k b ≡ true → lawful k (differ a b) ≡ true
 lawful-differ k a b p q =
-    by-cases (λ b. admits k b ≡ true → lawful k (differ a b) ≡ true) a b (λ q. rw differ-same) (λ h q. rw (differ-other a b h, p, q, ne-eqb a b h)) q
+    by-cases (λ b. admits k b ≡ true → lawful k (differ a b) ≡ true) a b (λ q. rw differ-same)
+    (λ h q. rw (differ-other a b h, p, q, ne-eqb a b h)) q
 
 pub lawful-joined : (k : Kind) (c d : Change) → lawful k c ≡ true → lawful k d ≡ true → lawful k (joined c d) ≡ true
 lawful-joined k keep d p q = q
 lawful-joined k (swap old new) keep p q = p
-lawful-joined k (swap old new) (swap old′ new′) p q = lawful-differ k old new′ (lawful-swap k old new p .old) (lawful-swap k old′ new′ q .new)
+lawful-joined k (swap old new) (swap old′ new′) p q =
+    lawful-differ k old new′ (lawful-swap k old new p .old) (lawful-swap k old′ new′ q .new)
 
 pub lawful-back : (k : Kind) (c : Change) → lawful k c ≡ true → lawful k (back c) ≡ true
 lawful-back k keep p = refl

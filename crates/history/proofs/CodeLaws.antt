@@ -16,10 +16,15 @@ use Rattle.history.specs.Verdict.{Refused, Verdict, refused, done, told,
 use Rattle.history.specs.Table.{Plan}
 use Rattle.history.specs.Image.{Image, readImage}
 use Rattle.history.specs.Changes.{Changes, readList, applied}
-use Rattle.history.specs.Calls.{tableCall, imageCall, listCall, differenceCall, applyCall, joinCall, turnCall, readStateCall, checkState, writeStateCall, labelCall}
+use Rattle.history.specs.Calls.{tableCall, imageCall, listCall, differenceCall, applyCall, joinCall, turnCall}
+use Rattle.history.specs.Calls.{readStateCall, checkState, writeStateCall, labelCall}
 use Rattle.history.proofs.VerdictLaws.{left, right}
 use Rattle.history.proofs.OutputLaws.{Ran, succeeds, too-short}
-use Rattle.history.proofs.NameLaws.{nothings, objects, itsNumbers, oneOf, Names, nothing, an-object, its-number, no-object, its-field, Named, NoNumber, image-named, list-named, applied-named, state-named, table-call-named, image-call-named, list-call-named, difference-call-named, apply-call-named, join-call-named, turn-call-named, read-call-named, write-call-named, label-call-named}
+use Rattle.history.proofs.NameLaws.{nothings, objects, itsNumbers, oneOf, Names, nothing, an-object, its-number}
+use Rattle.history.proofs.NameLaws.{no-object, its-field, Named, NoNumber, image-named, list-named}
+use Rattle.history.proofs.NameLaws.{applied-named, state-named, table-call-named, image-call-named}
+use Rattle.history.proofs.NameLaws.{list-call-named, difference-call-named, apply-call-named, join-call-named}
+use Rattle.history.proofs.NameLaws.{turn-call-named, read-call-named, write-call-named, label-call-named}
 
 -- the paper's codes except 21
 abbrev pub codes : List ℕ
@@ -51,7 +56,8 @@ field-code (reserved r e) = refl
 field-code (unlisted r e) = refl
 field-code (silent e) = refl
 
-pub coded-by : {P : Refused → Type 0} {A : Type 0} {v : Verdict A} → ((r : Refused) → P r → IsCode (r .code)) → Named P v → Coded v
+pub coded-by : {P : Refused → Type 0} {A : Type 0} {v : Verdict A} → ((r : Refused) → P r → IsCode (r .code))
+    → Named P v → Coded v
 coded-by {v = refused r} f h = f r (h .names refl)
 coded-by {v = done a} f h = tt
 
@@ -107,7 +113,8 @@ module _ (t : List ℕ) where
   pub read-call-coded : (a : List ℕ) (i : ℕ) → Coded (readStateCall t a i)
   read-call-coded a i = coded (read-call-named t a i)
 
-  pub write-call-coded : (a : List ℕ) (i : ℕ) (state : Element) (position : ℕ) → Coded (writeStateCall t a i state position)
+  pub write-call-coded : (a : List ℕ) (i : ℕ) (state : Element) (position : ℕ)
+      → Coded (writeStateCall t a i state position)
   write-call-coded a i state position = coded (write-call-named t a i state position)
 
   pub label-call-coded : (i : ℕ) → Coded (labelCall t i)
@@ -119,21 +126,24 @@ pub not-zero : {A : Type 0} {code : ℕ} → IsCode code → code ≡ 0 → A
 not-zero h e = absurd (false≢true (sym (ap (oneOf codes) e) ∙ h))
 
 -- a call that writes: it was done, and there was room for the result ..
-pub zero-succeeds : (v : Verdict (List ℕ)) (out : List ℕ) → Coded v → settled v out .answer .code ≡ 0 → (b : List ℕ) × (v ≡ done b) × (length b ≤ length out)
+pub zero-succeeds : (v : Verdict (List ℕ)) (out : List ℕ) → Coded v → settled v out .answer .code ≡ 0
+    → (b : List ℕ) × (v ≡ done b) × (length b ≤ length out)
 unfolding settled
 zero-succeeds (refused r) out h e = not-zero h e
 zero-succeeds (done b) out h e = (b, refl, go (leb (length b) (length out)) refl)
   where
     go : (u : Bool) → leb (length b) (length out) ≡ u → length b ≤ length out
     go true q = leb-true _ _ q
-    go false q = absurd (omega (arith, ap (λ (a : Answer). a .code) (too-short {v = done b} out refl (leb-false _ _ q) .0)))
+    go false q =
+        absurd (omega (arith, ap (λ (a : Answer). a .code) (too-short {v = done b} out refl (leb-false _ _ q) .0)))
 
 -- .. whose bytes are in front; the rest is as it was
 pub record Delivered (v : Verdict (List ℕ)) (out : List ℕ) (r : Answer) (m : List ℕ) : Type 0 where
   pub bytes : v ≡ done (take (r .length) m)
   pub rest : drop (r .length) m ≡ drop (r .length) out
 
-pub delivered : {v : Verdict (List ℕ)} {out : List ℕ} {r : Answer} {m : List ℕ} → Coded v → Ran v out r m → r .code ≡ 0 → Delivered v out r m
+pub delivered : {v : Verdict (List ℕ)} {out : List ℕ} {r : Answer} {m : List ℕ} → Coded v → Ran v out r m → r .code ≡ 0
+    → Delivered v out r m
 delivered {v} {out} {r} {m} c o z =
     let q = zero-succeeds v out c (ap (λ (a : Answer). a .code) (sym (o .leaves .0)) ∙ z) in
     let s = succeeds out (q .1) (q .2) in

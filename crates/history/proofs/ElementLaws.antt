@@ -25,7 +25,8 @@ use Rattle.history.proofs.VerdictLaws.{all, left, right}
 
 -- ---- one element
 
-pub was-accepted : {A : Type 0} (v : Finding) (i : ℕ) (r : Verdict A) {a : A} → (v of i ⨾ r) ≡ done a → (isAccepted v ≡ true) × (r ≡ done a)
+pub was-accepted : {A : Type 0} (v : Finding) (i : ℕ) (r : Verdict A) {a : A} → (v of i ⨾ r) ≡ done a
+    → (isAccepted v ≡ true) × (r ≡ done a)
 was-accepted Finding.Accepted i r e = (refl, e)
 was-accepted (Finding.Refused x) i r e = absurd (let z : _≡_ {A = ℕ} 0 1 = cc in omega arith)
 
@@ -70,7 +71,8 @@ admits-read k w h = accepted-state k w (accepted (elementCheck k w) (admits-acce
 pub state-again : (k : Kind) (e : Element) → kindIn e ≡ k → stateOf k (wordOf e) ≡ e
 state-again k e s = ap (λ (j : Kind). stateOf j (wordOf e)) (sym s) ∙ state-word-state e
 
-pub state-admitted : (k : Kind) (e : Element) → kindIn e ≡ k → isAccepted (element k (wordOf e)) ≡ true → admits k (wordOf e) ≡ true
+pub state-admitted : (k : Kind) (e : Element) → kindIn e ≡ k → isAccepted (element k (wordOf e)) ≡ true
+    → admits k (wordOf e) ≡ true
 state-admitted k e s h =
     let fits : wordOf e < 256 ^ widthOf k = rw (← s, pow-256 (widthOf (kindIn e))) (word-fits e) in
     all (lt-ltb _ _ fits) h

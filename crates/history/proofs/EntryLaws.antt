@@ -1,5 +1,6 @@
--- A table whose entry k is refused with 5, 6 or 7 begins with k legal objects, no two of them the same. 5 is given exactly where an entry
--- follows whose type its catalogue doesn't carry, 7 exactly where one of these objects follows again.
+-- A table whose entry k is refused with 5, 6 or 7 begins with k legal objects, no two of them the same. 5 is given
+-- exactly where an entry follows whose type its catalogue doesn't carry, 7 exactly where one of
+-- these objects follows again.
 -- Assumes nothing.
 use Prim.Native.Nat.{ℕ, zero, suc, _+_, _-_, _^_, _≤_, _<_}
 use native.Mathlib.Omega.{arith}
@@ -15,10 +16,12 @@ use Rattle.octets.specs.Octets.{bytes, number, Bytes}
 use Rattle.octets.proofs.NumberLaws.{length-bytes, read-bytes, drop-bytes, below, cut}
 use Rattle.history.specs.Verdict.{Refused, naming, refused, done, refusalAt}
 use Rattle.history.specs.Form.{Form, formBytes, readForm}
-use Rattle.history.specs.Table.{Object, Table, object, versionGood, catalogueGood, objectBytes, objectsBytes, repeats, ObjectEntry, objectAt, checkObject, readObjects, readTable, LegalTable}
+use Rattle.history.specs.Table.{Object, Table, object, versionGood, catalogueGood, objectBytes, objectsBytes}
+use Rattle.history.specs.Table.{repeats, ObjectEntry, objectAt, checkObject, readObjects, readTable, LegalTable}
 use Rattle.history.proofs.VerdictLaws.{one-refusal, either-refused, passed-up, past, stopped}
 use Rattle.history.proofs.FormLaws.{form-whole, form-version, form-other, form-is, form-length, form-reads}
-use Rattle.history.proofs.TableLaws.{repeats-one, repeats-each, LegalFrom, legal-each, legal-distinct, legal-from, tested, object-is, object-checked, object-other, objects-pass}
+use Rattle.history.proofs.TableLaws.{repeats-one, repeats-each, LegalFrom, legal-each, legal-distinct}
+use Rattle.history.proofs.TableLaws.{legal-from, tested, object-is, object-checked, object-other, objects-pass}
 
 module _ (version x : ℕ) where
   -- the first entry that is refused; those before it are legal
@@ -30,10 +33,13 @@ module _ (version x : ℕ) where
     same : b ≡ objectsBytes more ++ rest
     here : checkObject version x (earlier ++ more) rest (objectAt rest) ≡ refused r
 
-  stops-here : (earlier : List Object) (n : ℕ) (b : List ℕ) {r : Refused} → checkObject version x earlier b (objectAt b) ≡ refused r → Stops earlier (suc n) b r
-  stops-here earlier n b q = record { more = []; legal = tt; count = omega arith; rest = b; same = refl; here = rw (append-nil earlier) q }
+  stops-here : (earlier : List Object) (n : ℕ) (b : List ℕ) {r : Refused}
+      → checkObject version x earlier b (objectAt b) ≡ refused r → Stops earlier (suc n) b r
+  stops-here earlier n b q =
+      record { more = []; legal = tt; count = omega arith; rest = b; same = refl; here = rw (append-nil earlier) q }
 
-  stops-later : (earlier : List Object) (n : ℕ) (b : List ℕ) {f : ObjectEntry} {r : Refused} → checkObject version x earlier b (objectAt b) ≡ done f
+  stops-later : (earlier : List Object) (n : ℕ) (b : List ℕ) {f : ObjectEntry} {r : Refused}
+      → checkObject version x earlier b (objectAt b) ≡ done f
       → Stops (earlier ++ (f .object ∷ [])) n (f .rest) r → Stops earlier (suc n) b r
   stops-later earlier n b {f} q r =
       let i = object-is version x earlier b q in
@@ -43,18 +49,25 @@ module _ (version x : ℕ) where
         legal = (i .legal, i .fresh, r .legal);
         count = omega (arith, r .count);
         rest = r .rest;
-        same = i .whole ∙ ap (λ (c : List ℕ). objectBytes o ++ c) (r .same) ∙ sym (append-assoc (objectBytes o) (objectsBytes (r .more)) (r .rest));
+        same =
+            i .whole ∙ ap (λ (c : List ℕ). objectBytes o ++ c) (r .same)
+            ∙ sym (append-assoc (objectBytes o) (objectsBytes (r .more)) (r .rest));
         here = rw (append-assoc earlier (o ∷ []) (r .more)) at (r .here);
       }
 
   -- for codes below 8: 8 is also given where bytes are left over and no entry is refused
-  stops : (earlier : List Object) (n : ℕ) (b : List ℕ) {r : Refused} → r .code < 8 → readObjects version x earlier n b ≡ refused r → Stops earlier n b r
-  stops earlier zero b l e = absurd (let p = past (eqb (length b) 0) _ _ (λ z. omega arith) e in let z : _≡_ {A = ℕ} 0 1 = cc (p .1) in omega arith)
+  stops : (earlier : List Object) (n : ℕ) (b : List ℕ) {r : Refused} → r .code < 8
+      → readObjects version x earlier n b ≡ refused r → Stops earlier n b r
+  stops earlier zero b l e =
+      absurd (let p = past (eqb (length b) 0) _ _ (λ z. omega arith) e in let z : _≡_ {A = ℕ} 0 1 = cc (p .1) in
+      omega arith)
   stops earlier (suc n) b l e =
-      ⊎-elim (stops-here earlier n b) (λ p. stops-later earlier n b (p .1) (stops (earlier ++ (p .0 .object ∷ [])) n (p .0 .rest) l (p .2)))
+      ⊎-elim (stops-here earlier n b)
+      (λ p. stops-later earlier n b (p .1) (stops (earlier ++ (p .0 .object ∷ [])) n (p .0 .rest) l (p .2)))
       (either-refused (checkObject version x earlier b (objectAt b)) _ e)
 
--- a table that says it has more than k objects, begins with the k objects of a legal table, and goes on as `GoesOn` says
+-- a table that says it has more than k objects, begins with the k objects of a legal table, and
+-- goes on as `GoesOn` says
 pub record FirstAt (GoesOn : Table → List ℕ → Type 0) (b : List ℕ) (k : ℕ) : Type 0 where
   pub before : Table
   pub legal : LegalTable before
@@ -72,15 +85,20 @@ pub record FirstAt (GoesOn : Table → List ℕ → Type 0) (b : List ℕ) (k : 
     contents = bytes 2 count ++ (objectsBytes (before .objects) ++ rest);
   })
 
--- the entry after a legal table's objects is refused with the code exactly where the bytes go on this way; it is named, and no bit
+-- the entry after a legal table's objects is refused with the code exactly where the bytes go on this way;
+-- it is named, and no bit
 abbrev RefusedWith : ℕ → (Table → List ℕ → Type 0) → Type 0
 RefusedWith code GoesOn = (t : Table) → LegalTable t → (rest : List ℕ) (k bit : ℕ)
-    → (checkObject (t .version) (t .x) (t .objects) rest (objectAt rest) ≡ refused (naming code k bit)) ↔ (GoesOn t rest × (length (t .objects) ≡ k) × (bit ≡ 255))
+    → (checkObject (t .version) (t .x) (t .objects) rest (objectAt rest) ≡ refused (naming code k bit)) ↔
+    (GoesOn t rest × (length (t .objects) ≡ k) × (bit ≡ 255))
 
 -- then so is the table, if only entries give the code: 5, 6, 7
-module _ (code : ℕ) (GoesOn : Table → List ℕ → Type 0) (late : 4 < code) (early : code < 8) (exactly : RefusedWith code GoesOn) where
-  first-contents : (b : List ℕ) (f : Form) {k bit : ℕ} → Bytes b → readForm 5 versionGood b ≡ done f → catalogueGood (f .x) (f .y) ≡ true → number (take 2 (f .contents)) ≤ 1024
-      → Stops (f .version) (f .x) [] (number (take 2 (f .contents))) (drop 2 (f .contents)) (naming code k bit) → FirstAt GoesOn b k × (bit ≡ 255)
+module _ (code : ℕ) (GoesOn : Table → List ℕ → Type 0) (late : 4 < code) (early : code < 8)
+    (exactly : RefusedWith code GoesOn) where
+  first-contents : (b : List ℕ) (f : Form) {k bit : ℕ} → Bytes b → readForm 5 versionGood b ≡ done f
+      → catalogueGood (f .x) (f .y) ≡ true → number (take 2 (f .contents)) ≤ 1024
+      → Stops (f .version) (f .x) [] (number (take 2 (f .contents))) (drop 2 (f .contents)) (naming code k bit)
+      → FirstAt GoesOn b k × (bit ≡ 255)
   first-contents b f {k} {bit} h e c few r =
       let n : ℕ = number (take 2 (f .contents)) in
       let o = form-is 5 versionGood b (omega arith) h e in
@@ -104,13 +122,17 @@ module _ (code : ℕ) (GoesOn : Table → List ℕ → Type 0) (late : 4 < code)
           rest = r .rest;
           next = x .0;
           short = omega (arith, size .length-is, below 4 b (omega (arith, size .long)) h);
-          whole = o .whole ∙ ap (λ (c : List ℕ). formBytes (record { version = f .version; x = f .x; y = f .y; contents = c }))
-              (cut 2 (f .contents) (omega (arith, o .enough)) (o .inside) ∙ ap (λ (c : List ℕ). bytes 2 n ++ c) (r .same));
+          whole =
+              o .whole ∙ ap (λ (c : List ℕ). formBytes
+              (record { version = f .version; x = f .x; y = f .y; contents = c }))
+              (cut 2 (f .contents) (omega (arith, o .enough)) (o .inside)
+              ∙ ap (λ (c : List ℕ). bytes 2 n ++ c) (r .same));
         },
         x .2,
       )
 
-  first-found : (b : List ℕ) → Bytes b → {k bit : ℕ} → readTable b ≡ refused (naming code k bit) → FirstAt GoesOn b k × (bit ≡ 255)
+  first-found : (b : List ℕ) → Bytes b → {k bit : ℕ} → readTable b ≡ refused (naming code k bit)
+      → FirstAt GoesOn b k × (bit ≡ 255)
   unfolding readTable
   first-found b h e =
       ⊎-elim (λ r. absurd (form-other 5 versionGood b (omega arith) r))
@@ -120,7 +142,8 @@ module _ (code : ℕ) (GoesOn : Table → List ℕ → Type 0) (late : 4 < code)
       let p₁ = past (catalogueGood (f .x) (f .y)) _ _ (λ z. omega arith) (p .2) in
       let p₂ = past (leb n 1024) _ _ (λ z. omega arith) (p₁ .1) in
       let p₃ = passed-up (readObjects (f .version) (f .x) [] n (drop 2 (f .contents))) _ (p₂ .1) in
-      first-contents b f h (p .1) (p₁ .0) (leb-true _ _ (p₂ .0)) (stops (f .version) (f .x) [] n (drop 2 (f .contents)) early p₃))
+      first-contents b f h (p .1) (p₁ .0) (leb-true _ _ (p₂ .0))
+      (stops (f .version) (f .x) [] n (drop 2 (f .contents)) early p₃))
       (either-refused (readForm 5 versionGood b) _ e)
 
   first-reads : (b : List ℕ) (k : ℕ) → FirstAt GoesOn b k → readTable b ≡ refusalAt code k
@@ -139,7 +162,8 @@ module _ (code : ℕ) (GoesOn : Table → List ℕ → Type 0) (late : 4 < code)
       let two : length (bytes 2 (w .count) ++ c) ≡ 2 + length c = simp (length-append, length-bytes) in
       ap readTable (w .whole)
       ∙ rw (
-        form-reads 5 versionGood form (w .legal .version) (omega arith) (omega (arith, w .short, ap length (w .whole), form-length form)),
+        form-reads 5 versionGood form (w .legal .version) (omega arith)
+            (omega (arith, w .short, ap length (w .whole), form-length form)),
         w .legal .catalogue,
         read-bytes 2 (w .count) c (omega (arith, w .few)),
         drop-bytes 2 (w .count) c,
@@ -147,8 +171,10 @@ module _ (code : ℕ) (GoesOn : Table → List ℕ → Type 0) (late : 4 < code)
         read,
       )
 
-  first-exactly : (b : List ℕ) → Bytes b → (k bit : ℕ) → (readTable b ≡ refused (naming code k bit)) ↔ (FirstAt GoesOn b k × (bit ≡ 255))
-  first-exactly b h k bit = (first-found b h, (λ w. first-reads b k (w .0) ∙ ap (λ (bit : ℕ). refused (naming code k bit)) (sym (w .1))))
+  first-exactly : (b : List ℕ) → Bytes b → (k bit : ℕ)
+      → (readTable b ≡ refused (naming code k bit)) ↔ (FirstAt GoesOn b k × (bit ≡ 255))
+  first-exactly b h k bit =
+      (first-found b h, (λ w. first-reads b k (w .0) ∙ ap (λ (bit : ℕ). refused (naming code k bit)) (sym (w .1))))
 
 -- ---- 5
 
@@ -159,15 +185,19 @@ pub record NotCarried (t : Table) (rest : List ℕ) : Type 0 where
 
 other-exactly : RefusedWith 5 NotCarried
 other-exactly t legal rest k bit =
-    let e = object-other (t .version) (t .x) (t .objects) rest k bit in
-    ((λ q. let w = e .0 q in (record { two = w .0; type = w .1 }, w .2, w .3)), (λ w. e .1 (w .0 .two, w .0 .type, w .1, w .2)))
+    let e = object-other (t .version) (t .x) (t .objects) rest k bit in (
+      (λ q. let w = e .0 q in (record { two = w .0; type = w .1 }, w .2, w .3)),
+      (λ w. e .1 (w .0 .two, w .0 .type, w .1, w .2)),
+    )
 
--- a table that begins with the objects of a legal one, followed by an entry whose type its catalogue doesn't carry, and by anything
+-- a table that begins with the objects of a legal one, followed by an entry whose type its
+-- catalogue doesn't carry, and by anything
 abbrev pub FirstNotCarried : List ℕ → ℕ → Type 0
 FirstNotCarried = FirstAt NotCarried
 
 -- 5 exactly where a table begins in this way
-pub table-others : (b : List ℕ) → Bytes b → (k bit : ℕ) → (readTable b ≡ refused (naming 5 k bit)) ↔ (FirstNotCarried b k × (bit ≡ 255))
+pub table-others : (b : List ℕ) → Bytes b → (k bit : ℕ)
+    → (readTable b ≡ refused (naming 5 k bit)) ↔ (FirstNotCarried b k × (bit ≡ 255))
 table-others = first-exactly 5 NotCarried (omega arith) (omega arith) other-exactly
 
 -- ---- 7
@@ -184,14 +214,24 @@ again-exactly t legal rest k bit = (
   (λ q.
       let o : Object = objectAt rest .object in
       let i = tested (t .version) (t .x) (t .objects) rest (λ r m z. m cc) q in
-      let old = stopped (not (repeats o (t .objects))) _ _ (λ z. let y : _≡_ {A = ℕ} 0 1 = cc in omega arith) (i .last) in
+      let old =
+      stopped (not (repeats o (t .objects))) _ _ (λ z. let y : _≡_ {A = ℕ} 0 1 = cc in omega arith) (i .last) in
       let r = repeats-one o (t .objects) (not-false (repeats o (t .objects)) old) in
-      let is = one-refusal (rw old at (i .last)) in
-      (record { again = r .0; earlier = r .1; after = objectAt rest .rest; same = rw (r .2) (i .whole) }, ap (λ (r : Refused). r .object) is, sym (ap (λ (r : Refused). r .bit) is))),
+      let is = one-refusal (rw old at (i .last)) in (
+        record { again = r .0; earlier = r .1; after = objectAt rest .rest; same = rw (r .2) (i .whole) },
+        ap (λ (r : Refused). r .object) is,
+        sym (ap (λ (r : Refused). r .bit) is),
+      )),
   (λ w.
       let a = w .0 in
       let legal-again = legal .each (a .again) (a .earlier) in
-      rw (a .same, object-checked (t .version) (t .x) (t .objects) (object t (a .again)) (a .after) legal-again, repeats-each (t .objects) (a .again) (a .earlier), w .1, w .2)),
+      rw (
+        a .same,
+        object-checked (t .version) (t .x) (t .objects) (object t (a .again)) (a .after) legal-again,
+        repeats-each (t .objects) (a .again) (a .earlier),
+        w .1,
+        w .2,
+      )),
 )
 
 -- a table that begins with the objects of a legal one, no two the same, followed by one of them again, and by anything
@@ -199,5 +239,6 @@ abbrev pub FirstRepeat : List ℕ → ℕ → Type 0
 FirstRepeat = FirstAt Again
 
 -- 7 exactly where a table begins in this way
-pub table-repeats : (b : List ℕ) → Bytes b → (k bit : ℕ) → (readTable b ≡ refused (naming 7 k bit)) ↔ (FirstRepeat b k × (bit ≡ 255))
+pub table-repeats : (b : List ℕ) → Bytes b → (k bit : ℕ)
+    → (readTable b ≡ refused (naming 7 k bit)) ↔ (FirstRepeat b k × (bit ≡ 255))
 table-repeats = first-exactly 7 Again (omega arith) (omega arith) again-exactly

@@ -43,7 +43,8 @@ form-whole least good b e = whole least b (held (isWhole least b) _ _ e .0)
 three : (b : List ℕ) → 7 ≤ length b → drop 4 b ≡ getD b 4 0 ∷ getD b 5 0 ∷ getD b 6 0 ∷ drop 7 b
 three b h = drop-cons b 4 0 (omega arith) ∙ rw (drop-cons b 5 0 (omega arith), drop-cons b 6 0 (omega arith))
 
-pub form-is : (least : ℕ) (good : ℕ → Bool) (b : List ℕ) {f : Form} → 3 ≤ least → Bytes b → readForm least good b ≡ done f → Formed least good b f
+pub form-is : (least : ℕ) (good : ℕ → Bool) (b : List ℕ) {f : Form} → 3 ≤ least → Bytes b
+    → readForm least good b ≡ done f → Formed least good b f
 unfolding readForm formBytes
 form-is least good b {f} l h e =
     let p₁ = held (isWhole least b) _ _ e in
@@ -61,7 +62,8 @@ form-is least good b {f} l h e =
       small = (h 4, h 5, h 6);
     })
 
-pub form-version : (least : ℕ) (good : ℕ → Bool) (b : List ℕ) {f : Form} → readForm least good b ≡ done f → good (f .version) ≡ true
+pub form-version : (least : ℕ) (good : ℕ → Bool) (b : List ℕ) {f : Form} → readForm least good b ≡ done f
+    → good (f .version) ≡ true
 unfolding readForm
 form-version least good b {f} e =
     let p₁ = held (isWhole least b) _ _ e in
@@ -69,12 +71,14 @@ form-version least good b {f} e =
     let v : f .version ≡ getD b 4 0 = cc (p₂ .1) in
     rw v (p₂ .0)
 
-pub form-contents : (least : ℕ) (good : ℕ → Bool) (b : List ℕ) {f : Form} → readForm least good b ≡ done f → f .contents ≡ drop 7 b
+pub form-contents : (least : ℕ) (good : ℕ → Bool) (b : List ℕ) {f : Form} → readForm least good b ≡ done f
+    → f .contents ≡ drop 7 b
 unfolding readForm
 form-contents least good b e = cc (held (good (getD b 4 0)) _ _ (held (isWhole least b) _ _ e .1) .1)
 
 -- reading a form gives no code above 2
-pub form-other : (least : ℕ) (good : ℕ → Bool) (b : List ℕ) {r : Refused} → 2 < r .code → readForm least good b ≡ refused r → ⊥
+pub form-other : (least : ℕ) (good : ℕ → Bool) (b : List ℕ) {r : Refused} → 2 < r .code
+    → readForm least good b ≡ refused r → ⊥
 unfolding readForm
 form-other least good b l e =
     let p₁ = past (isWhole least b) _ _ (λ z. omega arith) e in
@@ -82,7 +86,9 @@ form-other least good b l e =
     let z : _≡_ {A = ℕ} 0 1 = cc (p₂ .1) in
     omega arith
 
-form-parts : (f : Form) → (getD (formBytes f) 4 0 ≡ f .version) × (getD (formBytes f) 5 0 ≡ f .x) × (getD (formBytes f) 6 0 ≡ f .y) × (drop 7 (formBytes f) ≡ f .contents)
+form-parts : (f : Form)
+    → (getD (formBytes f) 4 0 ≡ f .version) × (getD (formBytes f) 5 0 ≡ f .x) × (getD (formBytes f) 6 0 ≡ f .y)
+    × (drop 7 (formBytes f) ≡ f .contents)
 unfolding formBytes bytes
 form-parts f = (refl, refl, refl, refl)
 
@@ -94,10 +100,22 @@ form-size : (f : Form) → 3 + length (f .contents) < 2 ^ 32 → number (take 4 
 unfolding formBytes
 form-size f h = read-bytes 4 (3 + length (f .contents)) (f .version ∷ f .x ∷ f .y ∷ f .contents) h
 
-pub form-reads : (least : ℕ) (good : ℕ → Bool) (f : Form) → good (f .version) ≡ true → least ≤ 3 + length (f .contents) → 3 + length (f .contents) < 2 ^ 32
+pub form-reads : (least : ℕ) (good : ℕ → Bool) (f : Form) → good (f .version) ≡ true → least ≤ 3 + length (f .contents)
+    → 3 + length (f .contents) < 2 ^ 32
     → readForm least good (formBytes f) ≡ done f
 unfolding readForm isWhole
 form-reads least good f g l h =
     let n : ℕ = 3 + length (f .contents) in
     let p = form-parts f in
-    rw (form-size f h, form-length f, le-leb 4 (4 + n) (omega arith), eq-eqb (4 + n) (4 + n) refl, le-leb least n l, p .0, g, p .1, p .2, p .3)
+    rw (
+      form-size f h,
+      form-length f,
+      le-leb 4 (4 + n) (omega arith),
+      eq-eqb (4 + n) (4 + n) refl,
+      le-leb least n l,
+      p .0,
+      g,
+      p .1,
+      p .2,
+      p .3,
+    )

@@ -14,7 +14,8 @@ use Rattle.history.specs.Table.{Plan}
 use Rattle.history.specs.Image.{Image, imageVersionGood, Every, nil, and, admits, LegalImage}
 use Rattle.history.specs.declared.Change.{Change}
 use Rattle.history.specs.declared.Change.the-variants.{Keep as keep, Swap as swap}
-use Rattle.history.specs.Changes.{Changes, lawful, LegalList, fits, after, meets, joined, back, lowest, difference, applied, join, turned}
+use Rattle.history.specs.Changes.{Changes, lawful, LegalList, fits, after, meets, joined, back, lowest}
+use Rattle.history.specs.Changes.{difference, applied, join, turned}
 use Rattle.history.proofs.ElementLaws.{zero-admitted}
 use Rattle.history.proofs.ChangeLaws.{lawful-swap, back-differ}
 use Rattle.history.proofs.OperationLaws.{taking, joins, join-taken}
@@ -44,7 +45,12 @@ before (swap old new) a = old
 
 -- the image that two lists in turn start from; an object in neither has z's element
 unfoldable pub start : Changes → Changes → Image → Image
-start l m z = record { version = z .version; position = l .from; words = zipWith before (l .each) (zipWith before (m .each) (z .words)) }
+start l m z =
+    record {
+      version = z .version;
+      position = l .from;
+      words = zipWith before (l .each) (zipWith before (m .each) (z .words));
+    }
 
 before-admits : (k : Kind) (c : Change) (a : ℕ) → lawful k c ≡ true → admits k a ≡ true → admits k (before c a) ≡ true
 before-admits k keep a p q = q
@@ -59,21 +65,26 @@ meets-fits keep d a p = before-fits d a
 meets-fits (swap old new) keep a p = refl
 meets-fits (swap old new) (swap old′ new′) a p = eq-eqb old′ new (sym (eqb-true new old′ p))
 
-before-admits-all : {ks : List Kind} {cs : List Change} {xs : List ℕ} → Every lawful ks cs → Every admits ks xs → Every admits ks (zipWith before cs xs)
+before-admits-all : {ks : List Kind} {cs : List Change} {xs : List ℕ} → Every lawful ks cs → Every admits ks xs
+    → Every admits ks (zipWith before cs xs)
 unfolding zipWith
 before-admits-all nil nil = nil
-before-admits-all (and {a = k} {b = c} p ps) (and {b = a} q qs) = and (before-admits k c a p q) (before-admits-all ps qs)
+before-admits-all (and {a = k} {b = c} p ps) (and {b = a} q qs) =
+    and (before-admits k c a p q) (before-admits-all ps qs)
 
-before-fits-all : {ks : List Kind} {cs : List Change} {xs : List ℕ} → Every lawful ks cs → Every admits ks xs → Every fits cs (zipWith before cs xs)
+before-fits-all : {ks : List Kind} {cs : List Change} {xs : List ℕ} → Every lawful ks cs → Every admits ks xs
+    → Every fits cs (zipWith before cs xs)
 unfolding zipWith
 before-fits-all nil nil = nil
 before-fits-all (and {b = c} p ps) (and {b = a} q qs) = and (before-fits c a) (before-fits-all ps qs)
 
-meets-fits-all : {ks : List Kind} {cs ds : List Change} {xs : List ℕ} → Every meets cs ds → Every admits ks xs → Every lawful ks ds
+meets-fits-all : {ks : List Kind} {cs ds : List Change} {xs : List ℕ} → Every meets cs ds → Every admits ks xs
+    → Every lawful ks ds
     → Every fits ds (zipWith after cs (zipWith before cs (zipWith before ds xs)))
 unfolding zipWith
 meets-fits-all nil nil nil = nil
-meets-fits-all (and {a = c} {b = d} p ps) (and {b = a} q qs) (and r rs) = and (meets-fits c d a p) (meets-fits-all ps qs rs)
+meets-fits-all (and {a = c} {b = d} p ps) (and {b = a} q qs) (and r rs) =
+    and (meets-fits c d a p) (meets-fits-all ps qs rs)
 
 -- a legal image takes the first list and then the second
 pub record Taken (p : Plan) (l m : Changes) : Type 0 where
@@ -85,9 +96,15 @@ pub record Taken (p : Plan) (l m : Changes) : Type 0 where
   pub second : applied m between ≡ done last
 
 module _ {p : Plan} where
-  start-legal : {l m : Changes} {z : Image} → LegalList p l → LegalList p m → LegalImage p z → LegalImage p (start l m z)
+  start-legal : {l m : Changes} {z : Image} → LegalList p l → LegalList p m → LegalImage p z
+      → LegalImage p (start l m z)
   unfolding start
-  start-legal hl hm hz = record { version = hz .version; position = hl .from; words = before-admits-all (hl .each) (before-admits-all (hm .each) (hz .words)) }
+  start-legal hl hm hz =
+      record {
+        version = hz .version;
+        position = hl .from;
+        words = before-admits-all (hl .each) (before-admits-all (hm .each) (hz .words));
+      }
 
   -- where two lists join, an image takes the first and then the second
   join-history : {l m k : Changes} {z : Image} → LegalList p l → LegalList p m → LegalImage p z → join l m ≡ done k
@@ -99,16 +116,32 @@ module _ {p : Plan} where
       let y : List ℕ = zipWith after (l .each) x in (
         record { version = z .version; position = l .to; words = y },
         record { version = z .version; position = m .to; words = zipWith after (m .each) y },
-        taking (record { place = refl; olds = before-fits-all (hl .each) (before-admits-all (hm .each) (hz .words)); result = refl }),
-        taking (record { place = sym (j .place); olds = meets-fits-all (j .olds) (hz .words) (hm .each); result = refl }),
+        taking (record {
+          place = refl;
+          olds = before-fits-all (hl .each) (before-admits-all (hm .each) (hz .words));
+          result = refl;
+        }),
+        taking (record {
+          place = sym (j .place);
+          olds = meets-fits-all (j .olds) (hz .words) (hm .each);
+          result = refl;
+        }),
       )
 
   -- two lists join exactly where some legal image takes the first and then the second
-  pub join-exactly : {l m : Changes} → LegalList p l → LegalList p m → ((k : Changes) × (join l m ≡ done k)) ↔ Taken p l m
+  pub join-exactly : {l m : Changes} → LegalList p l → LegalList p m
+      → ((k : Changes) × (join l m ≡ done k)) ↔ Taken p l m
   join-exactly {l} {m} hl hm = (
     (λ j.
         let h = join-history hl hm (silent-legal p) (j .1) in
-        record { image = start l m (silent p); between = h .0; last = h .1; legal = start-legal hl hm (silent-legal p); first = h .2; second = h .3 }),
+        record {
+          image = start l m (silent p);
+          between = h .0;
+          last = h .1;
+          legal = start-legal hl hm (silent-legal p);
+          first = h .2;
+          second = h .3;
+        }),
     (λ h. (difference (h .image) (h .last), join-taken hl hm (h .legal) (h .first) (h .second))),
   )
 
@@ -157,7 +190,8 @@ lowest-back i [] (d ∷ ds) k = refl
 lowest-back i (c ∷ cs) [] k = refl
 lowest-back i (c ∷ cs) (d ∷ ds) k = rw (then-unless, meets-back c d, lowest-back (suc i) cs ds k)
 
--- a join turned back is the two turned back and joined in the opposite order; if refused, both are, and name the same object
+-- a join turned back is the two turned back and joined in the opposite order;
+-- if refused, both are, and name the same object
 pub join-turned : (l m : Changes) → join (turned m) (turned l) ≡ then (join l m) (λ k. done (turned k))
 unfolding join turned
 join-turned l m =

@@ -16,7 +16,8 @@ use Rattle.octets.specs.Octets.{bytes, number, Bytes}
 use Rattle.history.specs.Verdict.{done}
 use Rattle.history.specs.Form.{Form, formBytes, readForm}
 use Rattle.history.specs.Table.{Plan, sameCatalogue}
-use Rattle.history.specs.Image.{Image, imageVersionGood, element, widths, wordsBytes, imageBytes, readWords, elementsFrom, readImage, admits, Every, nil, and, LegalImage}
+use Rattle.history.specs.Image.{Image, imageVersionGood, element, widths, wordsBytes, imageBytes, readWords}
+use Rattle.history.specs.Image.{elementsFrom, readImage, admits, Every, nil, and, LegalImage}
 use Rattle.octets.proofs.NumberLaws.{length-bytes, read-bytes, drop-bytes, drop-is, cut, below}
 use Rattle.history.proofs.VerdictLaws.{all, left, right, held, used}
 use Rattle.history.proofs.FormLaws.{Formed, form-is, form-reads}
@@ -24,7 +25,8 @@ use Rattle.history.proofs.ElementLaws.{was-accepted, is-accepted, admit
 
 -- ---- all elements
 
-words-are : (ks : List Kind) (i : ℕ) (b : List ℕ) {ws : List ℕ} → Bytes b → length b ≡ widths ks → readWords i ks b ≡ done ws
+words-are : (ks : List Kind) (i : ℕ) (b : List ℕ) {ws : List ℕ} → Bytes b → length b ≡ widths ks
+    → readWords i ks b ≡ done ws
     → Every admits ks ws × (b ≡ wordsBytes ks ws)
 words-are [] i [] {ws} h s e =
     let ws-is : ws ≡ [] = cc in
@@ -38,25 +40,38 @@ words-are (k ∷ ks) i b {ws} h s e =
     let room : n ≤ length b = omega arith in
     let r = words-are ks (suc i) (drop n b) (drop-is n b h) (simp length-drop (omega arith)) (q .1) in
     let ws-is : ws ≡ w ∷ q .0 = cc (q .2) in
-    rw ws-is (and (all (lt-ltb _ _ (below n b room h)) (f .0)) (r .0), cut n b room h ∙ ap (λ (c : List ℕ). bytes n w ++ c) (r .1))
+    rw ws-is (
+      and (all (lt-ltb _ _ (below n b room h)) (f .0)) (r .0),
+      cut n b room h ∙ ap (λ (c : List ℕ). bytes n w ++ c) (r .1),
+    )
 
 words-read : (i : ℕ) {ks : List Kind} {ws : List ℕ} → Every admits ks ws → readWords i ks (wordsBytes ks ws) ≡ done ws
 words-read i nil = refl
 words-read i (and {a = k} {b = w} {xs = ks} {ys = ws} h r) =
-    rw (read-bytes (widthOf k) w (wordsBytes ks ws) (admits-fits k w h), drop-bytes (widthOf k) w (wordsBytes ks ws), words-read (suc i) r)
+    rw (
+      read-bytes (widthOf k) w (wordsBytes ks ws) (admits-fits k w h),
+      drop-bytes (widthOf k) w (wordsBytes ks ws),
+      words-read (suc i) r,
+    )
     (is-accepted (element k w) i _ (admits-accepted k w h))
 
 -- the elements are read from their own bytes alone
-pub words-alone : (i : ℕ) (ks : List Kind) (b rest : List ℕ) → widths ks ≤ length b → readWords i ks (b ++ rest) ≡ readWords i ks b
+pub words-alone : (i : ℕ) (ks : List Kind) (b rest : List ℕ) → widths ks ≤ length b
+    → readWords i ks (b ++ rest) ≡ readWords i ks b
 words-alone i [] b rest h = refl
 words-alone i (k ∷ ks) b rest h =
     let w : ℕ = widthOf k in
     let room : w ≤ length b = omega arith in
-    rw (take-append-le w b rest room, drop-append-le w b rest room, words-alone (suc i) ks (drop w b) rest (simp length-drop (omega arith)))
+    rw (
+      take-append-le w b rest room,
+      drop-append-le w b rest room,
+      words-alone (suc i) ks (drop w b) rest (simp length-drop (omega arith)),
+    )
 
 pub length-words : {ks : List Kind} {ws : List ℕ} → Every admits ks ws → length (wordsBytes ks ws) ≡ widths ks
 length-words nil = refl
-length-words (and {a = k} {b = w} {xs = ks} {ys = ws} h r) = length-append (bytes (widthOf k) w) _ ∙ rw (length-bytes, length-words r)
+length-words (and {a = k} {b = w} {xs = ks} {ys = ws} h r) =
+    length-append (bytes (widthOf k) w) _ ∙ rw (length-bytes, length-words r)
 
 pub widths-few : (ks : List Kind) → widths ks ≤ 4 * length ks
 widths-few [] = omega arith
@@ -71,7 +86,8 @@ same-catalogue f p e = (eqb-true _ _ (left (eqb (f .x) (p .x)) _ e), eqb-true _ 
 pub own-catalogue : (p : Plan) → (eqb (p .x) (p .x) && eqb (p .y) (p .y)) ≡ true
 own-catalogue p = all (eq-eqb (p .x) (p .x) refl) (eq-eqb (p .y) (p .y) refl)
 
-contents-are : (p : Plan) (f : Form) (b : List ℕ) → Formed 7 imageVersionGood b f → f .x ≡ p .x → f .y ≡ p .y → length (f .contents) ≡ 4 + widths (p .kinds)
+contents-are : (p : Plan) (f : Form) (b : List ℕ) → Formed 7 imageVersionGood b f → f .x ≡ p .x → f .y ≡ p .y
+    → length (f .contents) ≡ 4 + widths (p .kinds)
     → (ws : List ℕ) → readWords 0 (p .kinds) (drop 4 (f .contents)) ≡ done ws
     → (a : Image) → a ≡ record { version = f .version; position = number (take 4 (f .contents)); words = ws }
     → LegalImage p a × (b ≡ imageBytes p a)
@@ -80,13 +96,15 @@ contents-are p f b o x y long ws e a a-is =
     let c : List ℕ = f .contents in
     let four : 4 ≤ length c = omega arith in
     let s = words-are (p .kinds) 0 (drop 4 c) (drop-is 4 c (o .inside)) (simp length-drop (omega arith)) e in
-    let parts : c ≡ bytes 4 (number (take 4 c)) ++ wordsBytes (p .kinds) ws = cut 4 c four (o .inside) ∙ ap (λ (r : List ℕ). bytes 4 (number (take 4 c)) ++ r) (s .1) in
+    let parts : c ≡ bytes 4 (number (take 4 c)) ++ wordsBytes (p .kinds) ws =
+    cut 4 c four (o .inside) ∙ ap (λ (r : List ℕ). bytes 4 (number (take 4 c)) ++ r) (s .1) in
     rw a-is (
       record { version = o .version; position = below 4 c four (o .inside); words = s .0 },
       o .whole ∙ ap formBytes (λ i. record { version = f .version; x = x i; y = y i; contents = parts i }),
     )
 
-pub image-is : (p : Plan) (b : List ℕ) {a : Image} → Bytes b → readImage p b ≡ done a → LegalImage p a × (b ≡ imageBytes p a)
+pub image-is : (p : Plan) (b : List ℕ) {a : Image} → Bytes b → readImage p b ≡ done a
+    → LegalImage p a × (b ≡ imageBytes p a)
 unfolding readImage elementsFrom
 image-is p b {a} h e =
     let q = used (readForm 7 imageVersionGood b) _ e in
@@ -95,7 +113,8 @@ image-is p b {a} h e =
     let q₂ = held (eqb (length (f .contents)) (4 + widths (p .kinds))) _ _ (q₁ .1) in
     let q₃ = used (readWords 0 (p .kinds) (drop 4 (f .contents))) _ (q₂ .1) in
     let x = same-catalogue f p (q₁ .0) in
-    contents-are p f b (form-is 7 imageVersionGood b (omega arith) h (q .1)) (x .0) (x .1) (eqb-true _ _ (q₂ .0)) (q₃ .0) (q₃ .1) a (cc (q₃ .2))
+    contents-are p f b (form-is 7 imageVersionGood b (omega arith) h (q .1)) (x .0) (x .1) (eqb-true _ _ (q₂ .0))
+    (q₃ .0) (q₃ .1) a (cc (q₃ .2))
 
 -- at most 1,024 objects, so the length of every form fits its four bytes
 pub record Fair (p : Plan) : Type 0 where
@@ -106,10 +125,12 @@ unfolding readImage elementsFrom imageBytes
 image-reads {p} {a} f h =
     let b : List ℕ = wordsBytes (p .kinds) (a .words) in
     let c : List ℕ = bytes 4 (a .position) ++ b in
-    let long : length c ≡ 4 + widths (p .kinds) = length-append (bytes 4 (a .position)) b ∙ rw (length-bytes 4 (a .position), length-words (h .words)) in
+    let long : length c ≡ 4 + widths (p .kinds) =
+    length-append (bytes 4 (a .position)) b ∙ rw (length-bytes 4 (a .position), length-words (h .words)) in
     let less : widths (p .kinds) ≤ 4 * length (p .kinds) = widths-few (p .kinds) in
     rw (
-      form-reads 7 imageVersionGood (record { version = a .version; x = p .x; y = p .y; contents = c }) (h .version) (omega arith) (omega (arith, f .count)),
+      form-reads 7 imageVersionGood (record { version = a .version; x = p .x; y = p .y; contents = c }) (h .version)
+          (omega arith) (omega (arith, f .count)),
       own-catalogue p,
       long,
       eq-eqb (4 + widths (p .kinds)) (4 + widths (p .kinds)) refl,
@@ -119,7 +140,8 @@ image-reads {p} {a} f h =
     )
 
 -- accepted exactly where they are a legal image, written, which they are then read as
-pub image-form : (p : Plan) → Fair p → (b : List ℕ) → Bytes b → (a : Image) → (readImage p b ≡ done a) ↔ (LegalImage p a × (b ≡ imageBytes p a))
+pub image-form : (p : Plan) → Fair p → (b : List ℕ) → Bytes b → (a : Image)
+    → (readImage p b ≡ done a) ↔ (LegalImage p a × (b ≡ imageBytes p a))
 image-form p f b h a = (image-is p b h, (λ w. ap (readImage p) (w .1) ∙ image-reads f (w .0)))
 
 -- ---- how long it is

@@ -12,14 +12,16 @@ use borrow.Author.Tests.{lt-ltb, ltb-true, leb-true, leb-false}
 use Rattle.octets.specs.Octets.{bytes, Bytes}
 use Rattle.history.specs.Verdict.{done}
 use Rattle.history.specs.Form.{formBytes}
-use Rattle.history.specs.Table.{Object, Table, printable, firstColon, labelGood, object, objectBytes, objectsBytes, tableBytes, readTable}
+use Rattle.history.specs.Table.{Object, Table, printable, firstColon, labelGood, object, objectBytes}
+use Rattle.history.specs.Table.{objectsBytes, tableBytes, readTable}
 use Rattle.history.specs.Calls.{Place, labelPlace, labelCall}
 use Rattle.history.proofs.VerdictLaws.{left, right, held, used}
 use Rattle.history.proofs.TableLaws.{table-is}
 
 -- what is left after the first i entries is object i's entry, then the rest
 entries-from : (os : List Object) (i : ℕ) → i < length os
-    → drop (length (objectsBytes (take i os))) (objectsBytes os) ≡ objectBytes (getD os i (record { type = 0; label = [] })) ++ objectsBytes (drop (suc i) os)
+    → drop (length (objectsBytes (take i os))) (objectsBytes os)
+    ≡ objectBytes (getD os i (record { type = 0; label = [] })) ++ objectsBytes (drop (suc i) os)
 entries-from [] i h = absurd (omega arith)
 entries-from (o ∷ os) zero h = refl
 entries-from (o ∷ os) (suc i) h =
@@ -32,17 +34,19 @@ after-nine : (t : Table) → drop 9 (tableBytes t) ≡ objectsBytes (t .objects)
 unfolding tableBytes formBytes bytes
 after-nine t = refl
 
-label-at : (t : Table) (i : ℕ) → i < length (t .objects) → take (labelPlace t i .size) (drop (labelPlace t i .offset) (tableBytes t)) ≡ object t i .label
+label-at : (t : Table) (i : ℕ) → i < length (t .objects)
+    → take (labelPlace t i .size) (drop (labelPlace t i .offset) (tableBytes t)) ≡ object t i .label
 label-at t i h =
     let n : ℕ = length (objectsBytes (take i (t .objects))) in
     let l : List ℕ = object t i .label in
     let rest : List ℕ = objectsBytes (drop (suc i) (t .objects)) in
     let there : drop (9 + (n + 2)) (tableBytes t) ≡ l ++ rest =
-    sym (drop-drop (n + 2) 9 (tableBytes t)) ∙ ap (drop (n + 2)) (after-nine t) ∙ sym (drop-drop 2 n (objectsBytes (t .objects))) ∙ ap (drop 2) (entries-from (t .objects) i h) in
+    sym (drop-drop (n + 2) 9 (tableBytes t)) ∙ ap (drop (n + 2)) (after-nine t)
+    ∙ sym (drop-drop 2 n (objectsBytes (t .objects))) ∙ ap (drop 2) (entries-from (t .objects) i h) in
     ap (take (length l)) there ∙ take-append-seam l rest
 
--- what an accepted label request gives: the part is the object's label in the table that the bytes are read as, has at least three bytes
--- (so an empty part tells a refusal), and lies inside
+-- what an accepted label request gives: the part is the object's label in the table that the bytes are read as, has at
+-- least three bytes (so an empty part tells a refusal), and lies inside
 pub record LabelIs (T : List ℕ) (i : ℕ) (q : Place) : Type 0 where
   pub table : Table
   pub reads : readTable T ≡ done table
@@ -82,9 +86,17 @@ label-is T h i {q} e =
     let part : take (labelPlace t i .size) (drop (labelPlace t i .offset) T) ≡ object t i .label =
     ap (λ (b : List ℕ). take (labelPlace t i .size) (drop (labelPlace t i .offset) b)) (r .same h) ∙ label-at t i l in
     let some = three-bytes (object t i .label) (r .legal .each i l .good) in
-    rw q-is (record { table = t; reads = u .1; below = l; label = part; some = some; inside = inside (object t i .label) T (labelPlace t i .offset) part some })
+    rw q-is (record {
+      table = t;
+      reads = u .1;
+      below = l;
+      label = part;
+      some = some;
+      inside = inside (object t i .label) T (labelPlace t i .offset) part some;
+    })
 
 -- a request for any object of an accepted table succeeds
-pub label-given : (T : List ℕ) (i : ℕ) {t : Table} → readTable T ≡ done t → i < length (t .objects) → labelCall T i ≡ done (labelPlace t i)
+pub label-given : (T : List ℕ) (i : ℕ) {t : Table} → readTable T ≡ done t → i < length (t .objects)
+    → labelCall T i ≡ done (labelPlace t i)
 unfolding labelCall
 label-given T i {t} e h = rw (e, lt-ltb i (length (t .objects)) h)

@@ -20,7 +20,8 @@ use Rattle.history.specs.Table.{Plan, kindAt, sameCatalogue}
 use Rattle.history.specs.Image.{element, isAccepted, Every, nil, and}
 use Rattle.history.specs.declared.Change.{Change}
 use Rattle.history.specs.declared.Change.the-variants.{Keep as keep, Swap as swap}
-use Rattle.history.specs.Changes.{Changes, listVersion, entriesBytes, entries, listBytes, Entry, entryOf, readNumber, readElements, checkEntry, readEntries, readList, lawful, LegalList}
+use Rattle.history.specs.Changes.{Changes, listVersion, entriesBytes, entries, listBytes, Entry, entryOf}
+use Rattle.history.specs.Changes.{readNumber, readElements, checkEntry, readEntries, readList, lawful, LegalList}
 use Rattle.octets.proofs.NumberLaws.{length-bytes, read-bytes, drop-bytes, drop-is, cut, below}
 use Rattle.history.proofs.VerdictLaws.{all, held, used}
 use Rattle.history.proofs.ChangeLaws.{lawful-swap}
@@ -44,7 +45,8 @@ record EntryIs (ks : List Kind) (low : ℕ) (b : List ℕ) (e : Entry) : Type 0 
   pub inside : e .object < length ks
   kind : e .kind ≡ kindAt ks (e .object)
   law : lawful (e .kind) (swap (e .old) (e .new)) ≡ true
-  whole : b ≡ bytes 2 (e .object) ++ (bytes (widthOf (e .kind)) (e .old) ++ (bytes (widthOf (e .kind)) (e .new) ++ e .rest))
+  whole : b ≡ bytes 2 (e .object)
+      ++ (bytes (widthOf (e .kind)) (e .old) ++ (bytes (widthOf (e .kind)) (e .new) ++ e .rest))
   after : Bytes (e .rest)
 
 -- the bytes of an entry's two elements, and that each fits its width
@@ -95,11 +97,13 @@ were-elements i k b {e} q =
     let q₃ = was-accepted (element k (entryOf i k b .new)) _ _ (q₂ .1) in
     (cc (q₃ .1), leb-true _ _ (q₁ .0), record { old = q₂ .0; new = q₃ .0 })
 
-are-elements : (i : ℕ) (k : Kind) (b : List ℕ) → widthOf k + widthOf k ≤ length b → Fine (entryOf i k b) → readElements i k b ≡ done (entryOf i k b)
+are-elements : (i : ℕ) (k : Kind) (b : List ℕ) → widthOf k + widthOf k ≤ length b → Fine (entryOf i k b)
+    → readElements i k b ≡ done (entryOf i k b)
 unfolding readElements
 are-elements i k b room f =
     rw (le-leb (widthOf k + widthOf k) (length b) room)
-    (is-accepted (element k (entryOf i k b .old)) _ _ (f .old) ∙ is-accepted (element k (entryOf i k b .new)) _ _ (f .new))
+    (is-accepted (element k (entryOf i k b .old)) _ _ (f .old)
+    ∙ is-accepted (element k (entryOf i k b .new)) _ _ (f .new))
 
 -- what an entry's checks tell together
 pub record Checked (ks : List Kind) (low : ℕ) (b : List ℕ) (e : Entry) : Type 0 where
@@ -110,7 +114,8 @@ pub record Checked (ks : List Kind) (low : ℕ) (b : List ℕ) (e : Entry) : Typ
   pub fine : Fine e
   pub other : not (eqb (e .old) (e .new)) ≡ true
 
-pub was-checked : (ks : List Kind) (low : ℕ) (b : List ℕ) {e : Entry} → checkEntry ks low b ≡ done e → (entryAt ks b ≡ e) × Checked ks low b (entryAt ks b)
+pub was-checked : (ks : List Kind) (low : ℕ) (b : List ℕ) {e : Entry} → checkEntry ks low b ≡ done e
+    → (entryAt ks b ≡ e) × Checked ks low b (entryAt ks b)
 unfolding checkEntry
 was-checked ks low b {e} q =
     let q₁ = used (readNumber ks b) _ q in
@@ -132,15 +137,23 @@ was-checked ks low b {e} q =
       },
     )
 
-is-checked : (ks : List Kind) (low : ℕ) (b : List ℕ) → Checked ks low b (entryAt ks b) → checkEntry ks low b ≡ done (entryAt ks b)
+is-checked : (ks : List Kind) (low : ℕ) (b : List ℕ) → Checked ks low b (entryAt ks b)
+    → checkEntry ks low b ≡ done (entryAt ks b)
 unfolding checkEntry readNumber
 is-checked ks low b c =
     let i : ℕ = number (take 2 b) in
     let k : Kind = kindAt ks i in
     let room : widthOf k + widthOf k ≤ length (drop 2 b) = simp length-drop (omega (arith, c .room)) in
-    rw (le-leb 2 (length b) (c .two), lt-ltb i (length ks) (c .inside), le-leb low i (c .up), are-elements i k (drop 2 b) room (c .fine), c .other)
+    rw (
+      le-leb 2 (length b) (c .two),
+      lt-ltb i (length ks) (c .inside),
+      le-leb low i (c .up),
+      are-elements i k (drop 2 b) room (c .fine),
+      c .other,
+    )
 
-entry-is : (ks : List Kind) (low : ℕ) (b : List ℕ) {e : Entry} → Bytes b → checkEntry ks low b ≡ done e → EntryIs ks low b e
+entry-is : (ks : List Kind) (low : ℕ) (b : List ℕ) {e : Entry} → Bytes b → checkEntry ks low b ≡ done e
+    → EntryIs ks low b e
 entry-is ks low b {e} h q =
     let c = was-checked ks low b q in
     let i : ℕ = number (take 2 b) in
@@ -151,18 +164,22 @@ entry-is ks low b {e} h q =
       up = c .1 .up;
       inside = c .1 .inside;
       kind = refl;
-      law = all (all (lt-ltb _ _ (y .old)) (c .1 .fine .old)) (all (all (lt-ltb _ _ (y .new)) (c .1 .fine .new)) (c .1 .other));
+      law =
+          all (all (lt-ltb _ _ (y .old)) (c .1 .fine .old))
+          (all (all (lt-ltb _ _ (y .new)) (c .1 .fine .new)) (c .1 .other));
       whole = cut 2 b (c .1 .two) h ∙ ap (λ (r : List ℕ). bytes 2 i ++ r) (y .whole);
       after = y .after;
     })
 
 -- for an entry known by an equation
-checked-as : (ks : List Kind) (low : ℕ) (b : List ℕ) {e : Entry} → entryAt ks b ≡ e → Checked ks low b e → checkEntry ks low b ≡ done e
+checked-as : (ks : List Kind) (low : ℕ) (b : List ℕ) {e : Entry} → entryAt ks b ≡ e → Checked ks low b e
+    → checkEntry ks low b ≡ done e
 checked-as ks low b same c = is-checked ks low b (rw same c) ∙ ap done same
 
 -- ---- an entry is read from its own bytes alone
 
-entry-front : (ks : List Kind) (b rest : List ℕ) → 2 + (widthOf (entryAt ks b .kind) + widthOf (entryAt ks b .kind)) ≤ length b
+entry-front : (ks : List Kind) (b rest : List ℕ)
+    → 2 + (widthOf (entryAt ks b .kind) + widthOf (entryAt ks b .kind)) ≤ length b
     → entryAt ks (b ++ rest) ≡ behind (entryAt ks b) rest
 entry-front ks b rest h =
     let c : List ℕ = drop 2 b in
@@ -179,13 +196,21 @@ entry-front ks b rest h =
       drop-append-le w (drop w c) rest new,
     )
 
-pub entry-alone : (ks : List Kind) (low : ℕ) (b rest : List ℕ) {e : Entry} → checkEntry ks low b ≡ done e → checkEntry ks low (b ++ rest) ≡ done (behind e rest)
+pub entry-alone : (ks : List Kind) (low : ℕ) (b rest : List ℕ) {e : Entry} → checkEntry ks low b ≡ done e
+    → checkEntry ks low (b ++ rest) ≡ done (behind e rest)
 entry-alone ks low b rest {e} q =
     let c = was-checked ks low b q in
     let k = c .1 in
     let long = length-append b rest in
     checked-as ks low (b ++ rest) (entry-front ks b rest (k .room))
-    (record { two = omega (arith, k .two); inside = k .inside; up = k .up; room = omega (arith, k .room); fine = record { old = k .fine .old; new = k .fine .new }; other = k .other })
+    (record {
+      two = omega (arith, k .two);
+      inside = k .inside;
+      up = k .up;
+      room = omega (arith, k .room);
+      fine = record { old = k .fine .old; new = k .fine .new };
+      other = k .other;
+    })
     ∙ ap (λ (e : Entry). done (behind e rest)) (c .0)
 
 -- ---- what is read
@@ -196,33 +221,42 @@ record Listed (ks : List Kind) (low n : ℕ) (b : List ℕ) (cs : List Change) :
   count : entries cs ≡ n
   same : b ≡ entriesBytes low (drop low ks) cs
 
-listed-keep : (ks : List Kind) (low n : ℕ) (b : List ℕ) (cs : List Change) → low < length ks → Listed ks (suc low) n b cs → Listed ks low n b (keep ∷ cs)
+listed-keep : (ks : List Kind) (low n : ℕ) (b : List ℕ) (cs : List Change) → low < length ks
+    → Listed ks (suc low) n b cs → Listed ks low n b (keep ∷ cs)
 listed-keep ks low n b cs h r = record {
   good = rw (drop-cons ks low Kind.Signal h) (and refl (r .good));
   count = r .count;
   same = rw (drop-cons ks low Kind.Signal h) (r .same);
 }
 
-listed-skip : (ks : List Kind) (g low n : ℕ) (b : List ℕ) (cs : List Change) → low + g ≤ length ks → Listed ks (low + g) n b cs → Listed ks low n b (replicate g keep ++ cs)
+listed-skip : (ks : List Kind) (g low n : ℕ) (b : List ℕ) (cs : List Change) → low + g ≤ length ks
+    → Listed ks (low + g) n b cs → Listed ks low n b (replicate g keep ++ cs)
 listed-skip ks zero low n b cs h r = rw (← add-zero low) r
 listed-skip ks (suc g) low n b cs h r =
-    listed-keep ks low n b (replicate g keep ++ cs) (omega arith) (listed-skip ks g (suc low) n b cs (omega arith) (rw (suc-add, ← add-suc low g) r))
+    listed-keep ks low n b (replicate g keep ++ cs) (omega arith)
+    (listed-skip ks g (suc low) n b cs (omega arith) (rw (suc-add, ← add-suc low g) r))
 
-listed-end : (ks : List Kind) (low : ℕ) (b : List ℕ) → low ≤ length ks → length b ≡ 0 → Listed ks low 0 b (replicate (length ks - low) keep)
+listed-end : (ks : List Kind) (low : ℕ) (b : List ℕ) → low ≤ length ks → length b ≡ 0
+    → Listed ks low 0 b (replicate (length ks - low) keep)
 listed-end ks low [] h e =
-    let here : Listed ks (length ks) 0 [] [] = record { good = rw (drop-length ks) nil; count = refl; same = rw (drop-length ks) } in
-    rw (append-nil (replicate (length ks - low) keep)) at (listed-skip ks (length ks - low) low 0 [] [] (omega arith) (rw (add-sub-of-le h) here))
+    let here : Listed ks (length ks) 0 [] [] =
+    record { good = rw (drop-length ks) nil; count = refl; same = rw (drop-length ks) } in
+    rw (append-nil (replicate (length ks - low) keep)) at
+    (listed-skip ks (length ks - low) low 0 [] [] (omega arith) (rw (add-sub-of-le h) here))
 listed-end ks low (x ∷ xs) h e = absurd (omega arith)
 
-listed-swap : (ks : List Kind) (i n x y : ℕ) (rest : List ℕ) (cs : List Change) → i < length ks → lawful (kindAt ks i) (swap x y) ≡ true → Listed ks (suc i) n rest cs
-    → Listed ks i (suc n) (bytes 2 i ++ (bytes (widthOf (kindAt ks i)) x ++ (bytes (widthOf (kindAt ks i)) y ++ rest))) (swap x y ∷ cs)
+listed-swap : (ks : List Kind) (i n x y : ℕ) (rest : List ℕ) (cs : List Change) → i < length ks
+    → lawful (kindAt ks i) (swap x y) ≡ true → Listed ks (suc i) n rest cs
+    → Listed ks i (suc n) (bytes 2 i ++ (bytes (widthOf (kindAt ks i)) x ++ (bytes (widthOf (kindAt ks i)) y ++ rest)))
+    (swap x y ∷ cs)
 listed-swap ks i n x y rest cs h l r = record {
   good = rw (drop-cons ks i Kind.Signal h) (and l (r .good));
   count = ap suc (r .count);
   same = rw (drop-cons ks i Kind.Signal h, ← (r .same));
 }
 
-entries-are : (ks : List Kind) (n low : ℕ) (b : List ℕ) {cs : List Change} → Bytes b → low ≤ length ks → readEntries ks low n b ≡ done cs → Listed ks low n b cs
+entries-are : (ks : List Kind) (n low : ℕ) (b : List ℕ) {cs : List Change} → Bytes b → low ≤ length ks
+    → readEntries ks low n b ≡ done cs → Listed ks low n b cs
 entries-are ks zero low b {cs} h s q =
     let p = held (eqb (length b) 0) _ _ q in
     let cs-is : cs ≡ replicate (length ks - low) keep = cc (p .1) in
@@ -238,11 +272,13 @@ entries-are ks (suc n) low b {cs} h s q =
     subst⁻¹ (λ (x : List ℕ). Listed ks i (suc n) x (swap (e .old) (e .new) ∷ r .0)) (rw (c .kind) at (c .whole))
     (listed-swap ks i n (e .old) (e .new) (e .rest) (r .0) (c .inside) (rw (c .kind) at (c .law)) rest) in
     let cs-is : cs ≡ replicate (i - low) keep ++ (swap (e .old) (e .new) ∷ r .0) = cc (r .2) in
-    rw cs-is (listed-skip ks (i - low) low (suc n) b (swap (e .old) (e .new) ∷ r .0) (omega (arith, c .up, c .inside)) (rw (add-sub-of-le (c .up)) here))
+    rw cs-is (listed-skip ks (i - low) low (suc n) b (swap (e .old) (e .new) ∷ r .0) (omega (arith, c .up, c .inside))
+    (rw (add-sub-of-le (c .up)) here))
 
 -- ---- what is written is accepted
 
-entry-reads : (ks : List Kind) (i x y : ℕ) (rest : List ℕ) → length ks ≤ 1024 → i < length ks → lawful (kindAt ks i) (swap x y) ≡ true
+entry-reads : (ks : List Kind) (i x y : ℕ) (rest : List ℕ) → length ks ≤ 1024 → i < length ks
+    → lawful (kindAt ks i) (swap x y) ≡ true
     → (b : List ℕ) → b ≡ bytes 2 i ++ (bytes (widthOf (kindAt ks i)) x ++ (bytes (widthOf (kindAt ks i)) y ++ rest))
     → entryAt ks b ≡ record { object = i; kind = kindAt ks i; old = x; new = y; rest = rest }
 entry-reads ks i x y rest s h l b b-is =
@@ -251,13 +287,24 @@ entry-reads ks i x y rest s h l b b-is =
     let d : List ℕ = bytes w x ++ c in
     let hx = admits-fits (kindAt ks i) x (lawful-swap (kindAt ks i) x y l .old) in
     let hy = admits-fits (kindAt ks i) y (lawful-swap (kindAt ks i) x y l .new) in
-    rw (b-is, read-bytes 2 i d (omega arith), drop-bytes 2 i d, read-bytes w x c hx, drop-bytes w x c, read-bytes w y rest hy, drop-bytes w y rest)
+    rw (
+      b-is,
+      read-bytes 2 i d (omega arith),
+      drop-bytes 2 i d,
+      read-bytes w x c hx,
+      drop-bytes w x c,
+      read-bytes w y rest hy,
+      drop-bytes w y rest,
+    )
 
-entry-checked : (ks : List Kind) (low i x y : ℕ) (rest : List ℕ) → low ≤ i → i < length ks → lawful (kindAt ks i) (swap x y) ≡ true
-    → Checked ks low (bytes 2 i ++ (bytes (widthOf (kindAt ks i)) x ++ (bytes (widthOf (kindAt ks i)) y ++ rest))) (record { object = i; kind = kindAt ks i; old = x; new = y; rest = rest })
+entry-checked : (ks : List Kind) (low i x y : ℕ) (rest : List ℕ) → low ≤ i → i < length ks
+    → lawful (kindAt ks i) (swap x y) ≡ true
+    → Checked ks low (bytes 2 i ++ (bytes (widthOf (kindAt ks i)) x ++ (bytes (widthOf (kindAt ks i)) y ++ rest)))
+    (record { object = i; kind = kindAt ks i; old = x; new = y; rest = rest })
 entry-checked ks low i x y rest u h l =
     let w : ℕ = widthOf (kindAt ks i) in
-    let long : length (bytes 2 i ++ (bytes w x ++ (bytes w y ++ rest))) ≡ 2 + (w + (w + length rest)) = simp (length-append, length-bytes) in
+    let long : length (bytes 2 i ++ (bytes w x ++ (bytes w y ++ rest))) ≡ 2 + (w + (w + length rest)) =
+    simp (length-append, length-bytes) in
     let s = lawful-swap (kindAt ks i) x y l in
     record {
       two = omega arith;
@@ -268,18 +315,21 @@ entry-checked ks low i x y rest u h l =
       other = rw (ne-eqb x y (s .other));
     }
 
-entry-accepted : (ks : List Kind) (i x y : ℕ) (rest : List ℕ) → length ks ≤ 1024 → i < length ks → lawful (kindAt ks i) (swap x y) ≡ true
+entry-accepted : (ks : List Kind) (i x y : ℕ) (rest : List ℕ) → length ks ≤ 1024 → i < length ks
+    → lawful (kindAt ks i) (swap x y) ≡ true
     → (b : List ℕ) → b ≡ bytes 2 i ++ (bytes (widthOf (kindAt ks i)) x ++ (bytes (widthOf (kindAt ks i)) y ++ rest))
     → checkEntry ks i b ≡ done (record { object = i; kind = kindAt ks i; old = x; new = y; rest = rest })
 entry-accepted ks i x y rest s h l b b-is =
     checked-as ks i b (entry-reads ks i x y rest s h l b b-is) (rw b-is (entry-checked ks i i x y rest (le-refl i) h l))
 
-entries-step : (ks : List Kind) (n low : ℕ) (b : List ℕ) (e : Entry) (cs : List Change) → checkEntry ks low b ≡ done e → readEntries ks (suc (e .object)) n (e .rest) ≡ done cs
+entries-step : (ks : List Kind) (n low : ℕ) (b : List ℕ) (e : Entry) (cs : List Change) → checkEntry ks low b ≡ done e
+    → readEntries ks (suc (e .object)) n (e .rest) ≡ done cs
     → readEntries ks low (suc n) b ≡ done (replicate (e .object - low) keep ++ (swap (e .old) (e .new) ∷ cs))
 entries-step ks n low b e cs p q = rw (p, q)
 
 -- read from one object lower, there is one more keep in front
-entries-lower : (ks : List Kind) (n low : ℕ) (b : List ℕ) (cs : List Change) → low < length ks → readEntries ks (suc low) n b ≡ done cs → readEntries ks low n b ≡ done (keep ∷ cs)
+entries-lower : (ks : List Kind) (n low : ℕ) (b : List ℕ) (cs : List Change) → low < length ks
+    → readEntries ks (suc low) n b ≡ done cs → readEntries ks low n b ≡ done (keep ∷ cs)
 entries-lower ks zero low b cs h q =
     let p = held (eqb (length b) 0) _ _ q in
     let cs-is : cs ≡ replicate (length ks - suc low) keep = cc (p .1) in
@@ -289,7 +339,15 @@ entries-lower ks (suc n) low b cs h q =
     let p = used (checkEntry ks (suc low) b) _ q in
     let c = was-checked ks (suc low) b (p .1) in
     let e : Entry = p .0 in
-    let k : Checked ks low b (entryAt ks b) = record { two = c .1 .two; inside = c .1 .inside; up = omega (arith, c .1 .up); room = c .1 .room; fine = c .1 .fine; other = c .1 .other } in
+    let k : Checked ks low b (entryAt ks b) =
+    record {
+      two = c .1 .two;
+      inside = c .1 .inside;
+      up = omega (arith, c .1 .up);
+      room = c .1 .room;
+      fine = c .1 .fine;
+      other = c .1 .other;
+    } in
     let here : checkEntry ks low b ≡ done e = is-checked ks low b k ∙ ap done (c .0) in
     let r = used (readEntries ks (suc (e .object)) n (e .rest)) _ (p .2) in
     let cs-is : cs ≡ replicate (e .object - suc low) keep ++ (swap (e .old) (e .new) ∷ r .0) = cc (r .2) in
@@ -300,7 +358,8 @@ entries-lower ks (suc n) low b cs h q =
     ∙ ap (λ (ds : List Change). done (keep ∷ ds)) (sym cs-is)
 
 -- ks from low on is k and then r
-pub head-at : (ks : List Kind) (low : ℕ) (k : Kind) (r : List Kind) → drop low ks ≡ k ∷ r → (low < length ks) × (kindAt ks low ≡ k) × (drop (suc low) ks ≡ r)
+pub head-at : (ks : List Kind) (low : ℕ) (k : Kind) (r : List Kind) → drop low ks ≡ k ∷ r
+    → (low < length ks) × (kindAt ks low ≡ k) × (drop (suc low) ks ≡ r)
 head-at [] zero k r e = absurd (let z : _≡_ {A = ℕ} 0 1 = cc in omega arith)
 head-at [] (suc low) k r e = absurd (let z : _≡_ {A = ℕ} 0 1 = cc in omega arith)
 head-at (x ∷ xs) zero k r e = (omega arith, cc, cc)
@@ -309,7 +368,8 @@ head-at (x ∷ xs) (suc low) k r e = let h = head-at xs low k r e in (omega (ari
 none-from : (ks : List Kind) (low : ℕ) → drop low ks ≡ [] → length ks - low ≡ 0
 none-from ks low e = sym (length-drop low ks) ∙ ap length e
 
-entries-read : (ks : List Kind) → length ks ≤ 1024 → (low : ℕ) {r : List Kind} {cs : List Change} → drop low ks ≡ r → Every lawful r cs
+entries-read : (ks : List Kind) → length ks ≤ 1024 → (low : ℕ) {r : List Kind} {cs : List Change} → drop low ks ≡ r
+    → Every lawful r cs
     → readEntries ks low (entries cs) (entriesBytes low r cs) ≡ done cs
 entries-read ks s low e nil = rw (none-from ks low e)
 entries-read ks s low e (and {a = k} {b = keep} {xs = r} {ys = cs} l ls) =
@@ -319,14 +379,19 @@ entries-read ks s low e (and {a = k} {b = swap x y} {xs = r} {ys = cs} l ls) =
     let h = head-at ks low k r e in
     let k-is : k ≡ kindAt ks low = sym (h .1) in
     let none : low - low ≡ 0 = omega arith in
-    let e : Entry = record { object = low; kind = kindAt ks low; old = x; new = y; rest = entriesBytes (suc low) r cs } in
-    rw k-is (entries-step ks (entries cs) low _ e cs (entry-accepted ks low x y (entriesBytes (suc low) r cs) s (h .0) (rw k-is at l) _ refl) (entries-read ks s (suc low) (h .2) ls))
+    let e : Entry =
+    record { object = low; kind = kindAt ks low; old = x; new = y; rest = entriesBytes (suc low) r cs } in
+    rw k-is (entries-step ks (entries cs) low _ e cs
+    (entry-accepted ks low x y (entriesBytes (suc low) r cs) s (h .0) (rw k-is at l) _ refl)
+    (entries-read ks s (suc low) (h .2) ls))
     ∙ ap (λ (m : ℕ). done (replicate m keep ++ (swap x y ∷ cs))) none
 
-pub length-entries : {ks : List Kind} {cs : List Change} (i : ℕ) → Every lawful ks cs → length (entriesBytes i ks cs) ≤ 10 * length ks
+pub length-entries : {ks : List Kind} {cs : List Change} (i : ℕ) → Every lawful ks cs
+    → length (entriesBytes i ks cs) ≤ 10 * length ks
 length-entries i nil = omega arith
 length-entries i (and {b = keep} l ls) = omega (arith, length-entries (suc i) ls)
-length-entries i (and {a = k} {b = swap x y} l ls) = simp (length-append, length-bytes) (omega (arith, width-few k, length-entries (suc i) ls))
+length-entries i (and {a = k} {b = swap x y} l ls) =
+    simp (length-append, length-bytes) (omega (arith, width-few k, length-entries (suc i) ls))
 
 pub entries-few : {ks : List Kind} {cs : List Change} → Every lawful ks cs → entries cs ≤ length ks
 entries-few nil = omega arith
@@ -337,7 +402,8 @@ entries-few (and {b = swap x y} l ls) = omega (arith, entries-few ls)
 
 contents-are : (p : Plan) (f : Form) (b : List ℕ) → Formed 13 (eqb listVersion) b f → f .x ≡ p .x → f .y ≡ p .y
     → (cs : List Change) → Listed (p .kinds) 0 (number (take 2 (drop 8 (f .contents)))) (drop 10 (f .contents)) cs
-    → (l : Changes) → l ≡ record { from = number (take 4 (f .contents)); to = number (take 4 (drop 4 (f .contents))); each = cs }
+    → (l : Changes)
+    → l ≡ record { from = number (take 4 (f .contents)); to = number (take 4 (drop 4 (f .contents))); each = cs }
     → LegalList p l × (b ≡ listBytes p l)
 unfolding listBytes
 contents-are p f b o x y cs r l l-is =
@@ -349,29 +415,38 @@ contents-are p f b o x y cs r l l-is =
     let next : 4 ≤ length (drop 4 c) = simp length-drop (omega arith) in
     let last : 2 ≤ length (drop 8 c) = simp length-drop (omega arith) in
     let end : drop 8 c ≡ bytes 2 (entries cs) ++ entriesBytes 0 ks cs =
-    cut 2 (drop 8 c) last (drop-is 8 c h) ∙ ap₂ (λ (m : ℕ) (x : List ℕ). bytes 2 m ++ x) (sym (r .count)) (drop-drop 2 8 c ∙ r .same) in
-    let parts : c ≡ bytes 4 (number (take 4 c)) ++ (bytes 4 (number (take 4 (drop 4 c))) ++ (bytes 2 (entries cs) ++ entriesBytes 0 ks cs)) =
+    cut 2 (drop 8 c) last (drop-is 8 c h)
+    ∙ ap₂ (λ (m : ℕ) (x : List ℕ). bytes 2 m ++ x) (sym (r .count)) (drop-drop 2 8 c ∙ r .same) in
+    let parts : c
+    ≡ bytes 4 (number (take 4 c))
+    ++ (bytes 4 (number (take 4 (drop 4 c))) ++ (bytes 2 (entries cs) ++ entriesBytes 0 ks cs)) =
     cut 4 c four h ∙ ap (λ (x : List ℕ). bytes 4 (number (take 4 c)) ++ x)
-    (cut 4 (drop 4 c) next (drop-is 4 c h) ∙ ap (λ (x : List ℕ). bytes 4 (number (take 4 (drop 4 c))) ++ x) (drop-drop 4 4 c ∙ end)) in
+    (cut 4 (drop 4 c) next (drop-is 4 c h)
+    ∙ ap (λ (x : List ℕ). bytes 4 (number (take 4 (drop 4 c))) ++ x) (drop-drop 4 4 c ∙ end)) in
     let v : f .version ≡ listVersion = sym (eqb-true _ _ (o .version)) in
     rw l-is (
       record { from = below 4 c four h; to = below 4 (drop 4 c) next (drop-is 4 c h); each = r .good },
       o .whole ∙ ap formBytes (λ i. record { version = v i; x = x i; y = y i; contents = parts i }),
     )
 
-pub list-is : (p : Plan) (b : List ℕ) {l : Changes} → Bytes b → readList p b ≡ done l → LegalList p l × (b ≡ listBytes p l)
+pub list-is : (p : Plan) (b : List ℕ) {l : Changes} → Bytes b → readList p b ≡ done l
+    → LegalList p l × (b ≡ listBytes p l)
 unfolding readList
 list-is p b {l} h e =
     let q = used (readForm 13 (eqb listVersion) b) _ e in
     let f = q .0 in
     let q₁ = held (sameCatalogue f p) _ _ (q .2) in
-    let q₂ = used (readEntries (p .kinds) 0 (number (take 2 (drop 8 (f .contents)))) (drop 10 (f .contents))) _ (q₁ .1) in
+    let q₂ =
+    used (readEntries (p .kinds) 0 (number (take 2 (drop 8 (f .contents)))) (drop 10 (f .contents))) _ (q₁ .1) in
     let o = form-is 13 (eqb listVersion) b (omega arith) h (q .1) in
     let x = same-catalogue f p (q₁ .0) in
-    let r = entries-are (p .kinds) _ 0 (drop 10 (f .contents)) (drop-is 10 (f .contents) (o .inside)) (omega arith) (q₂ .1) in
+    let r =
+    entries-are (p .kinds) _ 0 (drop 10 (f .contents)) (drop-is 10 (f .contents) (o .inside))
+    (omega arith) (q₂ .1) in
     contents-are p f b o (x .0) (x .1) (q₂ .0) r l (cc (q₂ .2))
 
-list-parts : (f g : ℕ) (d : List ℕ) → (drop 8 (bytes 4 f ++ (bytes 4 g ++ d)) ≡ d) × (drop 10 (bytes 4 f ++ (bytes 4 g ++ d)) ≡ drop 2 d)
+list-parts : (f g : ℕ) (d : List ℕ)
+    → (drop 8 (bytes 4 f ++ (bytes 4 g ++ d)) ≡ d) × (drop 10 (bytes 4 f ++ (bytes 4 g ++ d)) ≡ drop 2 d)
 unfolding bytes
 list-parts f g d = (refl, refl)
 
@@ -389,7 +464,8 @@ list-reads {p} {l} s h =
     let few = entries-few (h .each) in
     let q = list-parts (l .from) (l .to) d in
     rw (
-      form-reads 13 (eqb listVersion) (record { version = listVersion; x = p .x; y = p .y; contents = c }) (eq-eqb listVersion listVersion refl) (omega arith) (omega (arith, s .count)),
+      form-reads 13 (eqb listVersion) (record { version = listVersion; x = p .x; y = p .y; contents = c })
+          (eq-eqb listVersion listVersion refl) (omega arith) (omega (arith, s .count)),
       own-catalogue p,
       q .0,
       q .1,
@@ -402,5 +478,6 @@ list-reads {p} {l} s h =
     )
 
 -- accepted exactly where they are a legal list, written, which they are then read as
-pub list-form : (p : Plan) → Fair p → (b : List ℕ) → Bytes b → (l : Changes) → (readList p b ≡ done l) ↔ (LegalList p l × (b ≡ listBytes p l))
+pub list-form : (p : Plan) → Fair p → (b : List ℕ) → Bytes b → (l : Changes)
+    → (readList p b ≡ done l) ↔ (LegalList p l × (b ≡ listBytes p l))
 list-form p f b h l = (list-is p b h, (λ w. ap (readList p) (w .1) ∙ list-reads f (w .0)))

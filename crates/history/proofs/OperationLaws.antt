@@ -14,9 +14,12 @@ use Rattle.history.specs.Table.{Plan}
 use Rattle.history.specs.Image.{Image, imageVersionGood, admits, Every, nil, and, LegalImage}
 use Rattle.history.specs.declared.Change.{Change}
 use Rattle.history.specs.declared.Change.the-variants.{Keep as keep}
-use Rattle.history.specs.Changes.{Changes, lawful, LegalList, differ, fits, after, meets, joined, back, lowest, resultOf, jointOf, difference, applied, join, turned}
-use Rattle.history.proofs.VerdictLaws.{held, past, stopped, Lowest, names-lowest, other-code, refuses-lowest, Paired, none, more, paired, passes, passed, value}
-use Rattle.history.proofs.ChangeLaws.{fits-differ, after-differ, only-differ, meets-differ, joined-differ, back-differ, lawful-differ, lawful-joined, lawful-back, admits-after}
+use Rattle.history.specs.Changes.{Changes, lawful, LegalList, differ, fits, after, meets, joined, back, lowest}
+use Rattle.history.specs.Changes.{resultOf, jointOf, difference, applied, join, turned}
+use Rattle.history.proofs.VerdictLaws.{held, past, stopped, Lowest, names-lowest, other-code, refuses-lowest}
+use Rattle.history.proofs.VerdictLaws.{Paired, none, more, paired, passes, passed, value}
+use Rattle.history.proofs.ChangeLaws.{fits-differ, after-differ, only-differ, meets-differ, joined-differ}
+use Rattle.history.proofs.ChangeLaws.{back-differ, lawful-differ, lawful-joined, lawful-back, admits-after}
 
 -- ---- all objects
 
@@ -30,17 +33,20 @@ unfolding zipWith
 after-all none = refl
 after-all (more {a = a} {b = b} r) = ap₂ _∷_ (after-differ a b) (after-all r)
 
-only-all : {ks : List Kind} {cs : List Change} {xs : List ℕ} → Every lawful ks cs → Every fits cs xs → cs ≡ zipWith differ xs (zipWith after cs xs)
+only-all : {ks : List Kind} {cs : List Change} {xs : List ℕ} → Every lawful ks cs → Every fits cs xs
+    → cs ≡ zipWith differ xs (zipWith after cs xs)
 unfolding zipWith
 only-all nil nil = refl
 only-all (and {a = k} p ps) (and {a = c} {b = a} f h) = ap₂ _∷_ (only-differ k c a p f) (only-all ps h)
 
-meets-all : {xs ys zs : List ℕ} → Paired xs ys → Paired ys zs → Every meets (zipWith differ xs ys) (zipWith differ ys zs)
+meets-all : {xs ys zs : List ℕ} → Paired xs ys → Paired ys zs
+    → Every meets (zipWith differ xs ys) (zipWith differ ys zs)
 unfolding zipWith
 meets-all none none = nil
 meets-all (more {a = a} {b = b} r) (more {b = c} s) = and (meets-differ a b c) (meets-all r s)
 
-joined-all : {xs ys zs : List ℕ} → Paired xs ys → Paired ys zs → zipWith joined (zipWith differ xs ys) (zipWith differ ys zs) ≡ zipWith differ xs zs
+joined-all : {xs ys zs : List ℕ} → Paired xs ys → Paired ys zs
+    → zipWith joined (zipWith differ xs ys) (zipWith differ ys zs) ≡ zipWith differ xs zs
 unfolding zipWith
 joined-all none none = refl
 joined-all (more {a = a} {b = b} r) (more {b = c} s) = ap₂ _∷_ (joined-differ a b c) (joined-all r s)
@@ -52,21 +58,26 @@ back-all [] (y ∷ ys) = refl
 back-all (x ∷ xs) [] = refl
 back-all (x ∷ xs) (y ∷ ys) = ap₂ _∷_ (back-differ x y) (back-all xs ys)
 
-lawful-differ-all : {ks : List Kind} {xs ys : List ℕ} → Every admits ks xs → Every admits ks ys → Every lawful ks (zipWith differ xs ys)
+lawful-differ-all : {ks : List Kind} {xs ys : List ℕ} → Every admits ks xs → Every admits ks ys
+    → Every lawful ks (zipWith differ xs ys)
 unfolding zipWith
 lawful-differ-all nil nil = nil
-lawful-differ-all (and {a = k} {b = a} p ps) (and {b = b} q qs) = and (lawful-differ k a b p q) (lawful-differ-all ps qs)
+lawful-differ-all (and {a = k} {b = a} p ps) (and {b = b} q qs) =
+    and (lawful-differ k a b p q) (lawful-differ-all ps qs)
 
-lawful-joined-all : {ks : List Kind} {cs ds : List Change} → Every lawful ks cs → Every lawful ks ds → Every lawful ks (zipWith joined cs ds)
+lawful-joined-all : {ks : List Kind} {cs ds : List Change} → Every lawful ks cs → Every lawful ks ds
+    → Every lawful ks (zipWith joined cs ds)
 unfolding zipWith
 lawful-joined-all nil nil = nil
-lawful-joined-all (and {a = k} {b = c} p ps) (and {b = d} q qs) = and (lawful-joined k c d p q) (lawful-joined-all ps qs)
+lawful-joined-all (and {a = k} {b = c} p ps) (and {b = d} q qs) =
+    and (lawful-joined k c d p q) (lawful-joined-all ps qs)
 
 lawful-back-all : {ks : List Kind} {cs : List Change} → Every lawful ks cs → Every lawful ks (map back cs)
 lawful-back-all nil = nil
 lawful-back-all (and {a = k} {b = c} p ps) = and (lawful-back k c p) (lawful-back-all ps)
 
-admits-after-all : {ks : List Kind} {cs : List Change} {xs : List ℕ} → Every lawful ks cs → Every admits ks xs → Every admits ks (zipWith after cs xs)
+admits-after-all : {ks : List Kind} {cs : List Change} {xs : List ℕ} → Every lawful ks cs → Every admits ks xs
+    → Every admits ks (zipWith after cs xs)
 unfolding zipWith
 admits-after-all nil nil = nil
 admits-after-all (and {a = k} {b = c} p ps) (and {b = a} q qs) = and (admits-after k c a p q) (admits-after-all ps qs)
@@ -110,12 +121,16 @@ module _ {p : Plan} where
 pub taking : {l : Changes} {a b : Image} → Takes l a b → applied l a ≡ done b
 unfolding applied
 taking {l} {a} {b} h =
-    rw (le-leb (a .position) (l .from) (omega (arith, h .place)), le-leb (l .from) (a .position) (omega (arith, h .place)))
+    rw (
+      le-leb (a .position) (l .from) (omega (arith, h .place)),
+      le-leb (l .from) (a .position) (omega (arith, h .place)),
+    )
     (passes 18 fits _ (h .olds) 0 ∙ ap done (sym (h .result)))
 
 pub joining : {l m k : Changes} → Joins l m k → join l m ≡ done k
 unfolding join
-joining {l} {m} {k} h = rw (eq-eqb (l .to) (m .from) (h .place)) (passes 20 meets _ (h .olds) 0 ∙ ap done (sym (h .result)))
+joining {l} {m} {k} h =
+    rw (eq-eqb (l .to) (m .from) (h .place)) (passes 20 meets _ (h .olds) 0 ∙ ap done (sym (h .result)))
 
 -- ---- the laws
 
@@ -133,40 +148,57 @@ module _ {p : Plan} where
   -- the list from a to b is accepted, and turns a into b ..
   pub difference-legal : {a b : Image} → LegalImage p a → LegalImage p b → LegalList p (difference a b)
   unfolding difference
-  difference-legal ha hb = record { from = ha .position; to = hb .position; each = lawful-differ-all (ha .words) (hb .words) }
+  difference-legal ha hb =
+      record { from = ha .position; to = hb .position; each = lawful-differ-all (ha .words) (hb .words) }
 
-  pub apply-difference : {a b : Image} → LegalImage p a → LegalImage p b → a .version ≡ b .version → applied (difference a b) a ≡ done b
+  pub apply-difference : {a b : Image} → LegalImage p a → LegalImage p b → a .version ≡ b .version
+      → applied (difference a b) a ≡ done b
   unfolding difference
   apply-difference {a} {b} ha hb v =
       let r = paired (ha .words) (hb .words) in
-      taking (record { place = refl; olds = fits-all r; result = λ i. record { version = sym v i; position = b .position; words = sym (after-all r) i } })
+      taking (record {
+        place = refl;
+        olds = fits-all r;
+        result = λ i. record { version = sym v i; position = b .position; words = sym (after-all r) i };
+      })
 
   -- .. and is the only accepted list that does
-  pub only-difference : {l : Changes} {a b : Image} → LegalList p l → LegalImage p a → applied l a ≡ done b → l ≡ difference a b
+  pub only-difference : {l : Changes} {a b : Image} → LegalList p l → LegalImage p a → applied l a ≡ done b
+      → l ≡ difference a b
   unfolding difference
   only-difference {l} {a} {b} hl ha e =
       let h = takes hl ha e in
       rw (h .result) (λ i. record { from = h .place i; to = l .to; each = only-all (hl .each) (h .olds) i })
 
-  pub result-legal : {l : Changes} {a b : Image} → LegalList p l → LegalImage p a → applied l a ≡ done b → LegalImage p b
+  pub result-legal : {l : Changes} {a b : Image} → LegalList p l → LegalImage p a → applied l a ≡ done b
+      → LegalImage p b
   result-legal hl ha e =
       let h = takes hl ha e in
-      rw (h .result) (record { version = ha .version; position = hl .to; words = admits-after-all (hl .each) (ha .words) })
+      rw (h .result)
+      (record { version = ha .version; position = hl .to; words = admits-after-all (hl .each) (ha .words) })
 
   -- the result has the version of the image given
-  pub keeps-version : {l : Changes} {a b : Image} → LegalList p l → LegalImage p a → applied l a ≡ done b → a .version ≡ b .version
+  pub keeps-version : {l : Changes} {a b : Image} → LegalList p l → LegalImage p a → applied l a ≡ done b
+      → a .version ≡ b .version
   keeps-version hl ha e = sym (ap (λ (b : Image). b .version) (takes hl ha e .result))
 
   -- the list from a to b joined with the list from b to c is the list from a to c
-  pub join-differences : {a b c : Image} → LegalImage p a → LegalImage p b → LegalImage p c → join (difference a b) (difference b c) ≡ done (difference a c)
+  pub join-differences : {a b c : Image} → LegalImage p a → LegalImage p b → LegalImage p c
+      → join (difference a b) (difference b c) ≡ done (difference a c)
   unfolding difference
   join-differences {a} {b} {c} ha hb hc =
       let r = paired (ha .words) (hb .words) in
       let s = paired (hb .words) (hc .words) in
-      joining (record { place = refl; olds = meets-all r s; result = λ i. record { from = a .position; to = c .position; each = sym (joined-all r s) i } })
+      joining (record {
+        place = refl;
+        olds = meets-all r s;
+        result = λ i. record { from = a .position; to = c .position; each = sym (joined-all r s) i };
+      })
 
   pub join-legal : {l m k : Changes} → LegalList p l → LegalList p m → join l m ≡ done k → LegalList p k
-  join-legal hl hm e = rw (joins hl hm e .result) (record { from = hl .from; to = hm .to; each = lawful-joined-all (hl .each) (hm .each) })
+  join-legal hl hm e =
+      rw (joins hl hm e .result)
+      (record { from = hl .from; to = hm .to; each = lawful-joined-all (hl .each) (hm .each) })
 
   pub turned-legal : {l : Changes} → LegalList p l → LegalList p (turned l)
   unfolding turned
@@ -178,14 +210,20 @@ module _ {p : Plan} where
 pub late-exactly : (l : Changes) (a : Image) → (applied l a ≡ refusal 16) ↔ (l .from < a .position)
 unfolding applied
 late-exactly l a = (
-  (λ e. leb-false _ _ (stopped (leb (a .position) (l .from)) _ _ (λ r. other-code fits keep 0 18 (resultOf l a) 0 (l .each) (a .words) (λ n. omega arith) (past (leb (l .from) (a .position)) _ _ (omega arith) r .1)) e)),
+  (λ e. leb-false _ _
+      (stopped (leb (a .position) (l .from)) _ _
+      (λ r. other-code fits keep 0 18 (resultOf l a) 0 (l .each) (a .words) (λ n. omega arith)
+      (past (leb (l .from) (a .position)) _ _ (omega arith) r .1)) e)),
   (λ h. rw (lt-leb (a .position) (l .from) h)),
 )
 
 pub gap-exactly : (l : Changes) (a : Image) → (applied l a ≡ refusal 17) ↔ (a .position < l .from)
 unfolding applied
 gap-exactly l a = (
-  (λ e. leb-false _ _ (stopped (leb (l .from) (a .position)) _ _ (other-code fits keep 0 18 (resultOf l a) 0 (l .each) (a .words) (λ n. omega arith)) (past (leb (a .position) (l .from)) _ _ (omega arith) e .1))),
+  (λ e. leb-false _ _
+      (stopped (leb (l .from) (a .position)) _ _
+      (other-code fits keep 0 18 (resultOf l a) 0 (l .each) (a .words) (λ n. omega arith))
+      (past (leb (a .position) (l .from)) _ _ (omega arith) e .1))),
   (λ h. rw (le-leb (a .position) (l .from) (omega (arith, h)), lt-leb (l .from) (a .position) h)),
 )
 
@@ -193,43 +231,55 @@ gap-exactly l a = (
 pub apart-exactly : (l m : Changes) → (join l m ≡ refusal 19) ↔ (l .to ≡ m .from → ⊥)
 unfolding join
 apart-exactly l m = (
-  (λ e. eqb-false _ _ (stopped (eqb (l .to) (m .from)) _ _ (other-code meets keep keep 20 (jointOf l m) 0 (l .each) (m .each) (λ n. omega arith)) e)),
+  (λ e. eqb-false _ _
+      (stopped (eqb (l .to) (m .from)) _ _
+      (other-code meets keep keep 20 (jointOf l m) 0 (l .each) (m .each) (λ n. omega arith)) e)),
   (λ h. rw (ne-eqb (l .to) (m .from) h)),
 )
 
 -- 18: the lowest object whose old element is not the image's
-pub names-old : (l : Changes) (a : Image) {j bit : ℕ} → applied l a ≡ refused (naming 18 j bit) → Lowest fits keep 0 (l .each) (a .words) j × (bit ≡ 255)
+pub names-old : (l : Changes) (a : Image) {j bit : ℕ} → applied l a ≡ refused (naming 18 j bit)
+    → Lowest fits keep 0 (l .each) (a .words) j × (bit ≡ 255)
 unfolding applied
 names-old l a {j} {bit} e =
     let late = past (leb (a .position) (l .from)) _ _ (omega arith) e .1 in
     let gap = past (leb (l .from) (a .position)) _ _ (omega arith) late .1 in
-    let n = names-lowest fits keep 0 18 (resultOf l a) 0 (l .each) (a .words) gap in
-    (rw (ap (λ (r : Refused). r .object) (n .named), zero-add (n .place)) (n .lowest), ap (λ (r : Refused). r .bit) (n .named))
+    let n = names-lowest fits keep 0 18 (resultOf l a) 0 (l .each) (a .words) gap in (
+      rw (ap (λ (r : Refused). r .object) (n .named), zero-add (n .place)) (n .lowest),
+      ap (λ (r : Refused). r .bit) (n .named),
+    )
 
-pub refuses-old : (l : Changes) (a : Image) (j : ℕ) → l .from ≡ a .position → Lowest fits keep 0 (l .each) (a .words) j → applied l a ≡ refusalAt 18 j
+pub refuses-old : (l : Changes) (a : Image) (j : ℕ) → l .from ≡ a .position → Lowest fits keep 0 (l .each) (a .words) j
+    → applied l a ≡ refusalAt 18 j
 unfolding applied
 refuses-old l a j e h =
     rw (le-leb (a .position) (l .from) (omega arith), le-leb (l .from) (a .position) (omega arith))
     (refuses-lowest fits keep 0 18 (resultOf l a) 0 (l .each) (a .words) j h ∙ rw (zero-add j))
 
 -- 20: the lowest object whose new element in the first is not its old one in the second
-pub names-meeting : (l m : Changes) {j bit : ℕ} → join l m ≡ refused (naming 20 j bit) → Lowest meets keep keep (l .each) (m .each) j × (bit ≡ 255)
+pub names-meeting : (l m : Changes) {j bit : ℕ} → join l m ≡ refused (naming 20 j bit)
+    → Lowest meets keep keep (l .each) (m .each) j × (bit ≡ 255)
 unfolding join
 names-meeting l m {j} {bit} e =
     let place = past (eqb (l .to) (m .from)) _ _ (omega arith) e .1 in
-    let n = names-lowest meets keep keep 20 (jointOf l m) 0 (l .each) (m .each) place in
-    (rw (ap (λ (r : Refused). r .object) (n .named), zero-add (n .place)) (n .lowest), ap (λ (r : Refused). r .bit) (n .named))
+    let n = names-lowest meets keep keep 20 (jointOf l m) 0 (l .each) (m .each) place in (
+      rw (ap (λ (r : Refused). r .object) (n .named), zero-add (n .place)) (n .lowest),
+      ap (λ (r : Refused). r .bit) (n .named),
+    )
 
-pub refuses-meeting : (l m : Changes) (j : ℕ) → l .to ≡ m .from → Lowest meets keep keep (l .each) (m .each) j → join l m ≡ refusalAt 20 j
+pub refuses-meeting : (l m : Changes) (j : ℕ) → l .to ≡ m .from → Lowest meets keep keep (l .each) (m .each) j
+    → join l m ≡ refusalAt 20 j
 unfolding join
 refuses-meeting l m j e h =
-    rw (eq-eqb (l .to) (m .from) e) (refuses-lowest meets keep keep 20 (jointOf l m) 0 (l .each) (m .each) j h ∙ rw (zero-add j))
+    rw (eq-eqb (l .to) (m .from) e)
+    (refuses-lowest meets keep keep 20 (jointOf l m) 0 (l .each) (m .each) j h ∙ rw (zero-add j))
 
 -- ---- lists that some image takes in turn
 
 module _ {p : Plan} where
   -- two such lists join to the list from the first image to the last
-  pub join-taken : {l m : Changes} {a b c : Image} → LegalList p l → LegalList p m → LegalImage p a → applied l a ≡ done b → applied m b ≡ done c
+  pub join-taken : {l m : Changes} {a b c : Image} → LegalList p l → LegalList p m → LegalImage p a
+      → applied l a ≡ done b → applied m b ≡ done c
       → join l m ≡ done (difference a c)
   join-taken {l} {m} {a} {b} {c} hl hm ha e f =
       let hb = result-legal hl ha e in

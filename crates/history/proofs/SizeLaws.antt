@@ -1,5 +1,5 @@
--- A list is never longer than four times an image under its table, and a join never longer than the two lists together. So three lists that
--- an image takes in turn join to one list in the room of all three, whichever pair is joined first.
+-- A list is never longer than four times an image under its table, and a join never longer than the two lists together.
+-- So three lists that an image takes in turn join to one list in the room of all three, whichever pair is joined first.
 -- Assumes nothing.
 use Prim.Native.Nat.{ℕ, zero, suc, _+_, _*_, _≤_, _<_}
 use native.Mathlib.Omega.{arith}
@@ -25,13 +25,15 @@ use Rattle.history.proofs.VerdictLaws.{left, right}
 use Rattle.history.proofs.ElementLaws.{admits-fits}
 use Rattle.history.proofs.ImageLaws.{image-long}
 use Rattle.history.proofs.OperationLaws.{joins}
-use Rattle.history.proofs.CallLaws.{difference-is, only-difference-applies, differences-join, applied-image, joined-list}
+use Rattle.history.proofs.CallLaws.{difference-is, only-difference-applies, differences-join, applied-image}
+use Rattle.history.proofs.CallLaws.{joined-list}
 
 size : Kind → Change → ℕ
 size k keep = 0
 size k (swap x y) = 2 + (widthOf k + widthOf k)
 
-size-step : (i : ℕ) (k : Kind) (t : List Kind) (c : Change) (cs : List Change) → length (entriesBytes i (k ∷ t) (c ∷ cs)) ≡ size k c + length (entriesBytes (suc i) t cs)
+size-step : (i : ℕ) (k : Kind) (t : List Kind) (c : Change) (cs : List Change)
+    → length (entriesBytes i (k ∷ t) (c ∷ cs)) ≡ size k c + length (entriesBytes (suc i) t cs)
 unfolding size
 size-step i k t keep cs = sym (zero-add _)
 size-step i k t (swap x y) cs = simp (length-append, length-bytes) (omega arith)
@@ -76,19 +78,28 @@ size-lawful k (swap x y) h = go (widthOf k) refl
         absurd (eqb-false x y (not-true (eqb x y) (right (admits k y) _ rest)) (omega arith))
     go (suc w) e = omega arith
 
-entries-few : {t : List Kind} {cs : List Change} (i : ℕ) → Every lawful t cs → length (entriesBytes i t cs) ≤ 4 * widths t
+entries-few : {t : List Kind} {cs : List Change} (i : ℕ) → Every lawful t cs
+    → length (entriesBytes i t cs) ≤ 4 * widths t
 entries-few i nil = omega arith
-entries-few i (and {a = k} {b = c} {xs = t} {ys = cs} p ps) = rw (size-step i k t c cs) (omega (arith, size-lawful k c p, entries-few (suc i) ps))
+entries-few i (and {a = k} {b = c} {xs = t} {ys = cs} p ps) =
+    rw (size-step i k t c cs) (omega (arith, size-lawful k c p, entries-few (suc i) ps))
 
 pub list-short : {p : Plan} {L A : List ℕ} → AcceptedList p L → AcceptedImage p A → length L ≤ 4 * length A
 list-short {p} {L} {A} l a =
-    omega (arith, entries-few 0 (l .legal .each), ap length (l .same) ∙ length-list p (l .list), ap length (a .same) ∙ image-long (a .legal))
+    omega (
+      arith,
+      entries-few 0 (l .legal .each),
+      ap length (l .same) ∙ length-list p (l .list),
+      ap length (a .same) ∙ image-long (a .legal),
+    )
 
-pub join-short : (T : List ℕ) {p : Plan} (t : readPlan T ≡ done p) {L M K : List ℕ} → AcceptedList p L → AcceptedList p M → joinCall T L M ≡ done K → length K ≤ length L + length M
+pub join-short : (T : List ℕ) {p : Plan} (t : readPlan T ≡ done p) {L M K : List ℕ} → AcceptedList p L
+    → AcceptedList p M → joinCall T L M ≡ done K → length K ≤ length L + length M
 join-short T {p} t {L} {M} {K} l m e =
     let q = joined-list T t l m e in
     let k = q .0 in
-    let each : k .list .each ≡ zipWith joined (l .list .each) (m .list .each) = ap (λ (k : Changes). k .each) (joins (l .legal) (m .legal) (q .1) .result) in
+    let each : k .list .each ≡ zipWith joined (l .list .each) (m .list .each) =
+    ap (λ (k : Changes). k .each) (joins (l .legal) (m .legal) (q .1) .result) in
     omega (
       arith,
       entries-short 0 (l .legal .each) (m .legal .each),
@@ -98,7 +109,8 @@ join-short T {p} t {L} {M} {K} l m e =
       ap length (m .same) ∙ length-list p (m .list),
     )
 
--- whichever two of three lists are joined first, joining the third gives the same list K; and how long each join is at most
+-- whichever two of three lists are joined first, joining the third gives the same list K;
+-- and how long each join is at most
 pub record OneJoin (T L M N K : List ℕ) : Type 0 where
   pub early : List ℕ
   pub late : List ℕ
@@ -118,9 +130,11 @@ module _ (T : List ℕ) {p : Plan} (t : readPlan T ≡ done p) {A B C D L M N : 
   joins-associate a l m n x y z =
       let b = applied-image T t a l x .0 in
       let c = applied-image T t b m y .0 in
-      go b c (applied-image T t c n z .0) (only-difference-applies T t a l x) (only-difference-applies T t b m y) (only-difference-applies T t c n z)
+      go b c (applied-image T t c n z .0) (only-difference-applies T t a l x) (only-difference-applies T t b m y)
+      (only-difference-applies T t c n z)
     where
-      go : AcceptedImage p B → AcceptedImage p C → AcceptedImage p D → differenceCall T A B ≡ done L → differenceCall T B C ≡ done M → differenceCall T C D ≡ done N
+      go : AcceptedImage p B → AcceptedImage p C → AcceptedImage p D → differenceCall T A B ≡ done L
+          → differenceCall T B C ≡ done M → differenceCall T C D ≡ done N
           → (K : List ℕ) × (differenceCall T A D ≡ done K) × OneJoin T L M N K
       go b c d AB BC CD =
           let AC = difference-is T t a c in

@@ -1,4 +1,5 @@
--- The standing's rules: each receive call moves exactly one tally, by one unless it is full; what each tally counts; the sum rule.
+-- The standing's rules: each receive call moves exactly one tally, by one unless it is full; what each tally counts;
+-- the sum rule.
 -- Assumes nothing.
 use Prim.Native.Nat.{ℕ, _+_, _≤_, _<_}
 use native.Mathlib.Omega.{arith}
@@ -13,7 +14,8 @@ use Rattle.history.specs.declared.Answer.{Answer}
 use Rattle.history.specs.declared.Standing.{Standing}
 use Rattle.history.specs.Verdict.{settled}
 use Rattle.history.specs.Calls.{applyCall}
-use Rattle.history.specs.Standing.{talliesOf, fresh, full, oneMore, Tally, Applied, Late, Gap, Other, tallyOf, oneMoreOn, counted, receiveCall, NoneFull, total}
+use Rattle.history.specs.Standing.{talliesOf, fresh, full, oneMore, Tally, Applied, Late, Gap, Other, tallyOf}
+use Rattle.history.specs.Standing.{oneMoreOn, counted, receiveCall, NoneFull, total}
 
 -- ---- one tally
 
@@ -101,7 +103,8 @@ pub total-grows : (code : ℕ) (s : Standing) → NoneFull s → total (counted 
 unfolding counted
 total-grows code s = on-total (tallyOf code) s
 
-delivered : (d : Delivery) (s : Standing) → receiveCall (d .table) (d .image) (d .list) (d .output) s .standing ≡ counted (codeOf d) s
+delivered : (d : Delivery) (s : Standing)
+    → receiveCall (d .table) (d .image) (d .list) (d .output) s .standing ≡ counted (codeOf d) s
 delivered d s =
     receive-counts (d .table) (d .image) (d .list) (d .output) s
     ∙ ap (λ (a : Answer). counted (a .code) s) (receive-answer (d .table) (d .image) (d .list) (d .output) s)
@@ -130,7 +133,8 @@ unfolding counted
 counts-gap s = refl
 
 -- any other code, 21 too
-pub counts-other : (code : ℕ) (s : Standing) → (code ≡ 0 → ⊥) → (code ≡ 16 → ⊥) → (code ≡ 17 → ⊥) → counted code s ≡ oneMoreOn Other s
+pub counts-other : (code : ℕ) (s : Standing) → (code ≡ 0 → ⊥) → (code ≡ 16 → ⊥) → (code ≡ 17 → ⊥)
+    → counted code s ≡ oneMoreOn Other s
 unfolding counted
 counts-other code s a l g = rw (ne-eqb code 0 a, ne-eqb code 16 l, ne-eqb code 17 g)
 
@@ -176,7 +180,12 @@ adds-by (other {code = code} a l g) s h =
     let z = ne-eqb code 0 a in
     let x = ne-eqb code 16 l in
     let y = ne-eqb code 17 g in
-    record { applied = rw (z, x, y); late = rw (z, x, y); gap = rw (z, x, y); other = rw (z, x, y) (moves (s .other) (h .other)) }
+    record {
+      applied = rw (z, x, y);
+      late = rw (z, x, y);
+      gap = rw (z, x, y);
+      other = rw (z, x, y) (moves (s .other) (h .other));
+    }
 
 pub adds : (code : ℕ) (s : Standing) → NoneFull s → Adds code s
 adds code s = adds-by (code-is code) s
@@ -191,8 +200,11 @@ each-counts (d ∷ ds) h =
     let c = each-counts ds n in
     let m = adds (codeOf d) s n in
     record {
-      applied = ap (λ (s : Standing). s .applied) e ∙ m .applied ∙ ap (λ (n : ℕ). cond (eqb (codeOf d) 0) (n + 1) n) (c .applied);
+      applied =
+          ap (λ (s : Standing). s .applied) e ∙ m .applied
+          ∙ ap (λ (n : ℕ). cond (eqb (codeOf d) 0) (n + 1) n) (c .applied);
       late = ap (λ (s : Standing). s .late) e ∙ m .late ∙ ap (λ (n : ℕ). cond (eqb (codeOf d) 16) (n + 1) n) (c .late);
       gap = ap (λ (s : Standing). s .gap) e ∙ m .gap ∙ ap (λ (n : ℕ). cond (eqb (codeOf d) 17) (n + 1) n) (c .gap);
-      other = ap (λ (s : Standing). s .other) e ∙ m .other ∙ ap (λ (n : ℕ). cond (isOther (codeOf d)) (n + 1) n) (c .other);
+      other =
+          ap (λ (s : Standing). s .other) e ∙ m .other ∙ ap (λ (n : ℕ). cond (isOther (codeOf d)) (n + 1) n) (c .other);
     }

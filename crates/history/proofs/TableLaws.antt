@@ -14,7 +14,9 @@ use borrow.Author.Tests.{eq-eqb, eqb-true, le-leb, leb-true, not-true}
 use Rattle.octets.specs.Octets.{bytes, number, Bytes}
 use Rattle.history.specs.Verdict.{Refused, naming, Verdict, refused, done, refusalAt, _unless_⨾_}
 use Rattle.history.specs.Form.{Form, formBytes, readForm}
-use Rattle.history.specs.Table.{Object, Table, versionGood, catalogueGood, labelLimit, labelGood, objectBytes, objectsBytes, tableBytes, sameObject, repeats, ObjectEntry, objectAt, checkObject, readObjects, readTable, Plan, planOf, object, LegalObject, LegalTable}
+use Rattle.history.specs.Table.{Object, Table, versionGood, catalogueGood, labelLimit, labelGood, objectBytes}
+use Rattle.history.specs.Table.{objectsBytes, tableBytes, sameObject, repeats, ObjectEntry, objectAt, checkObject}
+use Rattle.history.specs.Table.{readObjects, readTable, Plan, planOf, object, LegalObject, LegalTable}
 use Rattle.elements.specs.Elements.{carried}
 use Rattle.octets.specs.Octets.{sameBytes}
 use Rattle.history.specs.Calls.{readPlan}
@@ -52,7 +54,8 @@ neither true b e = absurd (let z : _≡_ {A = ℕ} 0 1 = cc in omega arith)
 neither false b e = (refl, e)
 
 -- what repeats none of a list repeats none of its parts
-fresh-before : (o : Object) (os ps : List Object) → repeats o (os ++ ps) ≡ false → (repeats o os ≡ false) × (repeats o ps ≡ false)
+fresh-before : (o : Object) (os ps : List Object) → repeats o (os ++ ps) ≡ false
+    → (repeats o os ≡ false) × (repeats o ps ≡ false)
 fresh-before o [] ps e = (refl, e)
 fresh-before o (p ∷ os) ps e =
     let h = neither (sameObject p o) _ e in
@@ -60,11 +63,13 @@ fresh-before o (p ∷ os) ps e =
     (rw (h .0) (r .0), r .1)
 
 -- what repeats is equal to one of them, and each of them repeats
-pub repeats-one : (o : Object) (os : List Object) → repeats o os ≡ true → (i : ℕ) × (i < length os) × (getD os i nobody ≡ o)
+pub repeats-one : (o : Object) (os : List Object) → repeats o os ≡ true
+    → (i : ℕ) × (i < length os) × (getD os i nobody ≡ o)
 repeats-one o [] e = absurd (let z : _≡_ {A = ℕ} 0 1 = cc in omega arith)
 repeats-one o (p ∷ os) e = go (sameObject p o) refl e (repeats-one o os)
   where
-    go : (u : Bool) → sameObject p o ≡ u → (u || repeats o os) ≡ true → (repeats o os ≡ true → (i : ℕ) × (i < length os) × (getD os i nobody ≡ o))
+    go : (u : Bool) → sameObject p o ≡ u → (u || repeats o os) ≡ true
+        → (repeats o os ≡ true → (i : ℕ) × (i < length os) × (getD os i nobody ≡ o))
         → (i : ℕ) × (i < suc (length os)) × (getD (p ∷ os) i nobody ≡ o)
     go true t e later = (0, omega arith, object-eq p o t)
     go false t e later = let r = later e in (suc (r .0), omega (arith, r .1), r .2)
@@ -74,7 +79,8 @@ repeats-each [] i l = absurd (omega arith)
 repeats-each (p ∷ os) zero l = rw (object-refl p)
 repeats-each (p ∷ os) (suc i) l = rw (repeats-each os i (omega arith), or-true)
 
-fresh-from : (o : Object) (os : List Object) → ((i : ℕ) → i < length os → getD os i nobody ≡ o → ⊥) → repeats o os ≡ false
+fresh-from : (o : Object) (os : List Object) → ((i : ℕ) → i < length os → getD os i nobody ≡ o → ⊥)
+    → repeats o os ≡ false
 fresh-from o os h = not-eq-not {b = false} .0 (λ e. let r = repeats-one o os e in h (r .0) (r .1) (r .2))
 
 -- ---- the objects after the earlier ones: each is legal and repeats none before it
@@ -82,28 +88,36 @@ fresh-from o os h = not-eq-not {b = false} .0 (λ e. let r = repeats-one o os e 
 module _ (version x : ℕ) where
   abbrev pub LegalFrom : List Object → List Object → Type 0
   LegalFrom earlier [] = Unit {0}
-  LegalFrom earlier (o ∷ os) = LegalObject version x o × (repeats o earlier ≡ false) × LegalFrom (earlier ++ (o ∷ [])) os
+  LegalFrom earlier (o ∷ os) =
+      LegalObject version x o × (repeats o earlier ≡ false) × LegalFrom (earlier ++ (o ∷ [])) os
 
-  pub legal-each : (earlier os : List Object) → LegalFrom earlier os → (i : ℕ) → i < length os → LegalObject version x (getD os i nobody)
+  pub legal-each : (earlier os : List Object) → LegalFrom earlier os → (i : ℕ) → i < length os
+      → LegalObject version x (getD os i nobody)
   legal-each earlier [] h i l = absurd (omega arith)
   legal-each earlier (o ∷ os) h zero l = h .0
   legal-each earlier (o ∷ os) h (suc i) l = legal-each (earlier ++ (o ∷ [])) os (h .2) i (omega arith)
 
-  legal-fresh : (earlier os : List Object) → LegalFrom earlier os → (i : ℕ) → i < length os → repeats (getD os i nobody) earlier ≡ false
+  legal-fresh : (earlier os : List Object) → LegalFrom earlier os → (i : ℕ) → i < length os
+      → repeats (getD os i nobody) earlier ≡ false
   legal-fresh earlier [] h i l = absurd (omega arith)
   legal-fresh earlier (o ∷ os) h zero l = h .1
-  legal-fresh earlier (o ∷ os) h (suc i) l = fresh-before (getD os i nobody) earlier (o ∷ []) (legal-fresh (earlier ++ (o ∷ [])) os (h .2) i (omega arith)) .0
+  legal-fresh earlier (o ∷ os) h (suc i) l =
+      fresh-before (getD os i nobody) earlier (o ∷ []) (legal-fresh (earlier ++ (o ∷ [])) os (h .2) i (omega arith)) .0
 
-  pub legal-distinct : (earlier os : List Object) → LegalFrom earlier os → (i j : ℕ) → i < j → j < length os → getD os i nobody ≡ getD os j nobody → ⊥
+  pub legal-distinct : (earlier os : List Object) → LegalFrom earlier os → (i j : ℕ) → i < j → j < length os
+      → getD os i nobody ≡ getD os j nobody → ⊥
   legal-distinct earlier [] h i j l m e = absurd (omega arith)
   legal-distinct earlier (o ∷ os) h i zero l m e = absurd (omega arith)
   legal-distinct earlier (o ∷ os) h zero (suc j) l m e =
-      let f = fresh-before (getD os j nobody) earlier (o ∷ []) (legal-fresh (earlier ++ (o ∷ [])) os (h .2) j (omega arith)) .1 in
+      let f =
+      fresh-before (getD os j nobody) earlier (o ∷ [])
+      (legal-fresh (earlier ++ (o ∷ [])) os (h .2) j (omega arith)) .1 in
       let n = neither (sameObject o (getD os j nobody)) _ f .0 in
       let y : sameObject o (getD os j nobody) ≡ true = rw (← e) (object-refl o) in
       let z : _≡_ {A = ℕ} 0 1 = cc in
       absurd (omega arith)
-  legal-distinct earlier (o ∷ os) h (suc i) (suc j) l m e = legal-distinct (earlier ++ (o ∷ [])) os (h .2) i j (omega arith) (omega arith) e
+  legal-distinct earlier (o ∷ os) h (suc i) (suc j) l m e =
+      legal-distinct (earlier ++ (o ∷ [])) os (h .2) i j (omega arith) (omega arith) e
 
   -- legal and distinct place by place in the whole list, so from any place on
   pub legal-from : (earlier os all : List Object) → earlier ++ os ≡ all
@@ -113,7 +127,8 @@ module _ (version x : ℕ) where
   legal-from earlier (o ∷ os) all e each distinct =
       let size : length all ≡ length earlier + suc (length os) = ap length (sym e) ∙ length-append earlier (o ∷ os) in
       let here : getD all (length earlier) nobody ≡ o = rw (← e) (getD-append-seam earlier o os nobody) in
-      let old : (i : ℕ) → i < length earlier → getD all i nobody ≡ getD earlier i nobody = λ i l. rw (← e) (List·getD-append earlier (o ∷ os) nobody i l) in (
+      let old : (i : ℕ) → i < length earlier → getD all i nobody ≡ getD earlier i nobody =
+      λ i l. rw (← e) (List·getD-append earlier (o ∷ os) nobody i l) in (
         rw here at (each (length earlier) (omega arith)),
         fresh-from o earlier (λ i l q. distinct i (length earlier) l (omega arith) (old i l ∙ q ∙ sym here)),
         legal-from (earlier ++ (o ∷ [])) os all (append-assoc earlier (o ∷ []) os ∙ e) each distinct,
@@ -127,7 +142,8 @@ module _ (version x : ℕ) where
     pub whole : b ≡ objectBytes (objectAt b .object) ++ objectAt b .rest
     pub last : (refusalAt 7 (length earlier) unless not (repeats (objectAt b .object) earlier) ⨾ done (objectAt b)) ≡ v
 
-  pub tested : (earlier : List Object) (b : List ℕ) {v : Verdict ObjectEntry} → ((r : Refused) → (r .code ≡ 7 → ⊥) → refused r ≡ v → ⊥)
+  pub tested : (earlier : List Object) (b : List ℕ) {v : Verdict ObjectEntry}
+      → ((r : Refused) → (r .code ≡ 7 → ⊥) → refused r ≡ v → ⊥)
       → checkObject version x earlier b (objectAt b) ≡ v → Tested earlier b v
   unfolding checkObject
   tested earlier b other q =
@@ -145,7 +161,8 @@ module _ (version x : ℕ) where
       record {
         legal = record { type = p₂ .0; some = rw size some; few = rw size few; good = p₅ .0 };
         whole = drop-cons b 0 0 (omega arith) ∙ ap (λ (r : List ℕ). getD b 0 0 ∷ r)
-            (drop-cons b 1 0 (omega arith) ∙ ap₂ (λ (m : ℕ) (r : List ℕ). m ∷ r) (sym size) (sym (take-append-drop n (drop 2 b))));
+            (drop-cons b 1 0 (omega arith)
+            ∙ ap₂ (λ (m : ℕ) (r : List ℕ). m ∷ r) (sym size) (sym (take-append-drop n (drop 2 b))));
         last = p₅ .1;
       }
 
@@ -155,17 +172,23 @@ module _ (version x : ℕ) where
     pub fresh : repeats (e .object) earlier ≡ false
     pub whole : b ≡ objectBytes (e .object) ++ e .rest
 
-  pub object-is : (earlier : List Object) (b : List ℕ) {e : ObjectEntry} → checkObject version x earlier b (objectAt b) ≡ done e → ObjectIs earlier b e
+  pub object-is : (earlier : List Object) (b : List ℕ) {e : ObjectEntry}
+      → checkObject version x earlier b (objectAt b) ≡ done e → ObjectIs earlier b e
   object-is earlier b {e} q =
       let i = tested earlier b (λ r n z. let y : _≡_ {A = ℕ} 0 1 = cc in omega arith) q in
       let p = held (not (repeats (objectAt b .object) earlier)) _ _ (i .last) in
       let e-is : e ≡ objectAt b = cc (p .1) in
-      rw e-is (record { legal = i .legal; fresh = not-true (repeats (objectAt b .object) earlier) (p .0); whole = i .whole })
+      rw e-is (record {
+        legal = i .legal;
+        fresh = not-true (repeats (objectAt b .object) earlier) (p .0);
+        whole = i .whole;
+      })
 
   -- a legal object's entry is refused with 7 or not at all
   pub object-checked : (earlier : List Object) (o : Object) (rest : List ℕ) → LegalObject version x o
       → checkObject version x earlier (objectBytes o ++ rest) (objectAt (objectBytes o ++ rest))
-      ≡ (refusalAt 7 (length earlier) unless not (repeats o earlier) ⨾ done (record { object = o; size = length (o .label); rest = rest }))
+      ≡ (refusalAt 7 (length earlier) unless not (repeats o earlier) ⨾
+      done (record { object = o; size = length (o .label); rest = rest }))
   unfolding checkObject
   object-checked earlier o rest h =
       let l : List ℕ = o .label in
@@ -183,7 +206,8 @@ module _ (version x : ℕ) where
 
   -- an entry is refused with 5 exactly where its first two bytes are there and its type is not carried; it is named
   pub object-other : (earlier : List Object) (b : List ℕ) (k bit : ℕ)
-      → (checkObject version x earlier b (objectAt b) ≡ refused (naming 5 k bit)) ↔ ((2 ≤ length b) × (carried x (getD b 0 0) ≡ false) × (length earlier ≡ k) × (bit ≡ 255))
+      → (checkObject version x earlier b (objectAt b) ≡ refused (naming 5 k bit)) ↔
+      ((2 ≤ length b) × (carried x (getD b 0 0) ≡ false) × (length earlier ≡ k) × (bit ≡ 255))
   unfolding checkObject
   object-other earlier b k bit = (
     (λ q.
@@ -201,22 +225,29 @@ module _ (version x : ℕ) where
     (λ w. rw (le-leb 2 (length b) (w .0), w .1, w .2, w .3)),
   )
 
-  object-reads : (earlier : List Object) (o : Object) (rest : List ℕ) → LegalObject version x o → repeats o earlier ≡ false
-      → checkObject version x earlier (objectBytes o ++ rest) (objectAt (objectBytes o ++ rest)) ≡ done (record { object = o; size = length (o .label); rest = rest })
+  object-reads : (earlier : List Object) (o : Object) (rest : List ℕ) → LegalObject version x o
+      → repeats o earlier ≡ false
+      → checkObject version x earlier (objectBytes o ++ rest) (objectAt (objectBytes o ++ rest))
+      ≡ done (record { object = o; size = length (o .label); rest = rest })
   object-reads earlier o rest h f = object-checked earlier o rest h ∙ rw f
 
   -- an entry is read from its own bytes alone
-  pub object-alone : (earlier : List Object) (b rest : List ℕ) {e : ObjectEntry} → checkObject version x earlier b (objectAt b) ≡ done e
-      → checkObject version x earlier (b ++ rest) (objectAt (b ++ rest)) ≡ done (record { object = e .object; size = e .size; rest = e .rest ++ rest })
+  pub object-alone : (earlier : List Object) (b rest : List ℕ) {e : ObjectEntry}
+      → checkObject version x earlier b (objectAt b) ≡ done e
+      → checkObject version x earlier (b ++ rest) (objectAt (b ++ rest))
+      ≡ done (record { object = e .object; size = e .size; rest = e .rest ++ rest })
   object-alone earlier b rest {e} q =
       let i = object-is earlier b q in
       let o : Object = e .object in
       let check : List ℕ → Verdict ObjectEntry = λ c. checkObject version x earlier c (objectAt c) in
-      let again : check b ≡ done (record { object = o; size = length (o .label); rest = e .rest }) = ap check (i .whole) ∙ object-reads earlier o (e .rest) (i .legal) (i .fresh) in
+      let again : check b ≡ done (record { object = o; size = length (o .label); rest = e .rest }) =
+      ap check (i .whole) ∙ object-reads earlier o (e .rest) (i .legal) (i .fresh) in
       let e-is : e ≡ record { object = o; size = length (o .label); rest = e .rest } = cc in
-      let more : b ++ rest ≡ objectBytes o ++ (e .rest ++ rest) = ap (λ (c : List ℕ). c ++ rest) (i .whole) ∙ append-assoc (objectBytes o) (e .rest) rest in
+      let more : b ++ rest ≡ objectBytes o ++ (e .rest ++ rest) =
+      ap (λ (c : List ℕ). c ++ rest) (i .whole) ∙ append-assoc (objectBytes o) (e .rest) rest in
       ap check more ∙ object-reads earlier o (e .rest ++ rest) (i .legal) (i .fresh)
-      ∙ ap (λ (n : ℕ). done (record { object = o; size = n; rest = e .rest ++ rest })) (sym (ap (λ (e : ObjectEntry). e .size) e-is))
+      ∙ ap (λ (n : ℕ). done (record { object = o; size = n; rest = e .rest ++ rest }))
+      (sym (ap (λ (e : ObjectEntry). e .size) e-is))
 
   -- ---- all entries
 
@@ -227,11 +258,18 @@ module _ (version x : ℕ) where
     legal : LegalFrom earlier more
     same : b ≡ objectsBytes more
 
-  objects-are : (earlier : List Object) (n : ℕ) (b : List ℕ) {os : List Object} → readObjects version x earlier n b ≡ done os → ObjectsAre earlier n b os
+  objects-are : (earlier : List Object) (n : ℕ) (b : List ℕ) {os : List Object}
+      → readObjects version x earlier n b ≡ done os → ObjectsAre earlier n b os
   objects-are earlier zero b {os} e =
       let h = held (eqb (length b) 0) _ _ e in
       let os-is : os ≡ earlier = cc (h .1) in
-      record { more = []; whole = os-is ∙ sym (append-nil earlier); count = refl; legal = tt; same = no-bytes b (eqb-true _ _ (h .0)) }
+      record {
+        more = [];
+        whole = os-is ∙ sym (append-nil earlier);
+        count = refl;
+        legal = tt;
+        same = no-bytes b (eqb-true _ _ (h .0));
+      }
     where
       no-bytes : (b : List ℕ) → length b ≡ 0 → b ≡ []
       no-bytes [] e = refl
@@ -251,24 +289,39 @@ module _ (version x : ℕ) where
 
   -- legal objects are accepted, and what follows them decides
   pub objects-pass : (earlier os : List Object) → LegalFrom earlier os → (n : ℕ) (rest : List ℕ)
-      → readObjects version x earlier (length os + n) (objectsBytes os ++ rest) ≡ readObjects version x (earlier ++ os) n rest
+      → readObjects version x earlier (length os + n) (objectsBytes os ++ rest)
+      ≡ readObjects version x (earlier ++ os) n rest
   objects-pass earlier [] h n rest = rw (zero-add n, append-nil earlier)
   objects-pass earlier (o ∷ os) h n rest =
-      rw (suc-add (length os) n, append-assoc (o .label) (objectsBytes os) rest, object-reads earlier o (objectsBytes os ++ rest) (h .0) (h .1))
-      (objects-pass (earlier ++ (o ∷ [])) os (h .2) n rest ∙ ap (λ (e : List Object). readObjects version x e n rest) (append-assoc earlier (o ∷ []) os))
+      rw (
+        suc-add (length os) n,
+        append-assoc (o .label) (objectsBytes os) rest,
+        object-reads earlier o (objectsBytes os ++ rest) (h .0) (h .1),
+      )
+      (objects-pass (earlier ++ (o ∷ [])) os (h .2) n rest
+      ∙ ap (λ (e : List Object). readObjects version x e n rest) (append-assoc earlier (o ∷ []) os))
 
-  objects-read : (earlier os : List Object) → LegalFrom earlier os → readObjects version x earlier (length os) (objectsBytes os) ≡ done (earlier ++ os)
-  objects-read earlier os h = rw (add-zero (length os), append-nil (objectsBytes os)) at (objects-pass earlier os h 0 [])
+  objects-read : (earlier os : List Object) → LegalFrom earlier os
+      → readObjects version x earlier (length os) (objectsBytes os) ≡ done (earlier ++ os)
+  objects-read earlier os h =
+      rw (add-zero (length os), append-nil (objectsBytes os)) at (objects-pass earlier os h 0 [])
 
 -- no label is longer than 253 bytes, so an entry takes at most 255, and a table's length fits four bytes
 limit-253 : (v : ℕ) → labelLimit v ≤ 253
 unfolding labelLimit
 limit-253 v = omega arith
 
-length-objects : (version x : ℕ) (earlier os : List Object) → LegalFrom version x earlier os → length (objectsBytes os) ≤ 255 * length os
+length-objects : (version x : ℕ) (earlier os : List Object) → LegalFrom version x earlier os
+    → length (objectsBytes os) ≤ 255 * length os
 length-objects version x earlier [] h = omega arith
 length-objects version x earlier (o ∷ os) h =
-    omega (arith, h .0 .few, limit-253 version, length-append (o .label) (objectsBytes os), length-objects version x (earlier ++ (o ∷ [])) os (h .2))
+    omega (
+      arith,
+      h .0 .few,
+      limit-253 version,
+      length-append (o .label) (objectsBytes os),
+      length-objects version x (earlier ++ (o ∷ [])) os (h .2),
+    )
 
 -- ---- the form
 
@@ -278,7 +331,8 @@ pub record TableIs (b : List ℕ) (t : Table) : Type 0 where
   pub count : length (t .objects) ≡ number (take 2 (drop 7 b))
   pub same : Bytes b → b ≡ tableBytes t
 
-contents-are : (b : List ℕ) (f : Form) (t : Table) → readForm 5 versionGood b ≡ done f → catalogueGood (f .x) (f .y) ≡ true → number (take 2 (f .contents)) ≤ 1024
+contents-are : (b : List ℕ) (f : Form) (t : Table) → readForm 5 versionGood b ≡ done f
+    → catalogueGood (f .x) (f .y) ≡ true → number (take 2 (f .contents)) ≤ 1024
     → ObjectsAre (f .version) (f .x) [] (number (take 2 (f .contents))) (drop 2 (f .contents)) (t .objects)
     → t .version ≡ f .version → t .x ≡ f .x → t .y ≡ f .y → versionGood (f .version) ≡ true → TableIs b t
 unfolding tableBytes
@@ -298,7 +352,9 @@ contents-are b f t e c few r v x y g =
           let o = form-is 5 versionGood b (omega arith) h e in
           let two : 2 ≤ length (f .contents) = omega (arith, o .enough) in
           let parts : f .contents ≡ bytes 2 (length (t .objects)) ++ objectsBytes (t .objects) =
-          cut 2 (f .contents) two (o .inside) ∙ ap₂ (λ (m : ℕ) (s : List ℕ). bytes 2 m ++ s) (sym (ap length objects ∙ r .count)) (r .same ∙ ap objectsBytes (sym objects)) in
+          cut 2 (f .contents) two (o .inside)
+          ∙ ap₂ (λ (m : ℕ) (s : List ℕ). bytes 2 m ++ s) (sym (ap length objects ∙ r .count))
+          (r .same ∙ ap objectsBytes (sym objects)) in
           o .whole ∙ ap formBytes (λ i. record { version = sym v i; x = sym x i; y = sym y i; contents = parts i });
     }
 
@@ -313,7 +369,8 @@ table-is b {t} e =
     let p₃ = used (readObjects (f .version) (f .x) [] n (drop 2 (f .contents))) _ (p₂ .1) in
     let t-is : t ≡ record { version = f .version; x = f .x; y = f .y; objects = p₃ .0 } = cc (p₃ .2) in
     let r = objects-are (f .version) (f .x) [] n (drop 2 (f .contents)) (p₃ .1) in
-    rw t-is (contents-are b f (record { version = f .version; x = f .x; y = f .y; objects = p₃ .0 }) (p .1) (p₁ .0) (leb-true _ _ (p₂ .0)) r refl refl refl (form-version 5 versionGood b (p .1)))
+    rw t-is (contents-are b f (record { version = f .version; x = f .x; y = f .y; objects = p₃ .0 }) (p .1) (p₁ .0)
+    (leb-true _ _ (p₂ .0)) r refl refl refl (form-version 5 versionGood b (p .1)))
 
 pub table-reads : (t : Table) → LegalTable t → readTable (tableBytes t) ≡ done t
 unfolding readTable tableBytes
@@ -326,7 +383,8 @@ table-reads t h =
     let long : length c ≡ 2 + length b = simp (length-append, length-bytes) in
     let less = length-objects (t .version) (t .x) [] os legal in
     rw (
-      form-reads 5 versionGood (record { version = t .version; x = t .x; y = t .y; contents = c }) (h .version) (omega arith) (omega (arith, h .count)),
+      form-reads 5 versionGood (record { version = t .version; x = t .x; y = t .y; contents = c }) (h .version)
+          (omega arith) (omega (arith, h .count)),
       h .catalogue,
       read-bytes 2 n b (omega (arith, h .count)),
       drop-bytes 2 n b,
@@ -348,5 +406,6 @@ plan-fair b {p} e =
     let t = q .0 in
     let few = table-is b (q .1) .legal .count in
     let p-is : p ≡ planOf t = cc (q .2) in
-    let count : length (p .kinds) ≡ length (t .objects) = ap (λ (p : Plan). length (p .kinds)) p-is ∙ length-map (t .objects) _ in
+    let count : length (p .kinds) ≡ length (t .objects) =
+    ap (λ (p : Plan). length (p .kinds)) p-is ∙ length-map (t .objects) _ in
     record { count = omega (arith, count) }

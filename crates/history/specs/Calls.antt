@@ -1,5 +1,6 @@
--- The calls, over raw bytes. "Order: table, then the other forms as given, then object number, 22, positions, values (12 of a state handed
--- in, 18, 20), 21 last." (21 is `settled`'s.) T, A, B, L, M are bytes; t, a, b, l, m what they are read as.
+-- The calls, over raw bytes. "Order: table, then the other forms as given, then object number, 22, positions, values
+-- (12 of a state handed in, 18, 20), 21 last." (21 is `settled`'s.) T, A, B, L, M are bytes;
+-- t, a, b, l, m what they are read as.
 use Prim.Native.Nat.{ℕ, _+_}
 use mathlib.Core.List.{List}
 use lib.Dec.{ltb}
@@ -106,7 +107,8 @@ pub record Place : Type 0 where
 
 -- after nine bytes, the earlier entries, and the object's own type and label length
 abbrev pub labelPlace : Table → ℕ → Place
-labelPlace t i = record { offset = 9 + (length (objectsBytes (take i (t .objects))) + 2); size = length (object t i .label) }
+labelPlace t i =
+    record { offset = 9 + (length (objectsBytes (take i (t .objects))) + 2); size = length (object t i .label) }
 
 -- 13; then the label's place
 unfoldable pub labelCall : List ℕ → ℕ → Verdict Place

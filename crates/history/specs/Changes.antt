@@ -1,5 +1,6 @@
--- "Change list: 4-byte from position, 4-byte to position, 2-byte entry count; per entry a 2-byte object number, the old element, the new
--- element. Numbers ascend strictly; old differs from new." Its bytes, what it may hold, and the four operations.
+-- "Change list: 4-byte from position, 4-byte to position, 2-byte entry count; per entry a 2-byte object number, the old
+-- element, the new element. Numbers ascend strictly; old differs from new." Its bytes, what it
+-- may hold, and the four operations.
 use Prim.Native.Nat.{ℕ, zero, suc, _+_, _-_, _^_, _<_}
 use mathlib.Core.Bool.{not, Bool, true, cond, _&&_}
 use mathlib.Core.List.{List, [], _∷_, _++_, map, zipWith}
@@ -16,7 +17,8 @@ use Rattle.history.specs.Form.{formBytes, readForm}
 use Rattle.history.specs.Table.{Plan, kindAt, sameCatalogue}
 use Rattle.history.specs.Image.{element, _of_⨾_, Image, admits, Every}
 
--- two positions, and what the list says of each object, in table order. The entries are the swaps, each with its object's number
+-- two positions, and what the list says of each object, in table order.
+-- The entries are the swaps, each with its object's number
 pub record Changes : Type 0 where
   pub from : ℕ
   pub to : ℕ
@@ -33,7 +35,8 @@ abbrev pub entriesBytes : ℕ → List Kind → List Change → List ℕ
 entriesBytes i [] cs = []
 entriesBytes i (k ∷ ks) [] = []
 entriesBytes i (k ∷ ks) (keep ∷ cs) = entriesBytes (suc i) ks cs
-entriesBytes i (k ∷ ks) (swap old new ∷ cs) = bytes 2 i ++ (bytes (widthOf k) old ++ (bytes (widthOf k) new ++ entriesBytes (suc i) ks cs))
+entriesBytes i (k ∷ ks) (swap old new ∷ cs) =
+    bytes 2 i ++ (bytes (widthOf k) old ++ (bytes (widthOf k) new ++ entriesBytes (suc i) ks cs))
 
 -- how many entries
 abbrev pub entries : List Change → ℕ
@@ -46,7 +49,8 @@ listBytes p l = formBytes (record {
   version = listVersion;
   x = p .x;
   y = p .y;
-  contents = bytes 4 (l .from) ++ (bytes 4 (l .to) ++ (bytes 2 (entries (l .each)) ++ entriesBytes 0 (p .kinds) (l .each)));
+  contents =
+      bytes 4 (l .from) ++ (bytes 4 (l .to) ++ (bytes 2 (entries (l .each)) ++ entriesBytes 0 (p .kinds) (l .each)));
 })
 
 -- ---- reading
@@ -128,8 +132,9 @@ pub record AcceptedList (p : Plan) (L : List ℕ) : Type 0 where
   pub reads : readList p L ≡ done list
   pub same : L ≡ listBytes p list
 
--- "Meaning of a list: it applies to an image whose position is its from position and whose named elements are the old ones. The result has
--- the to position and the new elements, all else equal." (Joins and turning back are quoted at their definitions.)
+-- "Meaning of a list: it applies to an image whose position is its from position and whose named elements are the old
+-- ones. The result has the to position and the new elements, all else equal." (Joins and
+-- turning back are quoted at their definitions.)
 
 -- ---- one object
 
@@ -153,7 +158,8 @@ meets keep d = true
 meets (swap old new) keep = true
 meets (swap old new) (swap old′ new′) = eqb new old′
 
--- "an object in both has the first's old and the second's new and is dropped if these are equal; an object in one is copied"
+-- "an object in both has the first's old and the second's new and is dropped if these are equal;
+-- an object in one is copied"
 abbrev pub joined : Change → Change → Change
 joined keep d = d
 joined (swap old new) keep = swap old new

@@ -1,5 +1,5 @@
--- "Each form begins with a 4-byte length of all bytes after it, then one version byte, 1, then two bytes X and Y of the catalogue
--- version. A form fills its slice exactly."
+-- "Each form begins with a 4-byte length of all bytes after it, then one version byte, 1, then two bytes X and Y of the
+-- catalogue version. A form fills its slice exactly."
 use Prim.Native.Nat.{ℕ, _+_}
 use mathlib.Core.Bool.{Bool, _&&_}
 use mathlib.Core.List.{List, _∷_, _++_}

@@ -53,7 +53,13 @@ wordsBytes (k ∷ ks) [] = []
 wordsBytes (k ∷ ks) (w ∷ ws) = bytes (widthOf k) w ++ wordsBytes ks ws
 
 unfoldable pub imageBytes : Plan → Image → List ℕ
-imageBytes p a = formBytes (record { version = a .version; x = p .x; y = p .y; contents = bytes 4 (a .position) ++ wordsBytes (p .kinds) (a .words) })
+imageBytes p a =
+    formBytes (record {
+      version = a .version;
+      x = p .x;
+      y = p .y;
+      contents = bytes 4 (a .position) ++ wordsBytes (p .kinds) (a .words);
+    })
 
 -- ---- reading
 

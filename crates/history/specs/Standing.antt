@@ -1,5 +1,5 @@
--- "The receiver applies a list and keeps a standing of four tallies, lent to the call and updated there: applied, late (16), gap (17),
--- other. Each receive call adds 1 to exactly one, refusals too; a tally at 4,294,967,295 stays."
+-- "The receiver applies a list and keeps a standing of four tallies, lent to the call and updated there: applied, late
+-- (16), gap (17), other. Each receive call adds 1 to exactly one, refusals too; a tally at 4,294,967,295 stays."
 use Prim.Native.Nat.{ℕ, _+_, _<_}
 use mathlib.Core.Bool.{cond}
 use mathlib.Core.List.{List, [], _∷_}
@@ -48,7 +48,10 @@ pub record Received : Type 0 where
   pub standing : Standing
 
 unfoldable pub receiveCall : List ℕ → List ℕ → List ℕ → List ℕ → Standing → Received
-receiveCall T A L out s = let o : Outcome = settled (applyCall T A L) out in record { answer = o .answer; output = o .output; standing = counted (o .answer .code) s }
+receiveCall T A L out s =
+    let o : Outcome =
+    settled (applyCall T A L) out in
+    record { answer = o .answer; output = o .output; standing = counted (o .answer .code) s }
 
 -- ---- "While none has reached it, the four sum to the receive calls since fresh."
 

@@ -1,4 +1,5 @@
--- "Table: after X, Y a 2-byte object count (0 to 1,024), then per object its type (1 byte), label length (1 byte, 1 to 32) and label.
+-- "Table: after X, Y a 2-byte object count (0 to 1,024), then per object its type (1 byte),
+-- label length (1 byte, 1 to 32) and label.
 -- Objects are numbered from 0. By section 6, no two objects share both type and label."
 use Prim.Native.Nat.{ℕ, zero, suc, _+_, _≤_, _<_}
 use mathlib.Core.Bool.{Bool, true, false, cond, not, _&&_, _||_}
@@ -60,7 +61,13 @@ objectsBytes [] = []
 objectsBytes (o ∷ os) = objectBytes o ++ objectsBytes os
 
 unfoldable pub tableBytes : Table → List ℕ
-tableBytes t = formBytes (record { version = t .version; x = t .x; y = t .y; contents = bytes 2 (length (t .objects)) ++ objectsBytes (t .objects) })
+tableBytes t =
+    formBytes (record {
+      version = t .version;
+      x = t .x;
+      y = t .y;
+      contents = bytes 2 (length (t .objects)) ++ objectsBytes (t .objects);
+    })
 
 -- ---- reading
 
@@ -112,7 +119,8 @@ readTable b =
     then (readObjects (f .version) (f .x) [] (number (take 2 (f .contents))) (drop 2 (f .contents))) λ os.
     done (record { version = f .version; x = f .x; y = f .y; objects = os })
 
--- ---- what a table may hold. Bytes are accepted exactly where they are such a table, written (`table-exactly` of proofs/Demands)
+-- ---- what a table may hold. Bytes are accepted exactly where they are such a table, written
+-- (`table-exactly` of proofs/Demands)
 
 pub record LegalObject (version x : ℕ) (o : Object) : Type 0 where
   pub type : carried x (o .type) ≡ true

@@ -1,4 +1,5 @@
-// The meaning of the product: definitions in specs/, laws in proofs/. The only code is the types that the definitions use.
+// The meaning of the product: definitions in specs/, laws in proofs/.
+// The only code is the types that the definitions use.
 
 // The four numbers that every call returns; `specs/Verdict.antt` says what they are.
 pub struct Answer {

@@ -1,5 +1,5 @@
--- For each kind: it has a layout, the layout's number finds it, a state made from values keeps the listed ones, and a state's values
--- make that state again.
+-- For each kind: it has a layout, the layout's number finds it, a state made from values keeps the listed ones, and a
+-- state's values make that state again.
 -- Written by catalogue/write.py. Assumes nothing.
 use mathlib.Core.Path.{_≡_, refl, ap}
 use mathlib.Core.List.{List, [], map}
@@ -9,13 +9,20 @@ use lib.ListN.{length, getD}
 use Rattle.rows.specs.Rows.{cells, layouts}
 use Rattle.rows.specs.Values.{padded, valuesOf}
 use Rattle.rows.proofs.Listed.{listedFrom}
-use Rattle.states.proofs.StateLaws.{signal-listed, signal-back, changerSignal-listed, changerSignal-back, virtualBoard-listed, virtualBoard-back, lineTrackCircuit-listed, lineTrackCircuit-back, pointsTrackCircuit-listed, pointsTrackCircuit-back, crossingTrackCircuit-listed, crossingTrackCircuit-back, dualDetection-listed, dualDetection-back, points-listed, points-back, electricLock-listed, electricLock-back, generalNotices-listed, generalNotices-back, controlBoundary-listed, controlBoundary-back, signalV3-listed, signalV3-back}
+use Rattle.states.proofs.StateLaws.{signal-listed, signal-back, changerSignal-listed, changerSignal-back}
+use Rattle.states.proofs.StateLaws.{virtualBoard-listed, virtualBoard-back, lineTrackCircuit-listed}
+use Rattle.states.proofs.StateLaws.{lineTrackCircuit-back, pointsTrackCircuit-listed, pointsTrackCircuit-back}
+use Rattle.states.proofs.StateLaws.{crossingTrackCircuit-listed, crossingTrackCircuit-back, dualDetection-listed}
+use Rattle.states.proofs.StateLaws.{dualDetection-back, points-listed, points-back, electricLock-listed}
+use Rattle.states.proofs.StateLaws.{electricLock-back, generalNotices-listed, generalNotices-back}
+use Rattle.states.proofs.StateLaws.{controlBoundary-listed, controlBoundary-back, signalV3-listed, signalV3-back}
 use Rattle.kinds.specs.Kinds.{kinds, place, layoutNo, rowsOf, findNumbered, elementOf, elementValues, kindIn}
 use Rattle.kinds.specs.declared.Kind.{Kind}
 use Rattle.kinds.specs.declared.Element.{Element}
 use Rattle.kinds.specs.declared.OptionalKind.{OptionalKind}
 
--- two functions that agree on the list of all kinds agree on each, so a table with a line for each kind is one computation
+-- two functions that agree on the list of all kinds agree on each, so a table with a line for
+-- each kind is one computation
 pub every-kind : {A : Type 0} (f g : Kind → A) → map f kinds ≡ map g kinds → (k : Kind) → f k ≡ g k
 every-kind {A} f g e Kind.Signal = ap (λ (l : List A). getD l 0 (f Kind.Signal)) e
 every-kind {A} f g e Kind.ChangerSignal = ap (λ (l : List A). getD l 1 (f Kind.ChangerSignal)) e

@@ -1,4 +1,5 @@
--- Looking up a number among lines: if no line has it, nothing is found; what a test says of every line holds of the line found.
+-- Looking up a number among lines: if no line has it, nothing is found;
+-- what a test says of every line holds of the line found.
 -- Written by catalogue/write.py. Assumes nothing.
 use mathlib.Core.Path.{_≡_, _∙_, refl, sym, ap, subst, subst⁻¹}
 use mathlib.Core.Bool.{Bool, true, false, cond, _&&_}
@@ -18,19 +19,28 @@ Apart n (l ∷ ls) = (n ≡ l .number → ⊥) × Apart n ls
 
 pub vain : (n : ℕ) (ls : List Line) → Apart n ls → OptionalKind.None ≡ findIn n ls
 vain n [] a = refl
-vain n (l ∷ ls) a = vain n ls (a .1) ∙ sym (ap (λ (b : Bool). cond b (OptionalKind.Some (l .kind)) (findIn n ls)) (ne-eqb n (l .number) (a .0)))
+vain n (l ∷ ls) a =
+    vain n ls (a .1)
+    ∙ sym (ap (λ (b : Bool). cond b (OptionalKind.Some (l .kind)) (findIn n ls)) (ne-eqb n (l .number) (a .0)))
 
 abbrev pub allLines : (ℕ → Kind → Bool) → List Line → Bool
 allLines test [] = true
 allLines test (l ∷ ls) = test (l .number) (l .kind) && allLines test ls
 
-pub every-line : (test : ℕ → Kind → Bool) (n : ℕ) (ls : List Line) → T (allLines test ls) → {k : Kind} → findIn n ls ≡ OptionalKind.Some k → T (test n k)
+pub every-line : (test : ℕ → Kind → Bool) (n : ℕ) (ls : List Line) → T (allLines test ls) → {k : Kind}
+    → findIn n ls ≡ OptionalKind.Some k → T (test n k)
 every-line test n [] t e = absurd (let z : _≡_ {A = ℕ} 0 1 = cc in omega arith)
-every-line test n (l ∷ ls) t {k} e = at (eqb n (l .number)) refl (every-line test n ls (both-right (test (l .number) (l .kind)) (allLines test ls) t)) e
+every-line test n (l ∷ ls) t {k} e =
+    at (eqb n (l .number)) refl (every-line test n ls (both-right (test (l .number) (l .kind)) (allLines test ls) t)) e
   where
-    here : (j : Kind) → T (test (l .number) j) → OptionalKind.Some j ≡ OptionalKind.Some k → n ≡ l .number → T (test n k)
-    here j h e q = subst⁻¹ (λ (m : ℕ). T (test m k)) q (let same : j ≡ k = cc in subst (λ (j : Kind). T (test (l .number) j)) same h)
+    here : (j : Kind) → T (test (l .number) j) → OptionalKind.Some j ≡ OptionalKind.Some k → n ≡ l .number
+        → T (test n k)
+    here j h e q =
+        subst⁻¹ (λ (m : ℕ). T (test m k)) q
+        (let same : j ≡ k = cc in subst (λ (j : Kind). T (test (l .number) j)) same h)
 
-    at : (b : Bool) → eqb n (l .number) ≡ b → (findIn n ls ≡ OptionalKind.Some k → T (test n k)) → cond b (OptionalKind.Some (l .kind)) (findIn n ls) ≡ OptionalKind.Some k → T (test n k)
-    at true q rest e = here (l .kind) (both-left (test (l .number) (l .kind)) (allLines test ls) t) e (eqb-true n (l .number) q)
+    at : (b : Bool) → eqb n (l .number) ≡ b → (findIn n ls ≡ OptionalKind.Some k → T (test n k))
+        → cond b (OptionalKind.Some (l .kind)) (findIn n ls) ≡ OptionalKind.Some k → T (test n k)
+    at true q rest e =
+        here (l .kind) (both-left (test (l .number) (l .kind)) (allLines test ls) t) e (eqb-true n (l .number) q)
     at false q rest e = rest e

@@ -1,4 +1,5 @@
--- The kinds of element, one for each layout; the layout of each; the state of any kind, from its fields' values and back.
+-- The kinds of element, one for each layout; the layout of each;
+-- the state of any kind, from its fields' values and back.
 -- Written by catalogue/write.py.
 use mathlib.Core.Bool.{cond}
 use mathlib.Core.List.{List, [], _∷_, map}
@@ -7,13 +8,21 @@ use lib.Dec.{eqb}
 use Rattle.rows.specs.Rows.{Row, layoutAt}
 use Rattle.rows.specs.Covering.{layoutRows}
 use Rattle.rows.specs.declared.Layout.{Layout}
-use Rattle.states.specs.States.{signalOf, signalValues, changerSignalOf, changerSignalValues, virtualBoardOf, virtualBoardValues, lineTrackCircuitOf, lineTrackCircuitValues, pointsTrackCircuitOf, pointsTrackCircuitValues, crossingTrackCircuitOf, crossingTrackCircuitValues, dualDetectionOf, dualDetectionValues, pointsOf, pointsValues, electricLockOf, electricLockValues, generalNoticesOf, generalNoticesValues, controlBoundaryOf, controlBoundaryValues, signalV3Of, signalV3Values}
+use Rattle.states.specs.States.{signalOf, signalValues, changerSignalOf, changerSignalValues, virtualBoardOf}
+use Rattle.states.specs.States.{virtualBoardValues, lineTrackCircuitOf, lineTrackCircuitValues, pointsTrackCircuitOf}
+use Rattle.states.specs.States.{pointsTrackCircuitValues, crossingTrackCircuitOf, crossingTrackCircuitValues}
+use Rattle.states.specs.States.{dualDetectionOf, dualDetectionValues, pointsOf, pointsValues, electricLockOf}
+use Rattle.states.specs.States.{electricLockValues, generalNoticesOf, generalNoticesValues, controlBoundaryOf}
+use Rattle.states.specs.States.{controlBoundaryValues, signalV3Of, signalV3Values}
 use Rattle.kinds.specs.declared.Kind.{Kind}
 use Rattle.kinds.specs.declared.Element.{Element}
 use Rattle.kinds.specs.declared.OptionalKind.{OptionalKind}
 
 abbrev pub kinds : List Kind
-kinds = Kind.Signal ∷ Kind.ChangerSignal ∷ Kind.VirtualBoard ∷ Kind.LineTrackCircuit ∷ Kind.PointsTrackCircuit ∷ Kind.CrossingTrackCircuit ∷ Kind.DualDetection ∷ Kind.Points ∷ Kind.ElectricLock ∷ Kind.GeneralNotices ∷ Kind.ControlBoundary ∷ Kind.SignalV3 ∷ []
+kinds =
+    Kind.Signal ∷ Kind.ChangerSignal ∷ Kind.VirtualBoard ∷ Kind.LineTrackCircuit ∷ Kind.PointsTrackCircuit ∷
+    Kind.CrossingTrackCircuit ∷ Kind.DualDetection ∷ Kind.Points ∷ Kind.ElectricLock ∷ Kind.GeneralNotices ∷
+    Kind.ControlBoundary ∷ Kind.SignalV3 ∷ []
 
 -- a kind's place among them, which is its layout's place among the layouts
 abbrev pub place : Kind → ℕ

@@ -1,6 +1,6 @@
-// The floor of kinds: the kinds of element, one for each layout, the state of any kind, and every function that has an arm
-// for each kind. Written by catalogue/write.py from catalogue/fields.tsv, where a layout is added. It refuses nothing. The floors above
-// read what they need of a kind from its layout.
+// The floor of kinds: the kinds of element, one for each layout, the state of any kind, and every function that has an
+// arm for each kind. Written by catalogue/write.py from catalogue/fields.tsv, where a layout is added. It refuses
+// nothing. The floors above read what they need of a kind from its layout.
 use rows::Layout;
 use rows::Marks;
 use states::ChangerSignal;
@@ -68,7 +68,7 @@ pub struct Glance {
     pub listed: bool,
 }
 
-// A kind's layout: where its rows are in the table, its width, and whether it has DAT.
+// A kind's layout: which rows are its own, its width, and whether it has DAT.
 pub fn layout(kind: Kind) -> Layout
     ensures { λ r. ⌜ r ≡ layoutOf kind ⌝ }
 {
@@ -223,7 +223,8 @@ pub fn shows_listed(word: u32, kind: Kind) -> bool
     rows::carries_none(word, marks(kind))
 }
 
-// A glance at the element at a place. Each kind has its own arm, in which its width and its marks are known to the compiler.
+// A glance at the element at a place. Each kind has its own arm, in which its width and its
+// marks are known to the compiler.
 pub fn glance_at(s: &[u8], at: usize, kind: Kind) -> Glance
     requires { ⌜ at + widthOf kind ≤ length (now s) ⌝ }
     ensures { λ r. ⌜ Glanced kind (now (s .entry)) at r ⌝ }

@@ -1,5 +1,5 @@
--- Every listing fits in 65,536 bytes, and nothing printed is empty. The objects' numbers take at most 2,986 digits, the rest of
--- a line at most 61 bytes even if its label had 48, and the first line at most 44.
+-- Every listing fits in 65,536 bytes, and nothing printed is empty. The objects' numbers take at most 2,986 digits, the
+-- rest of a line at most 61 bytes even if its label had 48, and the first line at most 44.
 -- Assumes nothing.
 use Prim.Native.Nat.{ℕ, suc, _+_, _*_, _-_, _≤_, _<_}
 use native.Mathlib.Omega.{arith}
@@ -27,11 +27,13 @@ use Rattle.history.proofs.VerdictLaws.{used, held}
 use Rattle.text.specs.Decimal.{decimalIn, decimal}
 use Rattle.text.specs.Wrote.{Wrote}
 use Rattle.text.proofs.Laws.{decimal-fits}
-use Rattle.listing.specs.Listing.{Panel, readBoth, tableSize, readPanel, firstLine, objectLine, linesOf, refusedLine, panelText, textOf, listingCall, printed, listingOf}
+use Rattle.listing.specs.Listing.{Panel, readBoth, tableSize, readPanel, firstLine, objectLine, linesOf}
+use Rattle.listing.specs.Listing.{refusedLine, panelText, textOf, listingCall, printed, listingOf}
 use Rattle.listing.specs.Walk.{linesIn}
 use Rattle.listing.proofs.LineLaws.{first-length, refused-length, object-length}
 
--- ---- numbers: of n objects, the last below 1,024, each number has a digit, at most 1,014 a second, 924 a third, 24 a fourth
+-- ---- numbers: of n objects, the last below 1,024, each number has a digit, at most 1,014 a
+-- second, 924 a third, 24 a fourth
 
 -- n, but no more than c
 abbrev upTo : ℕ → ℕ → ℕ
@@ -47,7 +49,8 @@ digitsOf : ℕ → ℕ
 digitsOf n = n + (upTo 1014 n + (upTo 924 n + upTo 24 n))
 
 -- by whether the number is below each power of ten
-digits-at : (s t u : Bool) (i n : ℕ) → ltb i 10 ≡ s → ltb i 100 ≡ t → ltb i 1000 ≡ u → i + suc n ≤ 1024 → length (decimal i) + digitsOf n ≤ digitsOf (suc n)
+digits-at : (s t u : Bool) (i n : ℕ) → ltb i 10 ≡ s → ltb i 100 ≡ t → ltb i 1000 ≡ u → i + suc n ≤ 1024
+    → length (decimal i) + digitsOf n ≤ digitsOf (suc n)
 unfolding digitsOf
 digits-at true t u i n e f g h =
     let l : i < 10 = ltb-true i 10 e in
@@ -55,14 +58,32 @@ digits-at true t u i n e f g h =
 digits-at false true u i n e f g h =
     let m : 10 ≤ i = ltb-false i 10 e in
     let l : i < 100 = ltb-true i 100 f in
-    omega (arith, decimal-fits 1 i (omega arith) (omega arith), up-one 1014 n (omega arith), up-more 924 n, up-more 24 n)
+    omega (
+      arith,
+      decimal-fits 1 i (omega arith) (omega arith),
+      up-one 1014 n (omega arith),
+      up-more 924 n,
+      up-more 24 n,
+    )
 digits-at false false true i n e f g h =
     let m : 100 ≤ i = ltb-false i 100 f in
     let l : i < 1000 = ltb-true i 1000 g in
-    omega (arith, decimal-fits 2 i (omega arith) (omega arith), up-one 1014 n (omega arith), up-one 924 n (omega arith), up-more 24 n)
+    omega (
+      arith,
+      decimal-fits 2 i (omega arith) (omega arith),
+      up-one 1014 n (omega arith),
+      up-one 924 n (omega arith),
+      up-more 24 n,
+    )
 digits-at false false false i n e f g h =
     let m : 1000 ≤ i = ltb-false i 1000 g in
-    omega (arith, decimal-fits 3 i (omega arith) (omega arith), up-one 1014 n (omega arith), up-one 924 n (omega arith), up-one 24 n (omega arith))
+    omega (
+      arith,
+      decimal-fits 3 i (omega arith) (omega arith),
+      up-one 1014 n (omega arith),
+      up-one 924 n (omega arith),
+      up-one 24 n (omega arith),
+    )
 
 digits-next : (i n : ℕ) → i + suc n ≤ 1024 → length (decimal i) + digitsOf n ≤ digitsOf (suc n)
 digits-next i n h = digits-at (ltb i 10) (ltb i 100) (ltb i 1000) i n refl refl refl h
@@ -83,12 +104,20 @@ record Few (x : ℕ) (o : Object) : Type 0 where
   type : carried x (o .type) ≡ true
   label : length (o .label) ≤ 48
 
-line-few : (x i : ℕ) (o : Object) (w : ℕ) → Few x o → length (objectLine i (o .type) (o .label) (bytes (widthOf (kindOf x (o .type))) w)) ≤ length (decimal i) + 61
+line-few : (x i : ℕ) (o : Object) (w : ℕ) → Few x o
+    → length (objectLine i (o .type) (o .label) (bytes (widthOf (kindOf x (o .type))) w)) ≤ length (decimal i) + 61
 line-few x i o w h =
     let k = kindOf x (o .type) in
-    omega (arith, object-length i (o .type) (o .label) (bytes (widthOf k) w), type-few x (o .type) (h .type), length-bytes (widthOf k) w, h .label)
+    omega (
+      arith,
+      object-length i (o .type) (o .label) (bytes (widthOf k) w),
+      type-few x (o .type) (h .type),
+      length-bytes (widthOf k) w,
+      h .label,
+    )
 
-lines-few : (x i : ℕ) (os : List Object) (ws : List ℕ) → i + length os ≤ 1024 → ((j : ℕ) → j < length os → Few x (getD os j nobody))
+lines-few : (x i : ℕ) (os : List Object) (ws : List ℕ) → i + length os ≤ 1024
+    → ((j : ℕ) → j < length os → Few x (getD os j nobody))
     → length (linesOf i os (map (λ (o : Object). kindOf x (o .type)) os) ws) ≤ digitsOf (length os) + 61 * length os
 lines-few x i [] ws h l = omega arith
 lines-few x i (o ∷ os) [] h l = omega arith
@@ -96,7 +125,8 @@ lines-few x i (o ∷ os) (w ∷ ws) h l =
     let ks : List Kind = map (λ (o : Object). kindOf x (o .type)) os in
     omega (
       arith,
-      length-append (objectLine i (o .type) (o .label) (bytes (widthOf (kindOf x (o .type))) w)) (linesOf (suc i) os ks ws),
+      length-append (objectLine i (o .type) (o .label) (bytes (widthOf (kindOf x (o .type))) w))
+          (linesOf (suc i) os ks ws),
       line-few x i o w (l 0 (omega arith)),
       digits-next i (length os) (omega arith),
       lines-few x (suc i) os ws (omega arith) (λ j m. l (suc j) (omega arith)),
@@ -111,7 +141,8 @@ each-few : {t : Table} → LegalTable t → (j : ℕ) → j < length (t .objects
 unfolding labelLimit
 each-few h j m = record { type = h .each j m .type; label = omega (arith, h .each j m .few) }
 
-table-few : {t : Table} (a : Image) → LegalTable t → length (linesOf 0 (t .objects) (planOf t .kinds) (a .words)) ≤ 65450
+table-few : {t : Table} (a : Image) → LegalTable t
+    → length (linesOf 0 (t .objects) (planOf t .kinds) (a .words)) ≤ 65450
 unfolding planOf
 table-few {t} a h =
     omega (
@@ -125,7 +156,8 @@ panel-few : {t : Table} (a : Image) → LegalTable t → length (panelText t a) 
 panel-few {t} a h =
     omega (
       arith,
-      length-append (firstLine (t .x) (t .y) (a .position) (length (t .objects))) (linesOf 0 (t .objects) (planOf t .kinds) (a .words)),
+      length-append (firstLine (t .x) (t .y) (a .position) (length (t .objects)))
+          (linesOf 0 (t .objects) (planOf t .kinds) (a .words)),
       first-length (t .x) (t .y) (a .position) (length (t .objects)),
       table-few a h,
     )
@@ -138,7 +170,8 @@ both-legal b a {p} e =
     let same : record { table = t .0; image = i .0 } ≡ p = cc (i .2) in
     rw (ap (λ (v : Panel). v .table) same) at (table-is b (t .1) .legal)
 
-text-few : (v : Verdict Panel) → ((p : Panel) → v ≡ done p → LegalTable (p .table)) → length (printed (textOf v)) ≤ 65536
+text-few : (v : Verdict Panel) → ((p : Panel) → v ≡ done p → LegalTable (p .table))
+    → length (printed (textOf v)) ≤ 65536
 unfolding printed
 text-few (refused r) h = omega (arith, refused-length (r .code) (r .object) (r .bit))
 text-few (done p) h = omega (arith, panel-few (p .image) (h p refl))
@@ -149,7 +182,8 @@ below-few (refused r) h = omega arith
 below-few (done p) h = table-few (p .image) (h p refl)
 
 -- once the first line is written: the room for the lines below, and where they end
-module _ (b a : List ℕ) (x y position count : ℕ) {l m : List ℕ} {p : ℕ} (w : Wrote l 0 (firstLine x y position count) m p) where
+module _ (b a : List ℕ) (x y position count : ℕ) {l m : List ℕ} {p : ℕ}
+    (w : Wrote l 0 (firstLine x y position count) m p) where
   pub lines-room : 65536 ≤ length l → p + length (linesIn (readBoth b a)) ≤ length m
   lines-room h =
       let first : List ℕ = firstLine x y position count in
@@ -163,7 +197,14 @@ module _ (b a : List ℕ) (x y position count : ℕ) {l m : List ℕ} {p : ℕ} 
 
   module _ {n : List ℕ} {q : ℕ} (v : Wrote m p (linesIn (readBoth b a)) n q) where
     pub lines-end : q ≤ 65536
-    lines-end = omega (arith, w .next, v .next, first-length x y position count, below-few (readBoth b a) (λ p e. both-legal b a e))
+    lines-end =
+        omega (
+          arith,
+          w .next,
+          v .next,
+          first-length x y position count,
+          below-few (readBoth b a) (λ p e. both-legal b a e),
+        )
 
     pub lines-cast : Fits w32 q
     lines-cast = record { fits = omega (arith, lines-end) }

@@ -15,7 +15,8 @@ use Rattle.history.specs.Verdict.{Verdict, refused, done, refusal, told, settle
 use Rattle.history.proofs.OutputLaws.{succeeds, refusal-told, refusal-stays}
 use Rattle.history.proofs.CodeLaws.{zero-succeeds}
 use Rattle.text.specs.Wrote.{Wrote}
-use Rattle.listing.specs.Listing.{readBoth, tableSize, readPanel, refusedLine, textOf, listingCall, printed, listingOf}
+use Rattle.listing.specs.Listing.{readBoth, tableSize, readPanel, refusedLine, textOf, listingCall, printed}
+use Rattle.listing.specs.Listing.{listingOf}
 use Rattle.listing.specs.Output.{Listed, inFront, listed, ListedInto}
 use Rattle.listing.proofs.Fits.{listing-fits, text-fits}
 use Rattle.listing.proofs.Printed.{line-is}
@@ -35,34 +36,45 @@ module _ (input : List ℕ) where
       pub unsplit : length input < 4 + n → listingCall input ≡ refusal 1
       unfolding listingCall readPanel
       unsplit h =
-          let short : leb (tableSize input) (length input) ≡ false = lt-leb (tableSize input) (length input) (omega arith) in
+          let short : leb (tableSize input) (length input) ≡ false =
+          lt-leb (tableSize input) (length input) (omega arith) in
           rw (le-leb (length input) 65536 few, le-leb 4 (length input) four, short)
 
-      pub split : 4 + n ≤ length input → textOf (readBoth (take (4 + n - 0) input) (take (length input - (4 + n)) (drop (4 + n) input))) ≡ listingCall input
+      pub split : 4 + n ≤ length input
+          → textOf (readBoth (take (4 + n - 0) input) (take (length input - (4 + n)) (drop (4 + n) input)))
+          ≡ listingCall input
       unfolding listingCall readPanel
       split h =
-          let long : leb (tableSize input) (length input) ≡ true = le-leb (tableSize input) (length input) (omega arith) in
+          let long : leb (tableSize input) (length input) ≡ true =
+          le-leb (tableSize input) (length input) (omega arith) in
           let size : 4 + n - 0 ≡ tableSize input = omega arith in
           let rest : take (length input - (4 + n)) (drop (4 + n) input) ≡ drop (tableSize input) input =
-          take-all (length input - (4 + n)) (drop (4 + n) input) (omega (arith, length-drop (4 + n) input)) ∙ ap (λ (m : ℕ). drop (4 + m) input) n-is in
-          let panel : readPanel input ≡ readBoth (take (tableSize input) input) (drop (tableSize input) input) = rw (le-leb (length input) 65536 few, le-leb 4 (length input) four, long) in
+          take-all (length input - (4 + n)) (drop (4 + n) input) (omega (arith, length-drop (4 + n) input))
+          ∙ ap (λ (m : ℕ). drop (4 + m) input) n-is in
+          let panel : readPanel input ≡ readBoth (take (tableSize input) input) (drop (tableSize input) input) =
+          rw (le-leb (length input) 65536 few, le-leb 4 (length input) four, long) in
           ap₂ (λ (t a : List ℕ). textOf (readBoth t a)) (ap (λ (m : ℕ). take m input) size) rest ∙ sym (ap textOf panel)
 
 -- ---- an output that every listing fits in
 
-told-roomy : (v : Verdict (List ℕ)) (out : List ℕ) → ((text : List ℕ) → v ≡ done text → length text ≤ length out) → (settled v out .answer .code ≡ 0 → ⊥) → settled v out .answer ≡ told v
+told-roomy : (v : Verdict (List ℕ)) (out : List ℕ) → ((text : List ℕ) → v ≡ done text → length text ≤ length out)
+    → (settled v out .answer .code ≡ 0 → ⊥) → settled v out .answer ≡ told v
 unfolding told
 told-roomy (refused r) out fits n = refusal-told r out refl .0
-told-roomy (done text) out fits n = absurd (n (ap (λ (a : Answer). a .code) (succeeds out refl (fits text refl) .answer)))
+told-roomy (done text) out fits n =
+    absurd (n (ap (λ (a : Answer). a .code) (succeeds out refl (fits text refl) .answer)))
 
 -- there a refusal comes from the input, never from a short output
-pub refusal-is : (input out : List ℕ) → 65536 ≤ length out → {r : Answer} → r ≡ settled (listingCall input) out .answer → (r .code ≡ 0 → ⊥) → r ≡ told (listingCall input)
+pub refusal-is : (input out : List ℕ) → 65536 ≤ length out → {r : Answer} → r ≡ settled (listingCall input) out .answer
+    → (r .code ≡ 0 → ⊥) → r ≡ told (listingCall input)
 refusal-is input out room e n =
-    let fits : (text : List ℕ) → listingCall input ≡ done text → length text ≤ length out = λ text q. omega (arith, text-fits input q) in
+    let fits : (text : List ℕ) → listingCall input ≡ done text → length text ≤ length out =
+    λ text q. omega (arith, text-fits input q) in
     e ∙ told-roomy (listingCall input) out fits (λ z. n (ap (λ (a : Answer). a .code) e ∙ z))
 
 -- what success leaves in the output
-settled-front : {v : Verdict (List ℕ)} {text : List ℕ} (out : List ℕ) → v ≡ done text → length text ≤ length out → settled v out .output ≡ text ++ drop (length text) out
+settled-front : {v : Verdict (List ℕ)} {text : List ℕ} (out : List ℕ) → v ≡ done text → length text ≤ length out
+    → settled v out .output ≡ text ++ drop (length text) out
 unfolding settled
 settled-front {text = text} out e h = rw (e, le-leb (length text) (length out) h)
 
@@ -72,14 +84,22 @@ record Front (input out : List ℕ) (r : Answer) (m : List ℕ) : Type 0 where
   size : r .length ≡ length text
   output : m ≡ text ++ drop (r .length) out
 
-front : (input out : List ℕ) {r : Answer} {m : List ℕ} → r ≡ settled (listingCall input) out .answer → m ≡ settled (listingCall input) out .output → r .code ≡ 0 → Front input out r m
+front : (input out : List ℕ) {r : Answer} {m : List ℕ} → r ≡ settled (listingCall input) out .answer
+    → m ≡ settled (listingCall input) out .output → r .code ≡ 0 → Front input out r m
 front input out {r} e f z =
-    let q = zero-succeeds (listingCall input) out (listing-call-coded input) (ap (λ (a : Answer). a .code) (sym e) ∙ z) in
+    let q =
+    zero-succeeds (listingCall input) out (listing-call-coded input) (ap (λ (a : Answer). a .code) (sym e) ∙ z) in
     let size : r .length ≡ length (q .0) = ap (λ (a : Answer). a .length) (e ∙ succeeds out (q .1) (q .2) .answer) in
-    record { text = q .0; is = q .1; size = size; output = f ∙ settled-front out (q .1) (q .2) ∙ ap (λ (n : ℕ). q .0 ++ drop n out) (sym size) }
+    record {
+      text = q .0;
+      is = q .1;
+      size = size;
+      output = f ∙ settled-front out (q .1) (q .2) ∙ ap (λ (n : ℕ). q .0 ++ drop n out) (sym size);
+    }
 
 -- after success: the text in the buffer
-module _ (input buffer : List ℕ) {r : Answer} {m : List ℕ} (left : Leaves (listingCall input) buffer r m) (z : r .code ≡ 0) where
+module _ (input buffer : List ℕ) {r : Answer} {m : List ℕ} (left : Leaves (listingCall input) buffer r m)
+    (z : r .code ≡ 0) where
   pub text-is : done (take (r .length - 0) m) ≡ listingCall input
   text-is =
       let w = front input buffer (left .0) (left .1) z in
@@ -90,7 +110,10 @@ module _ (input buffer : List ℕ) {r : Answer} {m : List ℕ} (left : Leaves (l
   text-small = text-fits input (sym text-is)
 
   pub text-inside : r .length ≤ length m
-  text-inside = let w = front input buffer (left .0) (left .1) z in omega (arith, w .size, ap length (w .output), length-append (w .text) (drop (r .length) buffer))
+  text-inside =
+      let w =
+      front input buffer (left .0) (left .1) z in
+      omega (arith, w .size, ap length (w .output), length-append (w .text) (drop (r .length) buffer))
 
 -- the buffer of zeros is long enough
 pub zeros-room : 65536 ≤ length {A = ℕ} (replicate 65536 0)
@@ -108,8 +131,13 @@ listed-room input out h = rw (le-leb 65536 (length out) h)
 
 -- if there is room, the text is in front and the rest is as it was
 pub text-in-front : (input out : List ℕ) → 65536 ≤ length out
-    → (take (listed input out .size) (listed input out .output) ≡ listingOf input) × (drop (listed input out .size) (listed input out .output) ≡ drop (listed input out .size) out)
-text-in-front input out h = rw (listed-room input out h) (take-append-seam (listingOf input) (drop (length (listingOf input)) out), drop-append-seam (listingOf input) (drop (length (listingOf input)) out))
+    → (take (listed input out .size) (listed input out .output) ≡ listingOf input)
+    × (drop (listed input out .size) (listed input out .output) ≡ drop (listed input out .size) out)
+text-in-front input out h =
+    rw (listed-room input out h) (
+      take-append-seam (listingOf input) (drop (length (listingOf input)) out),
+      drop-append-seam (listingOf input) (drop (length (listingOf input)) out),
+    )
 
 pub stays : (input out : List ℕ) → length out < 65536 → ListedInto input out out 0
 stays input out h =
@@ -127,7 +155,8 @@ module _ {input out₀ out : List ℕ} {r : ℕ} (h : 65536 ≤ length out₀) w
         inside = omega (arith, ap length output, length-append (listingOf input) (drop r out₀));
       }
 
-module _ (input out₀ : List ℕ) {m : List ℕ} (room : 65536 ≤ length out₀) {a : Answer} (a-is : a ≡ settled (listingCall input) out₀ .answer) (m-is : m ≡ settled (listingCall input) out₀ .output) where
+module _ (input out₀ : List ℕ) {m : List ℕ} (room : 65536 ≤ length out₀) {a : Answer}
+    (a-is : a ≡ settled (listingCall input) out₀ .answer) (m-is : m ≡ settled (listingCall input) out₀ .output) where
   pub text-printed : a .code ≡ 0 → ListedInto input out₀ m (a .length)
   unfolding listingOf printed
   text-printed z =
@@ -136,15 +165,21 @@ module _ (input out₀ : List ℕ) {m : List ℕ} (room : 65536 ≤ length out�
       in-front room (w .size ∙ ap length text) (w .output ∙ ap (λ (b : List ℕ). b ++ drop (a .length) out₀) text)
 
   -- a refusal has left the output as it was, and its line is written
-  pub line-printed : (a .code ≡ 0 → ⊥) → {n : List ℕ} {q : ℕ} → Wrote m 0 (refusedLine (a .code) (a .object) (a .bit)) n q → ListedInto input out₀ n q
+  pub line-printed : (a .code ≡ 0 → ⊥) → {n : List ℕ} {q : ℕ}
+      → Wrote m 0 (refusedLine (a .code) (a .object) (a .bit)) n q → ListedInto input out₀ n q
   unfolding listingOf
   line-printed bad {n} {q} w =
       let line : List ℕ = refusedLine (a .code) (a .object) (a .bit) in
       let told-is = refusal-is input out₀ room a-is bad in
       let code-is : told (listingCall input) .code ≡ 0 → ⊥ = λ z. bad (ap (λ (a : Answer). a .code) told-is ∙ z) in
-      let text : listingOf input ≡ line = line-is (listingCall input) code-is ∙ ap (λ (a : Answer). refusedLine (a .code) (a .object) (a .bit)) (sym told-is) in
-      let same : m ≡ out₀ = m-is ∙ refusal-stays (listingCall input) out₀ (λ z. bad (ap (λ (a : Answer). a .code) a-is ∙ z)) in
+      let text : listingOf input ≡ line =
+      line-is (listingCall input) code-is
+      ∙ ap (λ (a : Answer). refusedLine (a .code) (a .object) (a .bit)) (sym told-is) in
+      let same : m ≡ out₀ =
+      m-is ∙ refusal-stays (listingCall input) out₀ (λ z. bad (ap (λ (a : Answer). a .code) a-is ∙ z)) in
       let zero : 0 + length line ≡ length line = omega arith in
       let fits : 0 + length line ≤ length m = omega (arith, listing-fits input, ap length text, ap length same) in
-      let output : n ≡ line ++ drop q m = w .text ∙ sets-eq line m 0 fits ∙ ap (λ (k : ℕ). line ++ drop k m) (sym (w .next)) in
-      in-front room (w .next ∙ zero ∙ ap length (sym text)) (output ∙ ap₂ (λ (b o : List ℕ). b ++ drop q o) (sym text) same)
+      let output : n ≡ line ++ drop q m =
+      w .text ∙ sets-eq line m 0 fits ∙ ap (λ (k : ℕ). line ++ drop k m) (sym (w .next)) in
+      in-front room (w .next ∙ zero ∙ ap length (sym text))
+      (output ∙ ap₂ (λ (b o : List ℕ). b ++ drop q o) (sym text) same)

@@ -17,7 +17,8 @@ use Rattle.listing.specs.Walk.{Numbered, lineSize}
 
 -- ---- a number's digits: ten at most
 
-ten-at : (b : Bool) (k n : ℕ) (r : List ℕ) → length r ≤ k → length (cond b ((48 + n) ∷ []) (r ++ ((48 + n % 10) ∷ []))) ≤ suc k
+ten-at : (b : Bool) (k n : ℕ) (r : List ℕ) → length r ≤ k
+    → length (cond b ((48 + n) ∷ []) (r ++ ((48 + n % 10) ∷ []))) ≤ suc k
 ten-at true k n r h = omega arith
 ten-at false k n r h = omega (arith, length-append r ((48 + n % 10) ∷ []))
 
@@ -35,14 +36,18 @@ room n at size h = omega (arith, ten n)
 
 -- ---- a number and the byte after it, and the next
 
-pub numbered : {l : List ℕ} {at : ℕ} (n mark : ℕ) {m₁ m : List ℕ} {p r : ℕ} → Wrote l at (decimal n) m₁ p → Wrote m₁ p (mark ∷ []) m r → Numbered l at n mark m r
-numbered n mark w v = record { written = then w v; place = omega (arith, w .next, v .next); few = omega (arith, w .next, v .next, ten n) }
+pub numbered : {l : List ℕ} {at : ℕ} (n mark : ℕ) {m₁ m : List ℕ} {p r : ℕ} → Wrote l at (decimal n) m₁ p
+    → Wrote m₁ p (mark ∷ []) m r → Numbered l at n mark m r
+numbered n mark w v =
+    record { written = then w v; place = omega (arith, w .next, v .next); few = omega (arith, w .next, v .next, ten n) }
 
-next : {l : List ℕ} {at n mark : ℕ} {m : List ℕ} {p : ℕ} → Numbered l at n mark m p → {ys k : List ℕ} {r : ℕ} → Wrote m p ys k r → Wrote l at (decimal n ++ (mark ∷ ys)) k r
+next : {l : List ℕ} {at n mark : ℕ} {m : List ℕ} {p : ℕ} → Numbered l at n mark m p → {ys k : List ℕ} {r : ℕ}
+    → Wrote m p ys k r → Wrote l at (decimal n ++ (mark ∷ ys)) k r
 next {n = n} {mark = mark} w {ys} v = rw (append-snoc (decimal n) mark ys) at (then (w .written) v)
 
 -- where an element in hex ends
-pub after-hexes : (element : List ℕ) {l : List ℕ} {at : ℕ} {m : List ℕ} {r : ℕ} → Wrote l at (hexes element) m r → r ≡ at + 2 * length element
+pub after-hexes : (element : List ℕ) {l : List ℕ} {at : ℕ} {m : List ℕ} {r : ℕ} → Wrote l at (hexes element) m r
+    → r ≡ at + 2 * length element
 after-hexes element w = omega (arith, w .next, hexes-length element)
 
 -- ---- the three lines
@@ -54,7 +59,8 @@ pub first-line : {x y position count : ℕ} {l m₁ m₂ m₃ n : List ℕ} {p�
 unfolding firstLine
 first-line w₁ w₂ w₃ w₄ = next w₁ (next w₂ (next w₃ (w₄ .written)))
 
-pub object-line : {i type : ℕ} {label : List ℕ} (element : List ℕ) {l : List ℕ} {at : ℕ} {m₁ m₂ m₃ m₄ m₅ n : List ℕ} {p₁ p₂ p₃ p₄ p₅ r : ℕ}
+pub object-line : {i type : ℕ} {label : List ℕ} (element : List ℕ) {l : List ℕ} {at : ℕ} {m₁ m₂ m₃ m₄ m₅ n : List ℕ}
+    {p₁ p₂ p₃ p₄ p₅ r : ℕ}
     → Numbered l at i 32 m₁ p₁ → Numbered m₁ p₁ type 32 m₂ p₂ → Wrote m₂ p₂ label m₃ p₃ → Wrote m₃ p₃ (32 ∷ []) m₄ p₄
     → Wrote m₄ p₄ (hexes element) m₅ p₅ → Wrote m₅ p₅ (10 ∷ []) n r
     → Wrote l at (objectLine i type label element) n r
@@ -78,6 +84,7 @@ pub refused-length : (code object bit : ℕ) → length (refusedLine code object
 unfolding refusedLine
 refused-length code object bit = simp length-append (omega (arith, ten code, ten object, ten bit))
 
-pub object-length : (i type : ℕ) (label element : List ℕ) → length (objectLine i type label element) ≡ lineSize i type label element
+pub object-length : (i type : ℕ) (label element : List ℕ)
+    → length (objectLine i type label element) ≡ lineSize i type label element
 unfolding objectLine
 object-length i type label element = simp (length-append, hexes-length) (omega arith)

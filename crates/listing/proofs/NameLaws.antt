@@ -1,5 +1,5 @@
--- What a refusal of a listing names: what the image's check names, under the table that the input begins with; nothing if the input can't
--- be split.
+-- What a refusal of a listing names: what the image's check names, under the table that the input begins with; nothing
+-- if the input can't be split.
 -- Assumes nothing.
 use Prim.Native.Nat.{ℕ}
 use mathlib.Core.Path.{refl, ap, _∙_}
@@ -7,13 +7,18 @@ use mathlib.Core.List.{List}
 use lib.Dec.{leb}
 use lib.ListN.{length, take, drop}
 use Rattle.history.specs.Verdict.{Verdict, done, then}
-use Rattle.history.proofs.NameLaws.{nothing, NoNumber, Named, accepts, refuses, named-unless, named-then, NamesIn, image-call-named}
+use Rattle.history.proofs.NameLaws.{nothing, NoNumber, Named, accepts, refuses, named-unless, named-then, NamesIn}
+use Rattle.history.proofs.NameLaws.{image-call-named}
 use Rattle.history.proofs.CodeLaws.{Coded, coded}
 use Rattle.listing.specs.Listing.{Panel, readBoth, tableSize, readPanel, listingCall}
 use Rattle.listing.proofs.PanelLaws.{image-in}
 
 both-named : (t a : List ℕ) → Named (NamesIn t NoNumber) (readBoth t a)
-both-named t a = record { names = λ e. image-call-named t a .names (image-in t a ∙ ap (λ (v : Verdict Panel). then v (λ p. done (p .image))) e) }
+both-named t a =
+    record {
+      names = λ e. image-call-named t a .names
+          (image-in t a ∙ ap (λ (v : Verdict Panel). then v (λ p. done (p .image))) e);
+    }
 
 module _ (input : List ℕ) where
   pub listing-call-named : Named (NamesIn (take (tableSize input) input) NoNumber) (listingCall input)

@@ -1,4 +1,5 @@
--- Two outcomes of one listing are equal: the answer and the output at the end; of what is printed, the length and the output.
+-- Two outcomes of one listing are equal: the answer and the output at the end;
+-- of what is printed, the length and the output.
 -- Assumes nothing.
 use Prim.Native.Nat.{ℕ}
 use mathlib.Core.Path.{_≡_}
@@ -10,7 +11,8 @@ use Rattle.listing.specs.Listing.{listingCall}
 use Rattle.listing.specs.Output.{ListedInto}
 
 module _ (input out : List ℕ) {m m′ : List ℕ} where
-  pub one-listing : {r r′ : Answer} → Leaves (listingCall input) out r m → Leaves (listingCall input) out r′ m′ → (r ≡ r′) × (m ≡ m′)
+  pub one-listing : {r r′ : Answer} → Leaves (listingCall input) out r m → Leaves (listingCall input) out r′ m′
+      → (r ≡ r′) × (m ≡ m′)
   one-listing = one-pair
 
   pub one-print : {r r′ : ℕ} → ListedInto input out m r → ListedInto input out m′ r′ → (r ≡ r′) × (m ≡ m′)

@@ -1,4 +1,5 @@
--- What an accepted table and image are read as, where the parts are in their bytes, and the answer if either is refused.
+-- What an accepted table and image are read as, where the parts are in their bytes, and the
+-- answer if either is refused.
 -- Assumes nothing.
 use Prim.Native.Nat.{ℕ, _+_, _-_, _≤_, _<_}
 use native.Mathlib.Omega.{arith}
@@ -39,11 +40,14 @@ use Rattle.listing.proofs.Fits.{lines-end}
 -- ---- what is refused
 
 panel-image : (v : Verdict Table) (f : Plan → Verdict Image)
-    → then (then v (λ t. done (planOf t))) f ≡ then {A = Panel} (then v (λ t. then (f (planOf t)) λ a. done (record { table = t; image = a }))) (λ p. done (p .image))
+    → then (then v (λ t. done (planOf t))) f
+    ≡ then {A = Panel} (then v (λ t. then (f (planOf t)) λ a. done (record { table = t; image = a })))
+    (λ p. done (p .image))
 panel-image (refused r) f = refl
 panel-image (done t) f = at (f (planOf t))
   where
-    at : (w : Verdict Image) → w ≡ then {A = Panel} (then w (λ a. done (record { table = t; image = a }))) (λ p. done (p .image))
+    at : (w : Verdict Image)
+        → w ≡ then {A = Panel} (then w (λ a. done (record { table = t; image = a }))) (λ p. done (p .image))
     at (refused r) = refl
     at (done a) = refl
 
@@ -54,9 +58,12 @@ image-in t a = panel-image (readTable t) (λ p. readImage p a)
 
 -- so a listing of both is refused as the image's check refuses
 pub both-told : (t a : List ℕ) → told (imageCall t a) ≡ told (textOf (readBoth t a))
-both-told t a = ap told (image-in t a) ∙ told-then (readBoth t a) (λ (p : Panel). p .image) ∙ sym (told-then (readBoth t a) (λ (p : Panel). panelText (p .table) (p .image)))
+both-told t a =
+    ap told (image-in t a) ∙ told-then (readBoth t a) (λ (p : Panel). p .image)
+    ∙ sym (told-then (readBoth t a) (λ (p : Panel). panelText (p .table) (p .image)))
 
-pub table-told : {b : List ℕ} {r : Outline} → Outlined b r → (r .answer .code ≡ 0 → ⊥) → (a : List ℕ) → r .answer ≡ told (textOf (readBoth b a))
+pub table-told : {b : List ℕ} {r : Outline} → Outlined b r → (r .answer .code ≡ 0 → ⊥) → (a : List ℕ)
+    → r .answer ≡ told (textOf (readBoth b a))
 table-told {b} o n a = table-refused o n (image-starts b a) ∙ both-told b a
 
 -- ---- an accepted table and image
@@ -99,7 +106,8 @@ module _ (t : Table) where
   unfolding tableBytes formBytes bytes
   table-y = refl
 
-both-read : (b a : List ℕ) {t : Table} {p : Plan} {i : Image} → readTable b ≡ done t → planOf t ≡ p → readImage p a ≡ done i
+both-read : (b a : List ℕ) {t : Table} {p : Plan} {i : Image} → readTable b ≡ done t → planOf t ≡ p
+    → readImage p a ≡ done i
     → readBoth b a ≡ done (record { table = t; image = i })
 unfolding readBoth
 both-read b a e f g = rw (e, f, g)
@@ -148,21 +156,27 @@ module _ {b : List ℕ} {r : Outline} (o : Outlined b r) (z : r .answer .code �
 
   module _ (a : List ℕ) {c : Answer} (f : c ≡ told (readImage (planAs (r .x) (r .y) numbers) a)) where
     pub image-told : c ≡ told (textOf (readBoth b a))
-    image-told = let e : r .count - 0 ≡ r .count = omega arith in f ∙ ap told (image-under b a o z (ap (λ (n : ℕ). take n (r .kinds)) e)) ∙ both-told b a
+    image-told =
+        let e : r .count - 0 ≡ r .count =
+        omega arith in f ∙ ap told (image-under b a o z (ap (λ (n : ℕ). take n (r .kinds)) e)) ∙ both-told b a
 
     pub ready : c .code ≡ 0 → Ready b a numbers
     ready e = record { x = r .x; y = r .y; plan = plan-known; image = ap (λ (c : Answer). c .code) (sym f) ∙ e }
 
 -- ---- its text
 
-text-in : {b a ns : List ℕ} (r : Read b a ns) → textOf (readBoth b a) ≡ done (firstLine (getD b 5 0) (getD b 6 0) (positionIn a) (length ns) ++ linesIn (readBoth b a))
+text-in : {b a ns : List ℕ} (r : Read b a ns)
+    → textOf (readBoth b a)
+    ≡ done (firstLine (getD b 5 0) (getD b 6 0) (positionIn a) (length ns) ++ linesIn (readBoth b a))
 unfolding linesIn
 text-in {b} {a} {ns} r =
     ap textOf (r .reads)
-    ∙ (λ j. done (firstLine (sym (r .x) j) (sym (r .y) j) (sym (r .position) j) (r .count j) ++ linesIn (sym (r .reads) j)))
+    ∙ (λ j. done
+    (firstLine (sym (r .x) j) (sym (r .y) j) (sym (r .position) j) (r .count j) ++ linesIn (sym (r .reads) j)))
 
 -- a text that is written from the front on and fits
-wrote-leaves : {v : Verdict (List ℕ)} {text l m : List ℕ} {q : ℕ} → v ≡ done text → Wrote l 0 text m q → q ≤ length l → {r : Answer} → r ≡ unnamed 0 q → Leaves v l r m
+wrote-leaves : {v : Verdict (List ℕ)} {text l m : List ℕ} {q : ℕ} → v ≡ done text → Wrote l 0 text m q → q ≤ length l
+    → {r : Answer} → r ≡ unnamed 0 q → Leaves v l r m
 wrote-leaves {text = text} {l} e w h q =
     let zero : 0 + length text ≡ length text = omega arith in
     let long : length text ≡ _ = sym (w .next ∙ zero) in
@@ -170,13 +184,19 @@ wrote-leaves {text = text} {l} e w h q =
     leaves-as l (sym e) (written-leaves text l long h q here)
 
 -- the first line and those below it are all that is written
-module _ {b a ns : List ℕ} (ready : Ready b a ns) (hb : Held b) (ha : Held a) {position : ℕ} (e : position ≡ positionIn a) {l m n : List ℕ} {p q : ℕ}
-    (w : Wrote l 0 (firstLine (getD b 5 0) (getD b 6 0) position (length ns)) m p) (v : Wrote m p (linesIn (readBoth b a)) n q) (h : 65536 ≤ length l)
+module _ {b a ns : List ℕ} (ready : Ready b a ns) (hb : Held b) (ha : Held a) {position : ℕ}
+    (e : position ≡ positionIn a) {l m n : List ℕ} {p q : ℕ}
+    (w : Wrote l 0 (firstLine (getD b 5 0) (getD b 6 0) position (length ns)) m p)
+    (v : Wrote m p (linesIn (readBoth b a)) n q) (h : 65536 ≤ length l)
     {r : Answer} (r-is : r ≡ unnamed 0 q) where
   lines-leave : Leaves (textOf (readBoth b a)) l r n
   lines-leave =
-      let text = text-in (read-as ready hb ha) ∙ ap (λ (k : ℕ). done (firstLine (getD b 5 0) (getD b 6 0) k (length ns) ++ linesIn (readBoth b a))) (sym e) in
-      wrote-leaves text (text-then w v) (omega (arith, lines-end b a (getD b 5 0) (getD b 6 0) position (length ns) w v)) r-is
+      let text =
+      text-in (read-as ready hb ha)
+      ∙ ap (λ (k : ℕ). done
+      (firstLine (getD b 5 0) (getD b 6 0) k (length ns) ++ linesIn (readBoth b a))) (sym e) in
+      wrote-leaves text (text-then w v)
+      (omega (arith, lines-end b a (getD b 5 0) (getD b 6 0) position (length ns) w v)) r-is
 
   pub lines-answer : r ≡ settled (textOf (readBoth b a)) l .answer
   lines-answer = lines-leave .0

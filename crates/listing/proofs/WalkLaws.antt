@@ -1,4 +1,5 @@
--- The walk over an accepted table and image, a turn at a time: the whole text is what is written, followed by the lines of the objects left.
+-- The walk over an accepted table and image, a turn at a time:
+-- the whole text is what is written, followed by the lines of the objects left.
 -- Assumes nothing.
 use Prim.Native.Nat.{ℕ, suc, _+_, _-_, _*_, _≤_, _<_}
 use native.Mathlib.Omega.{arith}
@@ -38,23 +39,41 @@ pub record Next (b a : List ℕ) (k : Kind) (ks : List Kind) (i entry place : �
   pub words : List ℕ
   pub entry-inside : entry + 2 + getD b (entry + 1) 0 ≤ length b
   pub element-inside : place + widthOf k ≤ length a
-  pub first : lines ≡ objectLine i (getD b entry 0) (take (getD b (entry + 1) 0) (drop (entry + 2) b)) (take (widthOf k) (drop place a)) ++ linesOf (suc i) objects ks words
+  pub first : lines
+      ≡ objectLine i (getD b entry 0) (take (getD b (entry + 1) 0) (drop (entry + 2) b))
+      (take (widthOf k) (drop place a))
+      ++ linesOf (suc i) objects ks words
   pub rest : Ahead b a ks objects words (entry + 2 + getD b (entry + 1) 0) (place + widthOf k)
 
 module _ (b a : List ℕ) (entry place : ℕ) {k : Kind} {ks : List Kind} (i : ℕ) where
-  next-of : (os : List Object) {ws : List ℕ} → drop entry b ≡ objectsBytes os → drop place a ≡ wordsBytes (k ∷ ks) ws → Every admits (k ∷ ks) ws → length os ≡ length (k ∷ ks) → place ≤ length a
+  next-of : (os : List Object) {ws : List ℕ} → drop entry b ≡ objectsBytes os → drop place a ≡ wordsBytes (k ∷ ks) ws
+      → Every admits (k ∷ ks) ws → length os ≡ length (k ∷ ks) → place ≤ length a
       → Next b a k ks i entry place (linesOf i os (k ∷ ks) ws)
   next-of [] e f h c l = absurd (omega arith)
   next-of (o ∷ os) e f (and {b = w} {ys = ws} p ps) c l =
       let n : ℕ = length (o .label) in
-      let type : getD b entry 0 ≡ o .type = ap (λ (m : ℕ). getD b m 0) (sym (add-zero entry)) ∙ sym (getD-drop entry b 0 0) ∙ ap (λ (c : List ℕ). getD c 0 0) e in
+      let type : getD b entry 0 ≡ o .type =
+      ap (λ (m : ℕ). getD b m 0) (sym (add-zero entry)) ∙ sym (getD-drop entry b 0 0)
+      ∙ ap (λ (c : List ℕ). getD c 0 0) e in
       let size : getD b (entry + 1) 0 ≡ n = sym (getD-drop entry b 1 0) ∙ ap (λ (c : List ℕ). getD c 1 0) e in
       let after : drop (entry + 2) b ≡ o .label ++ objectsBytes os = sym (drop-drop 2 entry b) ∙ ap (drop 2) e in
-      let label : take (getD b (entry + 1) 0) (drop (entry + 2) b) ≡ o .label = ap₂ take size after ∙ take-append-seam (o .label) (objectsBytes os) in
-      let entries : drop (entry + 2 + getD b (entry + 1) 0) b ≡ objectsBytes os = sym (drop-drop (getD b (entry + 1) 0) (entry + 2) b) ∙ ap₂ drop size after ∙ drop-append-seam (o .label) (objectsBytes os) in
-      let element : take (widthOf k) (drop place a) ≡ bytes (widthOf k) w = ap (take (widthOf k)) f ∙ take-bytes (widthOf k) w (wordsBytes ks ws) in
-      let elements : drop (place + widthOf k) a ≡ wordsBytes ks ws = sym (drop-drop (widthOf k) place a) ∙ ap (drop (widthOf k)) f ∙ drop-bytes (widthOf k) w (wordsBytes ks ws) in
-      let wide : place + widthOf k ≤ length a = omega (arith, length-drop place a, ap length f, length-append (bytes (widthOf k) w) (wordsBytes ks ws), length-bytes (widthOf k) w) in
+      let label : take (getD b (entry + 1) 0) (drop (entry + 2) b) ≡ o .label =
+      ap₂ take size after ∙ take-append-seam (o .label) (objectsBytes os) in
+      let entries : drop (entry + 2 + getD b (entry + 1) 0) b ≡ objectsBytes os =
+      sym (drop-drop (getD b (entry + 1) 0) (entry + 2) b) ∙ ap₂ drop size after
+      ∙ drop-append-seam (o .label) (objectsBytes os) in
+      let element : take (widthOf k) (drop place a) ≡ bytes (widthOf k) w =
+      ap (take (widthOf k)) f ∙ take-bytes (widthOf k) w (wordsBytes ks ws) in
+      let elements : drop (place + widthOf k) a ≡ wordsBytes ks ws =
+      sym (drop-drop (widthOf k) place a) ∙ ap (drop (widthOf k)) f ∙ drop-bytes (widthOf k) w (wordsBytes ks ws) in
+      let wide : place + widthOf k ≤ length a =
+      omega (
+        arith,
+        length-drop place a,
+        ap length f,
+        length-append (bytes (widthOf k) w) (wordsBytes ks ws),
+        length-bytes (widthOf k) w,
+      ) in
       record {
         objects = os;
         words = ws;
@@ -64,7 +83,8 @@ module _ (b a : List ℕ) (entry place : ℕ) {k : Kind} {ks : List Kind} (i : �
         rest = record { entries = entries; elements = elements; each = ps; count = omega arith; inside = wide };
       }
 
-  next : {js : List Kind} {os : List Object} {ws : List ℕ} → js ≡ k ∷ ks → Ahead b a js os ws entry place → Next b a k ks i entry place (linesOf i os js ws)
+  next : {js : List Kind} {os : List Object} {ws : List ℕ} → js ≡ k ∷ ks → Ahead b a js os ws entry place
+      → Next b a k ks i entry place (linesOf i os js ws)
   next {os = os} {ws = ws} e =
       subst⁻¹ (λ (js : List Kind). Ahead b a js os ws entry place → Next b a k ks i entry place (linesOf i os js ws)) e
       (λ h. next-of os (h .entries) (h .elements) (h .each) (h .count) (h .inside))
@@ -79,9 +99,11 @@ two-each (o ∷ os) = omega (arith, two-each os, length-append (o .label) (objec
 
 -- ---- the loop
 
-lines-in : {b a ns : List ℕ} (r : Read b a ns) → linesIn (readBoth b a) ≡ linesOf 0 (r .table .objects) (kindsOf ns) (r .image .words)
+lines-in : {b a ns : List ℕ} (r : Read b a ns)
+    → linesIn (readBoth b a) ≡ linesOf 0 (r .table .objects) (kindsOf ns) (r .image .words)
 unfolding linesIn
-lines-in r = ap linesIn (r .reads) ∙ ap (λ (ks : List Kind). linesOf 0 (r .table .objects) ks (r .image .words)) (r .kinds)
+lines-in r =
+    ap linesIn (r .reads) ∙ ap (λ (ks : List Kind). linesOf 0 (r .table .objects) ks (r .image .words)) (r .kinds)
 
 -- the lines so far are written, and the objects from i on are ahead
 pub record Walked (b a ns elements out₀ : List ℕ) (at : ℕ) (out : List ℕ) (to entry place i : ℕ) : Type 0 where
@@ -96,8 +118,10 @@ pub record Walked (b a ns elements out₀ : List ℕ) (at : ℕ) (out : List ℕ
   pub whole : linesIn (readBoth b a) ≡ written ++ linesOf i objects (drop i (kindsOf ns)) words
   pub ahead : Ahead b elements (drop i (kindsOf ns)) objects words entry place
 
-pub begin : {b a ns : List ℕ} → Ready b a ns → Held b → Held a → (elements : List ℕ) → elements ≡ elementsIn a → (entry : ℕ) → entry ≡ objectsPlace
-    → (out : List ℕ) (at : ℕ) → at + length (linesIn (readBoth b a)) ≤ length out → Walked b a ns elements out at out at entry 0 0
+pub begin : {b a ns : List ℕ} → Ready b a ns → Held b → Held a → (elements : List ℕ) → elements ≡ elementsIn a
+    → (entry : ℕ) → entry ≡ objectsPlace
+    → (out : List ℕ) (at : ℕ) → at + length (linesIn (readBoth b a)) ≤ length out
+    → Walked b a ns elements out at out at entry 0 0
 begin {b} {a} {ns} ready hb ha elements e entry f out at h =
     let r = read-as ready hb ha in
     record {
@@ -110,14 +134,25 @@ begin {b} {a} {ns} ready hb ha elements e entry f out at h =
       space = h;
       so-far = record { next = omega arith; text = refl };
       whole = lines-in r;
-      ahead = record { entries = ap (λ (n : ℕ). drop n b) f ∙ r .entries; elements = e ∙ r .elements; each = r .each; count = r .count ∙ sym (length-kinds ns); inside = omega arith };
+      ahead =
+          record {
+            entries = ap (λ (n : ℕ). drop n b) f ∙ r .entries;
+            elements = e ∙ r .elements;
+            each = r .each;
+            count = r .count ∙ sym (length-kinds ns);
+            inside = omega arith;
+          };
     }
 
-module _ {b a ns elements out₀ : List ℕ} {at : ℕ} {out : List ℕ} {to entry place i : ℕ} (l : Walked b a ns elements out₀ at out to entry place i) where
+module _ {b a ns elements out₀ : List ℕ} {at : ℕ} {out : List ℕ} {to entry place i : ℕ}
+    (l : Walked b a ns elements out₀ at out to entry place i) where
   pub ended : length ns ≤ i → Wrote out₀ at (linesIn (readBoth b a)) out to
   ended h =
-      let last : linesOf i (l .objects) (drop i (kindsOf ns)) (l .words) ≡ [] = ap (λ (ks : List Kind). linesOf i (l .objects) ks (l .words)) (kinds-end ns i h) ∙ lines-none i (l .objects) (l .words) in
-      let all : linesIn (readBoth b a) ≡ l .written = l .whole ∙ ap (λ (r : List ℕ). l .written ++ r) last ∙ append-nil (l .written) in
+      let last : linesOf i (l .objects) (drop i (kindsOf ns)) (l .words) ≡ [] =
+      ap (λ (ks : List Kind). linesOf i (l .objects) ks (l .words)) (kinds-end ns i h)
+      ∙ lines-none i (l .objects) (l .words) in
+      let all : linesIn (readBoth b a) ≡ l .written =
+      l .whole ∙ ap (λ (r : List ℕ). l .written ++ r) last ∙ append-nil (l .written) in
       rw all (l .so-far)
 
   -- an entry has at least two bytes
@@ -136,7 +171,8 @@ module _ {b a ns elements out₀ : List ℕ} {at : ℕ} {out : List ℕ} {to ent
 
   module _ (h : i < length ns) where
     -- the next object
-    here : Next b elements (kindAt (kindsOf ns) i) (drop (i + 1) (kindsOf ns)) i entry place (linesOf i (l .objects) (drop i (kindsOf ns)) (l .words))
+    here : Next b elements (kindAt (kindsOf ns) i) (drop (i + 1) (kindsOf ns)) i entry place
+        (linesOf i (l .objects) (drop i (kindsOf ns)) (l .words))
     here = next b elements entry place i (kinds-next ns i h) (l .ahead)
 
     -- in terms of what the code has: where the label ends
@@ -165,7 +201,11 @@ module _ {b a ns elements out₀ : List ℕ} {at : ℕ} {out : List ℕ} {to ent
         lines-are =
             let size : end - (entry + 2) ≡ getD b (entry + 1) 0 = omega arith in
             let wide : place + w - place ≡ widthOf (kindAt (kindsOf ns) i) = omega (arith, width-is) in
-            l .whole ∙ ap (λ (r : List ℕ). l .written ++ r) (here .first ∙ (λ j. objectLine i (getD b entry 0) (take (sym size j) (drop (entry + 2) b)) (take (sym wide j) (drop place elements)) ++ linesOf (sym (add-one i) j) (here .objects) (drop (i + 1) (kindsOf ns)) (here .words)))
+            l .whole ∙ ap (λ (r : List ℕ). l .written ++ r)
+            (here .first
+            ∙ (λ j. objectLine i (getD b entry 0) (take (sym size j) (drop (entry + 2) b))
+            (take (sym wide j) (drop place elements))
+            ++ linesOf (sym (add-one i) j) (here .objects) (drop (i + 1) (kindsOf ns)) (here .words)))
 
         pub has-room : to + lineSize i (getD b entry 0) label element ≤ length out
         has-room =
@@ -180,7 +220,8 @@ module _ {b a ns elements out₀ : List ℕ} {at : ℕ} {out : List ℕ} {to ent
               object-length i (getD b entry 0) label element,
             )
 
-        pub goes-on : {out′ : List ℕ} {to′ : ℕ} → length out′ ≡ length out → Wrote out to (objectLine i (getD b entry 0) label element) out′ to′
+        pub goes-on : {out′ : List ℕ} {to′ : ℕ} → length out′ ≡ length out
+            → Wrote out to (objectLine i (getD b entry 0) label element) out′ to′
             → Walked b a ns elements out₀ at out′ to′ end (place + w) (i + 1)
         goes-on e v = record {
           written = l .written ++ objectLine i (getD b entry 0) label element;

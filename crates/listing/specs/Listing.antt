@@ -1,7 +1,7 @@
--- "The listing program reads table then image from standard input, split by the table's length; input too short to split, or above 65,536
--- bytes, is code 1. First line: catalogue version, position, count. Then per object: number, type, label, element in upper-case hex. Numbers
--- are decimal, highest digit first, without leading zeros. One space between, one newline after each line. A refusal gives one line,
--- "refused", code, object, bit."
+-- "The listing program reads table then image from standard input, split by the table's length; input too short to
+-- split, or above 65,536 bytes, is code 1. First line: catalogue version, position, count. Then per object: number,
+-- type, label, element in upper-case hex. Numbers are decimal, highest digit first, without leading zeros. One space
+-- between, one newline after each line. A refusal gives one line, "refused", code, object, bit."
 use Prim.Native.Nat.{ℕ, suc, _+_}
 use mathlib.Core.List.{List, [], _∷_, _++_}
 use lib.Dec.{leb}
@@ -66,7 +66,8 @@ abbrev pub linesOf : ℕ → List Object → List Kind → List ℕ → List ℕ
 linesOf i [] ks ws = []
 linesOf i (o ∷ os) [] ws = []
 linesOf i (o ∷ os) (k ∷ ks) [] = []
-linesOf i (o ∷ os) (k ∷ ks) (w ∷ ws) = objectLine i (o .type) (o .label) (bytes (widthOf k) w) ++ linesOf (suc i) os ks ws
+linesOf i (o ∷ os) (k ∷ ks) (w ∷ ws) =
+    objectLine i (o .type) (o .label) (bytes (widthOf k) w) ++ linesOf (suc i) os ks ws
 
 -- "refused" in ASCII
 abbrev pub refusedWord : List ℕ
@@ -79,7 +80,8 @@ refusedLine code object bit = refusedWord ␣ decimal code ␣ decimal object �
 -- ---- the text
 
 abbrev pub panelText : Table → Image → List ℕ
-panelText t a = firstLine (t .x) (t .y) (a .position) (length (t .objects)) ++ linesOf 0 (t .objects) (planOf t .kinds) (a .words)
+panelText t a =
+    firstLine (t .x) (t .y) (a .position) (length (t .objects)) ++ linesOf 0 (t .objects) (planOf t .kinds) (a .words)
 
 -- what is read, as text
 abbrev pub textOf : Verdict Panel → Verdict (List ℕ)

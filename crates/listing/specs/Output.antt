@@ -1,5 +1,5 @@
--- What is printed, in a lent buffer. Everything printed fits in 65,536 bytes. A shorter buffer stays as it was, and the length is 0; no
--- printed text has length 0 (proofs/Fits).
+-- What is printed, in a lent buffer. Everything printed fits in 65,536 bytes. A shorter buffer stays as it was, and the
+-- length is 0; no printed text has length 0 (proofs/Fits).
 use Prim.Native.Nat.{ℕ, _≤_}
 use mathlib.Core.Path.{_≡_}
 use mathlib.Core.Bool.{cond}

@@ -1,4 +1,5 @@
--- For the contracts of the writers of lines and of the walk over an accepted table and image. The meaning is in `Listing`.
+-- For the contracts of the writers of lines and of the walk over an accepted table and image.
+-- The meaning is in `Listing`.
 use Prim.Native.Nat.{ℕ, _+_, _*_, _≤_}
 use mathlib.Core.Path.{_≡_}
 use mathlib.Core.List.{List, [], _∷_, _++_}
@@ -20,7 +21,8 @@ pub record Numbered (l : List ℕ) (at n mark : ℕ) (m : List ℕ) (r : ℕ) : 
 
 -- how long an object's line is
 abbrev pub lineSize : ℕ → ℕ → List ℕ → List ℕ → ℕ
-lineSize i type label element = (length (decimal i) + 1) + ((length (decimal type) + 1) + (length label + (1 + (2 * length element + 1))))
+lineSize i type label element =
+    (length (decimal i) + 1) + ((length (decimal type) + 1) + (length label + (1 + (2 * length element + 1))))
 
 -- the table and the image are accepted, and these are the layout numbers of the table's objects
 pub record Ready (b a ns : List ℕ) : Type 0 where

@@ -20,7 +20,8 @@ ghost use Rattle.listing.specs.Walk.{Ready, linesIn};
 // Writes the lines of both, or returns the first refusal.
 pub fn put_panel(table: &[u8], image: &[u8], out: &mut [u8]) -> Answer
     requires { ⌜ 65536 ≤ length (now out) ⌝ }
-    ensures { λ r. ⌜ Leaves (textOf (readBoth (now (table .entry)) (now (image .entry)))) (now (out .entry)) r (now (out .exit)) ⌝ }
+    ensures { λ r. ⌜ Leaves (textOf (readBoth (now (table .entry)) (now (image .entry))))
+        (now (out .entry)) r (now (out .exit)) ⌝ }
 {
     let known = outline(table);
     let answer = known.answer;
@@ -42,7 +43,8 @@ pub fn put_panel(table: &[u8], image: &[u8], out: &mut [u8]) -> Answer
 fn put_accepted(table: &[u8], image: &[u8], kinds: &[u8], out: &mut [u8]) -> Answer
     requires { ⌜ Ready (now table) (now image) (now kinds) ⌝ }
     requires { ⌜ 65536 ≤ length (now out) ⌝ }
-    ensures { λ r. ⌜ Leaves (textOf (readBoth (now (table .entry)) (now (image .entry)))) (now (out .entry)) r (now (out .exit)) ⌝ }
+    ensures { λ r. ⌜ Leaves (textOf (readBoth (now (table .entry)) (now (image .entry))))
+        (now (out .entry)) r (now (out .exit)) ⌝ }
 {
     let position = position_of(image);
     let count = kinds.len() as u32;
@@ -54,7 +56,9 @@ fn put_accepted(table: &[u8], image: &[u8], kinds: &[u8], out: &mut [u8]) -> Ans
 fn put_objects(table: &[u8], image: &[u8], kinds: &[u8], out: &mut [u8], at: usize) -> usize
     requires { ⌜ Ready (now table) (now image) (now kinds) ⌝ }
     requires { ⌜ at + length (linesIn (readBoth (now table) (now image))) ≤ length (now out) ⌝ }
-    ensures { λ r. ⌜ Wrote (now (out .entry)) at (linesIn (readBoth (now (table .entry)) (now (image .entry)))) (now (out .exit)) r ⌝ }
+    ensures { λ r.
+        ⌜ Wrote (now (out .entry)) at (linesIn (readBoth (now (table .entry)) (now (image .entry))))
+        (now (out .exit)) r ⌝ }
 {
     let elements = elements_of(image);
     let mut to = at;

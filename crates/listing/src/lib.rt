@@ -18,8 +18,8 @@ ghost use Rattle.listing.specs.Output.{ListedInto};
 // The most bytes of input that are accepted; also the bytes that every listing fits in.
 const MOST: usize = 65536;
 
-// Writes the text of a table and its image to the front of `out`. For a short `out` the text is first made in a buffer that every
-// listing fits in.
+// Writes the text of a table and its image to the front of `out`. For a short `out` the text is first made in a buffer
+// that every listing fits in.
 pub fn list_into(input: &[u8], out: &mut [u8]) -> Answer
     ensures { λ r. ⌜ Leaves (listingCall (now (input .entry))) (now (out .entry)) r (now (out .exit)) ⌝ }
 {
@@ -34,8 +34,8 @@ pub fn list_into(input: &[u8], out: &mut [u8]) -> Answer
     put_front(out, &text[0..answer.length as usize])
 }
 
-// Writes what the program prints to the front of `out`, the text or the line of its refusal, and returns its length. An `out` that not
-// every listing fits in stays as it was, and the length is 0.
+// Writes what the program prints to the front of `out`, the text or the line of its refusal, and returns its length. An
+// `out` that not every listing fits in stays as it was, and the length is 0.
 pub fn print_into(input: &[u8], out: &mut [u8]) -> usize
     ensures { λ r. ⌜ ListedInto (now (input .entry)) (now (out .entry)) (now (out .exit)) r ⌝ }
 {

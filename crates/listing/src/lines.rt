@@ -34,7 +34,9 @@ pub fn put_object_line(
     element: &[u8],
 ) -> usize
     requires { ⌜ at + lineSize number ty (now label) (now element) ≤ length (now out) ⌝ }
-    ensures { λ r. ⌜ Wrote (now (out .entry)) at (objectLine number ty (now (label .entry)) (now (element .entry))) (now (out .exit)) r ⌝ }
+    ensures { λ r.
+        ⌜ Wrote (now (out .entry)) at (objectLine number ty (now (label .entry)) (now (element .entry)))
+        (now (out .exit)) r ⌝ }
 {
     let typed = put_number(out, at, number, SPACE);
     let named = put_number(out, typed, ty as u32, SPACE);
@@ -47,7 +49,8 @@ pub fn put_object_line(
 // "refused", code, object, bit.
 pub fn put_refusal(out: &mut [u8], answer: Answer) -> usize
     requires { ⌜ 65536 ≤ length (now out) ⌝ }
-    ensures { λ r. ⌜ Wrote (now (out .entry)) 0 (refusedLine (answer .code) (answer .object) (answer .bit)) (now (out .exit)) r ⌝ }
+    ensures { λ r.
+        ⌜ Wrote (now (out .entry)) 0 (refusedLine (answer .code) (answer .object) (answer .bit)) (now (out .exit)) r ⌝ }
 {
     let code = text::put_bytes(out, 0, b"refused ");
     let object = put_number(out, code, answer.code as u32, SPACE);

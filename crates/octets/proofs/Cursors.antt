@@ -24,7 +24,8 @@ drop-set [] i a h = absurd (not-suc-le-zero h)
 drop-set (x ∷ xs) zero a h = refl
 drop-set (x ∷ xs) (suc i) a h = drop-set xs i a (le-of-suc-le-suc h)
 
--- `put` works from the last byte to the first: the i bytes of w, then what is written from the cursor i on, are the number's bytes
+-- `put` works from the last byte to the first: the i bytes of w, then what is written from the
+-- cursor i on, are the number's bytes
 record Putting (n v i w : ℕ) (part : List ℕ) : Type 0 where
   inside : i ≤ length part
   left : bytes n v ≡ bytes i w ++ drop i part
@@ -86,7 +87,8 @@ module _ (part : List ℕ) (v : ℕ) where
 
         pub put-four : 4 ≤ n → n ≤ 4 → set p₃ (n - 4) (v / 256 / 256 / 256 % 256) ≡ bytes n v
         put-four h₃ most =
-            let z₄ : Putting n v (n - 4) (v / 256 / 256 / 256 / 256) (set p₃ (n - 4) (v / 256 / 256 / 256 % 256)) = put-step (at-cursor (omega arith) z₃) in
+            let z₄ : Putting n v (n - 4) (v / 256 / 256 / 256 / 256) (set p₃ (n - 4) (v / 256 / 256 / 256 % 256)) =
+            put-step (at-cursor (omega arith) z₃) in
             put-end (at-cursor (omega arith) z₄)
 
 pub copy-turn : (part from : List ℕ) (i : ℕ) → i < length part → i < length from

@@ -3,7 +3,9 @@
 use Prim.Native.Nat.{ℕ, zero, suc, _+_, _-_, _*_, _/_, _%_, _^_, _≤_, _<_}
 use native.Mathlib.Omega.{arith}
 use native.Mathlib.Numerals.{add-one}
-use native.Mathlib.Nat.{pow-zero, pow-suc, pow-succ', mul-assoc, div-add-mod', mod-lt, mod-eq-of-lt, div-one, div-div-eq-div-mul, div-lt-iff-lt-mul, mul-add-div-right, mul-add-mod-self-right, div-eq-of-lt, add-zero, mul-le-mul-right, pow-le-pow-right}
+use native.Mathlib.Nat.{pow-zero, pow-suc, pow-succ', mul-assoc, div-add-mod', mod-lt, mod-eq-of-lt, div-one}
+use native.Mathlib.Nat.{div-div-eq-div-mul, div-lt-iff-lt-mul, mul-add-div-right, mul-add-mod-self-right, div-eq-of-lt}
+use native.Mathlib.Nat.{add-zero, mul-le-mul-right, pow-le-pow-right}
 use mathlib.Core.Path.{_≡_, refl, sym, ap, ap₂, _∙_}
 use mathlib.Core.List.{List, [], _∷_, _++_}
 use lib.ListN.{length, take, drop, getD, length-append, length-drop, take-append-drop}
@@ -33,7 +35,9 @@ pub bytes-snoc : (n x : ℕ) → bytes (suc n) x ≡ bytes n (x / 256) ++ (x % 2
 unfolding bytes
 bytes-snoc zero x = rw (pow-zero, div-one)
 bytes-snoc (suc n) x =
-    ap₂ _∷_ (ap (λ (d : ℕ). d % 256) (ap (λ (p : ℕ). x / p) (pow-succ' 256 n) ∙ sym (div-div-eq-div-mul x 256 (256 ^ n)))) (bytes-snoc n x)
+    ap₂ _∷_ (ap (λ (d : ℕ). d % 256)
+    (ap (λ (p : ℕ). x / p) (pow-succ' 256 n) ∙ sym (div-div-eq-div-mul x 256 (256 ^ n))))
+    (bytes-snoc n x)
 
 -- ---- inverse to each other
 
@@ -41,8 +45,10 @@ pub number-bytes : (n x : ℕ) → x < 256 ^ n → number (bytes n x) ≡ x
 unfolding bytes
 number-bytes zero x h = omega (arith, rw pow-zero at h)
 number-bytes (suc n) x h =
-    let less : x / 256 < 256 ^ n = div-lt-iff-lt-mul {k = 256} {x = x} {y = 256 ^ n} (omega arith) .1 (rw (pow-suc 256 n) at h) in
-    ap number (bytes-snoc n x) ∙ number-snoc (bytes n (x / 256)) (x % 256) ∙ rw (number-bytes n (x / 256) less) (div-add-mod' x 256)
+    let less : x / 256 < 256 ^ n =
+    div-lt-iff-lt-mul {k = 256} {x = x} {y = 256 ^ n} (omega arith) .1 (rw (pow-suc 256 n) at h) in
+    ap number (bytes-snoc n x) ∙ number-snoc (bytes n (x / 256)) (x % 256)
+    ∙ rw (number-bytes n (x / 256) less) (div-add-mod' x 256)
 
 number-lt : (b : List ℕ) → Bytes b → number b < 256 ^ length b
 number-lt [] h = omega arith
@@ -57,7 +63,8 @@ bytes-low (suc n) a x =
     let y : ℕ = a * 256 ^ n in
     let e : a * 256 ^ suc n + x ≡ y * 256 + x = rw (pow-suc 256 n) (omega (arith, mul-assoc a (256 ^ n) 256)) in
     ap (bytes (suc n)) e ∙ bytes-snoc n (y * 256 + x)
-    ∙ ap₂ (λ (d m : ℕ). bytes n d ++ (m ∷ [])) (mul-add-div-right {m = 256} (omega arith) y x) (mul-add-mod-self-right y 256 x)
+    ∙ ap₂ (λ (d m : ℕ). bytes n d ++ (m ∷ [])) (mul-add-div-right {m = 256} (omega arith) y x)
+    (mul-add-mod-self-right y 256 x)
     ∙ ap (λ (r : List ℕ). r ++ (x % 256 ∷ [])) (bytes-low n a (x / 256)) ∙ sym (bytes-snoc n x)
 
 big : (n : ℕ) → 0 < 256 ^ n
@@ -70,7 +77,8 @@ bytes-number [] h = refl
 bytes-number (x ∷ xs) h =
     let t : Bytes xs = λ i. h (suc i) in
     let n : ℕ = length xs in
-    let high : (x * 256 ^ n + number xs) / 256 ^ n ≡ x = mul-add-div-right (big n) x (number xs) ∙ rw (div-eq-of-lt (number-lt xs t)) (add-zero x) in
+    let high : (x * 256 ^ n + number xs) / 256 ^ n ≡ x =
+    mul-add-div-right (big n) x (number xs) ∙ rw (div-eq-of-lt (number-lt xs t)) (add-zero x) in
     ap₂ _∷_ (rw high (mod-eq-of-lt (h 0))) (bytes-low n x (number xs) ∙ bytes-number xs t)
 
 -- ---- parts of bytes
@@ -100,14 +108,22 @@ module _ (n : ℕ) (b : List ℕ) (s : n ≤ length b) (h : Bytes b) where
 
   pub cut : b ≡ bytes n (number (take n b)) ++ drop n b
   cut =
-      let e : bytes n (number (take n b)) ≡ take n b = rw (length-take-le n b s) at (bytes-number (take n b) (take-is n b h)) in
+      let e : bytes n (number (take n b)) ≡ take n b =
+      rw (length-take-le n b s) at (bytes-number (take n b) (take-is n b h)) in
       rw e (sym (take-append-drop n b))
 
 -- ---- one more byte is read
 
-pub number-next : (s : List ℕ) (at i v : ℕ) → at + i < length s → v ≡ number (take i (drop at s)) → v * 256 + getD s (at + i) 0 ≡ number (take (i + 1) (drop at s))
+pub number-next : (s : List ℕ) (at i v : ℕ) → at + i < length s → v ≡ number (take i (drop at s))
+    → v * 256 + getD s (at + i) 0 ≡ number (take (i + 1) (drop at s))
 number-next s at i v h e =
-    rw (add-one, take-suc (drop at s) i 0 (rw length-drop (omega arith)), number-snoc (take i (drop at s)), getD-drop at s i 0, e)
+    rw (
+      add-one,
+      take-suc (drop at s) i 0 (rw length-drop (omega arith)),
+      number-snoc (take i (drop at s)),
+      getD-drop at s i 0,
+      e,
+    )
 
 pub small-next : (i v x : ℕ) → v < 256 ^ i → x < 256 → v * 256 + x < 256 ^ (i + 1)
 small-next i v x h k = rw (add-one, pow-suc) (omega arith)

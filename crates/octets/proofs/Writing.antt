@@ -32,7 +32,15 @@ module _ {out₀ done : List ℕ} {o : ℕ} {out : List ℕ} (w : Written out₀
       let s : o + (e - o) ≡ e = omega arith in
       record {
         is =
-            rw (q, w .is, take-at done (drop o out₀) o (w .len), drop-at done (drop o out₀) o (w .len), drop-drop (e - o) o out₀, s, append-assoc);
+            rw (
+              q,
+              w .is,
+              take-at done (drop o out₀) o (w .len),
+              drop-at done (drop o out₀) o (w .len),
+              drop-drop (e - o) o out₀,
+              s,
+              append-assoc,
+            );
         len = length-append done zs ∙ (omega arith);
         room = h;
       }
@@ -75,7 +83,13 @@ begin whole part h = record { done = []; written = start part; split = refl; fit
 
 module _ {whole part₀ : List ℕ} {o : ℕ} {part : List ℕ} where
   pub along : {r s : List ℕ} → Filling whole part₀ r o part → r ≡ s → Filling whole part₀ s o part
-  along f e = record { done = f .done; written = f .written; split = f .split ∙ ap (λ (l : List ℕ). f .done ++ l) e; fits = f .fits }
+  along f e =
+      record {
+        done = f .done;
+        written = f .written;
+        split = f .split ∙ ap (λ (l : List ℕ). f .done ++ l) e;
+        fits = f .fits;
+      }
 
   pub keeps : {r : List ℕ} → Filling whole part₀ r o part → length part ≡ length part₀
   keeps f = same-long (f .written)
@@ -99,5 +113,6 @@ module _ {whole part₀ : List ℕ} {o : ℕ} {part : List ℕ} where
   ended f = filled (f .written) (omega (arith, has-room f)) ∙ sym (f .split ∙ append-nil (f .done))
 
 -- from the cursor on, everything is still as it was
-pub untouched : {out₀ done : List ℕ} {o : ℕ} {out : List ℕ} → Written out₀ done o out → (k : ℕ) → midOf o k out ≡ midOf o k out₀
+pub untouched : {out₀ done : List ℕ} {o : ℕ} {out : List ℕ} → Written out₀ done o out → (k : ℕ)
+    → midOf o k out ≡ midOf o k out₀
 untouched {out₀} {done} {o} w k = rw (w .is, drop-at done (drop o out₀) o (w .len))

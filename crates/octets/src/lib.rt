@@ -13,7 +13,8 @@ pub fn get(part: &[u8]) -> u32
     get_at(part, 0, part.len())
 }
 
-// The number in `width` bytes, at most four, from a place on. The four steps are spelled out, since a loop takes more instructions.
+// The number in `width` bytes, at most four, from a place on.
+// The four steps are spelled out, since a loop takes more instructions.
 pub fn get_at(s: &[u8], at: usize, width: usize) -> u32
     requires { ⌜ (at + width ≤ length (now s)) × (width ≤ 4) ⌝ }
     ensures { λ r. ⌜ (r ≡ number (take width (drop at (now (s .entry))))) × (r < 256 ^ width) ⌝ }
@@ -38,14 +39,15 @@ pub fn get_at(s: &[u8], at: usize, width: usize) -> u32
 
 // The number in i + 1 bytes, from that in the first i.
 fn get_next(s: &[u8], at: usize, i: usize, value: u32) -> u32
-    requires { ⌜ (at + i < length (now s)) × (i < 4) × (value ≡ number (take i (drop at (now s)))) × (value < 256 ^ i) ⌝ }
+    requires { ⌜ (at + i < length (now s)) × (i < 4) × (value ≡ number (take i (drop at (now s))))
+        × (value < 256 ^ i) ⌝ }
     ensures { λ r. ⌜ (r ≡ number (take (i + 1) (drop at (now (s .entry))))) × (r < 256 ^ (i + 1)) ⌝ }
 {
     value * 256 + s[at + i] as u32
 }
 
-// Fills the part, at most four bytes, with the number's lowest bytes; a number too large for it loses its highest ones. It works from
-// the last byte to the first, with the four steps spelled out as in `get_at`.
+// Fills the part, at most four bytes, with the number's lowest bytes; a number too large for it loses its highest ones.
+// It works from the last byte to the first, with the four steps spelled out as in `get_at`.
 pub fn put(part: &mut [u8], value: u32)
     requires { ⌜ length (now part) ≤ 4 ⌝ }
     ensures { λ _. ⌜ now (part .exit) ≡ bytes (length (now (part .entry))) value ⌝ }

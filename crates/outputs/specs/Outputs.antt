@@ -15,7 +15,8 @@ use Rattle.walks.specs.Walks.{walked, renewal}
 
 -- the list of a walk's changes
 unfoldable pub walkList : Walk → ℕ → ℕ → List ℕ → ℕ → ℕ → List ℕ → List ℕ → List ℕ
-walkList walk x y ns from to f s = listBytes (planAs x y ns) (record { from = from; to = to; each = walked walk 0 (kindsOf ns) f s })
+walkList walk x y ns from to f s =
+    listBytes (planAs x y ns) (record { from = from; to = to; each = walked walk 0 (kindsOf ns) f s })
 
 -- the image b after the entries e, at the position to
 unfoldable pub imageAfter : List Kind → ℕ → List ℕ → List ℕ → List ℕ

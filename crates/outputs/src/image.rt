@@ -1,5 +1,5 @@
-// An image changed in place: a list's entries are taken into it, or one element is put; then its position is set. An image for
-// an output is first copied to its front, and the copy is changed.
+// An image changed in place: a list's entries are taken into it, or one element is put; then its position is set. An
+// image for an output is first copied to its front, and the copy is changed.
 use forms::kind_at;
 use forms::place_of;
 use history::Answer;
@@ -19,7 +19,9 @@ ghost use Rattle.outputs.specs.Outputs.{imageAfter, imageWith};
 pub fn write_image(kinds: &[u8], image: &[u8], to: u32, entries: &[u8], out: &mut [u8]) -> Answer
     requires { ⌜ length (now kinds) ≤ 1024 ⌝ }
     requires { ⌜ length (now image) ≡ imageHead (now image) + widths (kindsOf (now kinds)) ⌝ }
-    ensures { λ r. ⌜ Leaves (done (imageAfter (kindsOf (now (kinds .entry))) to (now (entries .entry)) (now (image .entry)))) (now (out .entry)) r (now (out .exit)) ⌝ }
+    ensures { λ r.
+        ⌜ Leaves (done (imageAfter (kindsOf (now (kinds .entry))) to (now (entries .entry)) (now (image .entry))))
+        (now (out .entry)) r (now (out .exit)) ⌝ }
 {
     let size = image.len();
     if out.len() < size {
@@ -41,7 +43,8 @@ pub fn write_element(
 ) -> Answer
     requires { ⌜ (object < length (now kinds)) × (length (now kinds) ≤ 1024) ⌝ }
     requires { ⌜ length (now image) ≡ imageHead (now image) + widths (kindsOf (now kinds)) ⌝ }
-    ensures { λ r. ⌜ Leaves (done (imageWith (kindsOf (now (kinds .entry))) to object word (now (image .entry)))) (now (out .entry)) r (now (out .exit)) ⌝ }
+    ensures { λ r. ⌜ Leaves (done (imageWith (kindsOf (now (kinds .entry))) to object word (now (image .entry))))
+        (now (out .entry)) r (now (out .exit)) ⌝ }
 {
     let size = image.len();
     if out.len() < size {
@@ -56,7 +59,9 @@ pub fn write_element(
 pub fn take_entries(image: &mut [u8], kinds: &[u8], to: u32, entries: &[u8])
     requires { ⌜ length (now kinds) ≤ 1024 ⌝ }
     requires { ⌜ length (now image) ≡ imageHead (now image) + widths (kindsOf (now kinds)) ⌝ }
-    ensures { λ _. ⌜ now (image .exit) ≡ imageAfter (kindsOf (now (kinds .entry))) to (now (entries .entry)) (now (image .entry)) ⌝ }
+    ensures { λ _.
+        ⌜ now (image .exit)
+        ≡ imageAfter (kindsOf (now (kinds .entry))) to (now (entries .entry)) (now (image .entry)) ⌝ }
 {
     let place = heads::image_head(&image[..]);
     let size = image.len();
@@ -68,7 +73,8 @@ pub fn take_entries(image: &mut [u8], kinds: &[u8], to: u32, entries: &[u8])
 pub fn put_element(image: &mut [u8], kinds: &[u8], to: u32, object: usize, word: u32)
     requires { ⌜ (object < length (now kinds)) × (length (now kinds) ≤ 1024) ⌝ }
     requires { ⌜ length (now image) ≡ imageHead (now image) + widths (kindsOf (now kinds)) ⌝ }
-    ensures { λ _. ⌜ now (image .exit) ≡ imageWith (kindsOf (now (kinds .entry))) to object word (now (image .entry)) ⌝ }
+    ensures { λ _.
+        ⌜ now (image .exit) ≡ imageWith (kindsOf (now (kinds .entry))) to object word (now (image .entry)) ⌝ }
 {
     let place = heads::image_head(&image[..]);
     let at = place + place_of(kinds, object);

@@ -27,7 +27,9 @@ pub fn write_list(
     requires { ⌜ length (now kinds) ≤ 1024 ⌝ }
     requires { ⌜ Asked walk (now kinds) (now first) (now second) ⌝ }
     requires { ⌜ Measured walk (kindsOf (now kinds)) (now first) (now second) (size .count) (size .bytes) ⌝ }
-    ensures { λ r. ⌜ Leaves (done (walkList walk x y (now (kinds .entry)) from to (now (first .entry)) (now (second .entry)))) (now (out .entry)) r (now (out .exit)) ⌝ }
+    ensures { λ r.
+        ⌜ Leaves (done (walkList walk x y (now (kinds .entry)) from to (now (first .entry)) (now (second .entry))))
+        (now (out .entry)) r (now (out .exit)) ⌝ }
 {
     let count = size.count as u32;
     let bytes = size.bytes;

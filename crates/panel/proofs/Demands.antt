@@ -1,4 +1,7 @@
--- Demand 2 over what the calls give: T and A are any bytes, `out` any output. A write that answers 0 leaves an image at the front of the output. From it the state written is read, and for every other object what was read before. What was read, written at the image's position, gives the image's bytes.
+-- Demand 2 over what the calls give: T and A are any bytes, `out` any output.
+-- A write that answers 0 leaves an image at the front of the output.
+-- From it the state written is read, and for every other object what was read before.
+-- What was read, written at the image's position, gives the image's bytes.
 -- Assumes nothing.
 use Prim.Native.Nat.{ℕ, _^_, _≤_, _<_}
 use native.Mathlib.Omega.{arith}
@@ -40,13 +43,20 @@ unfolding readStateCall readStateUnder imageCall
 read-image T A i e h q =
     let t = used (readPlan T) _ q in
     let a = used (readImage (t .0) A) _ (t .2) in
-    let w = image-is (t .0) A h (a .1) in
-    (a .0, ap (λ (v : Verdict Plan). then v (λ p. readImage p A)) (t .1) ∙ a .1, sym (ap positionIn (w .1) ∙ written-position (w .0)))
+    let w = image-is (t .0) A h (a .1) in (
+      a .0,
+      ap (λ (v : Verdict Plan). then v (λ p. readImage p A)) (t .1) ∙ a .1,
+      sym (ap positionIn (w .1) ∙ written-position (w .0)),
+    )
 
-module _ (T A : List ℕ) (i : ℕ) (e : Element) (position : ℕ) {out : List ℕ} {r : Answer} {m : List ℕ} (w : Ran (writeStateCall T A i e position) out r m) where
+module _ (T A : List ℕ) (i : ℕ) (e : Element) (position : ℕ) {out : List ℕ} {r : Answer} {m : List ℕ}
+    (w : Ran (writeStateCall T A i e position) out r m) where
   -- a refusal writes no output
   pub refused-writes-nothing : (r .code ≡ 0 → ⊥) → m ≡ out
-  refused-writes-nothing n = w .leaves .1 ∙ refusal-stays (writeStateCall T A i e position) out (λ z. n (ap (λ (a : Answer). a .code) (w .leaves .0) ∙ z))
+  refused-writes-nothing n =
+      w .leaves .1
+      ∙ refusal-stays (writeStateCall T A i e position) out
+      (λ z. n (ap (λ (a : Answer). a .code) (w .leaves .0) ∙ z))
 
   module _ (ok : r .code ≡ 0) where
     written : Delivered (writeStateCall T A i e position) out r m
@@ -63,15 +73,20 @@ module _ (T A : List ℕ) (i : ℕ) (e : Element) (position : ℕ) {out : List �
       read-after-write q = q ∙ ap readingOf (write-then-read T A i e position h small (written .bytes))
 
       -- every other object is read as before, refusals included
-      pub others-after-write : (j : ℕ) → (j ≡ i → ⊥) → {s u : Reading} → Read T (take (r .length) m) j s → Read T A j u → s ≡ u
+      pub others-after-write : (j : ℕ) → (j ≡ i → ⊥) → {s u : Reading} → Read T (take (r .length) m) j s
+          → Read T A j u → s ≡ u
       others-after-write j n q p = q ∙ ap readingOf (others-stay T A i e position h small (written .bytes) j n) ∙ sym p
 
 -- what was read, written at the image's position where there is room, gives the image's bytes
-pub write-after-read : (T A : List ℕ) (i : ℕ) (e : Element) (out : List ℕ) {r : Answer} {m : List ℕ} → Bytes A → Read T A i (Reading.State e) → length A ≤ length out
+pub write-after-read : (T A : List ℕ) (i : ℕ) (e : Element) (out : List ℕ) {r : Answer} {m : List ℕ} → Bytes A
+    → Read T A i (Reading.State e) → length A ≤ length out
     → Ran (writeStateCall T A i e (positionIn A)) out r m → (r ≡ unnamed 0 (length A)) × (m ≡ A ++ drop (length A) out)
 unfolding settled
 write-after-read T A i e out h q room w =
     let v = state-read (readStateCall T A i) e q in
     let a = read-image T A i e h v in
-    let same : writeStateCall T A i e (positionIn A) ≡ done A = ap (writeStateCall T A i e) (sym (a .2)) ∙ read-then-write T A i h (a .1) v in
-    (rw (le-leb (length A) (length out) room) at (rw same at (w .leaves .0)), rw (le-leb (length A) (length out) room) at (rw same at (w .leaves .1)))
+    let same : writeStateCall T A i e (positionIn A) ≡ done A =
+    ap (writeStateCall T A i e) (sym (a .2)) ∙ read-then-write T A i h (a .1) v in (
+      rw (le-leb (length A) (length out) room) at (rw same at (w .leaves .0)),
+      rw (le-leb (length A) (length out) room) at (rw same at (w .leaves .1)),
+    )

@@ -17,7 +17,8 @@ module _ (T A : List ℕ) (i : ℕ) where
   one-reading = one-outcome
 
   pub one-write : (e : Element) (position : ℕ) (out : List ℕ) {r r′ : Answer} {m m′ : List ℕ}
-      → Leaves (writeStateCall T A i e position) out r m → Leaves (writeStateCall T A i e position) out r′ m′ → (r ≡ r′) × (m ≡ m′)
+      → Leaves (writeStateCall T A i e position) out r m → Leaves (writeStateCall T A i e position) out r′ m′
+      → (r ≡ r′) × (m ≡ m′)
   one-write e position out = one-pair
 
 pub one-answer : (s : Reading) {r r′ : Answer} → r ≡ answerIn s → r′ ≡ answerIn s → r ≡ r′

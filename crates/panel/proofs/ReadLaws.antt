@@ -1,4 +1,5 @@
--- Reading a state, at each place where the code returns: a refusal's numbers are those of the call, and the state that the code reads at the element's place is the call's.
+-- Reading a state, at each place where the code returns: a refusal's numbers are those of the call, and the state that
+-- the code reads at the element's place is the call's.
 -- Assumes nothing.
 use Prim.Native.Nat.{ℕ, zero, suc, _≤_, _<_}
 use native.Mathlib.Omega.{arith}
@@ -36,7 +37,8 @@ use Rattle.panel.specs.declared.read.Reading.{Reading}
 use Rattle.panel.specs.Readings.{readingOf, answerIn}
 
 -- an answer that refuses is the answer, whatever comes after
-pub first-told : {A B : Type 0} (v : Verdict A) (f : A → Verdict B) {r : Answer} → r ≡ told v → (r .code ≡ 0 → ⊥) → r ≡ told (then v f)
+pub first-told : {A B : Type 0} (v : Verdict A) (f : A → Verdict B) {r : Answer} → r ≡ told v → (r .code ≡ 0 → ⊥)
+    → r ≡ told (then v f)
 first-told v f e bad = e ∙ told-first v f (λ z. bad (ap (λ (a : Answer). a .code) e ∙ z))
 
 -- a refusal is the reading
@@ -67,7 +69,8 @@ module _ {T : List ℕ} {r : Outline} (o : Outlined T r) (A : List ℕ) (i : ℕ
 
 -- ---- the image
 
-admitted-at : {ks : List Kind} {ws : List ℕ} → Every admits ks ws → (i : ℕ) → i < length ks → admits (kindAt ks i) (getD ws i 0) ≡ true
+admitted-at : {ks : List Kind} {ws : List ℕ} → Every admits ks ws → (i : ℕ) → i < length ks
+    → admits (kindAt ks i) (getD ws i 0) ≡ true
 admitted-at nil i l = absurd (omega arith)
 admitted-at (and h r) zero l = h
 admitted-at (and h r) (suc i) l = admitted-at r i (omega arith)
@@ -85,15 +88,18 @@ module _ (x y : ℕ) (ns A : List ℕ) (i : ℕ) {r : Answer} (r-is : r ≡ told
     pub head-inside : imageHead A ≤ length A
     head-inside = image-inside taken
 
-    under : readStateUnder (planAs x y ns) A i ≡ (refusalAt 13 i unless ltb i (length (kindsOf ns)) ⨾ done (stateAt (planAs x y ns) (taken .image) i))
+    under : readStateUnder (planAs x y ns) A i
+        ≡ (refusalAt 13 i unless ltb i (length (kindsOf ns)) ⨾ done (stateAt (planAs x y ns) (taken .image) i))
     unfolding readStateUnder
     under = rw (taken .reads)
 
     -- 13: there is no such object
-    pub other-object : length ns ≤ i → {s : Answer} → s ≡ numbers (naming 13 i 255) 0 → Reading.Refused s ≡ readingOf (readStateUnder (planAs x y ns) A i)
+    pub other-object : length ns ≤ i → {s : Answer} → s ≡ numbers (naming 13 i 255) 0
+        → Reading.Refused s ≡ readingOf (readStateUnder (planAs x y ns) A i)
     unfolding readingOf
     other-object l {s} e =
-        let none : readStateUnder (planAs x y ns) A i ≡ refusalAt 13 i = under ∙ rw (le-ltb i (length (kindsOf ns)) (omega (arith, length-kinds ns))) in
+        let none : readStateUnder (planAs x y ns) A i ≡ refusalAt 13 i =
+        under ∙ rw (le-ltb i (length (kindsOf ns)) (omega (arith, length-kinds ns))) in
         ap Reading.Refused e ∙ sym (ap readingOf none)
 
     module _ (l : i < length ns) where
@@ -103,17 +109,24 @@ module _ (x y : ℕ) (ns A : List ℕ) (i : ℕ) {r : Answer} (r-is : r ≡ told
       inside-kinds : i < length (kindsOf ns)
       inside-kinds = omega (arith, length-kinds ns)
 
-      module _ {kind : Kind} (kind-is : kind ≡ kindAt (kindsOf ns) i) {es : List ℕ} (es-is : es ≡ elementsIn A) {word : ℕ} (word-is : word ≡ number (take (widthOf (kindAt (kindsOf ns) i)) (drop (placeIn (kindsOf ns) i) es))) where
+      module _ {kind : Kind} (kind-is : kind ≡ kindAt (kindsOf ns) i) {es : List ℕ} (es-is : es ≡ elementsIn A)
+          {word : ℕ}
+          (word-is : word ≡ number (take (widthOf (kindAt (kindsOf ns) i)) (drop (placeIn (kindsOf ns) i) es))) where
         own-word : word ≡ getD (taken .image .words) i 0
         own-word =
-            word-is ∙ ap (λ (b : List ℕ). number (take (widthOf (kindAt (kindsOf ns) i)) (drop (placeIn (kindsOf ns) i) b))) (es-is ∙ elements-in taken)
+            word-is ∙ ap (λ (b : List ℕ). number
+            (take (widthOf (kindAt (kindsOf ns) i)) (drop (placeIn (kindsOf ns) i) b)))
+            (es-is ∙ elements-in taken)
             ∙ words-number (taken .legal .words) i inside-kinds
 
         admitted : admits kind word ≡ true
         admitted = rw (kind-is, own-word) (admitted-at (taken .legal .words) i inside-kinds)
 
-        pub state-is : {e : Element} → e ≡ stateRead kind word → Reading.State e ≡ readingOf (readStateUnder (planAs x y ns) A i)
+        pub state-is : {e : Element} → e ≡ stateRead kind word
+            → Reading.State e ≡ readingOf (readStateUnder (planAs x y ns) A i)
         unfolding readingOf
         state-is {e} e-is =
-            let own : readStateUnder (planAs x y ns) A i ≡ done (stateAt (planAs x y ns) (taken .image) i) = under ∙ rw (lt-ltb i (length (kindsOf ns)) inside-kinds) in
-            ap Reading.State (e-is ∙ admits-read kind word admitted ∙ ap₂ stateOf kind-is own-word) ∙ sym (ap readingOf own)
+            let own : readStateUnder (planAs x y ns) A i ≡ done (stateAt (planAs x y ns) (taken .image) i) =
+            under ∙ rw (lt-ltb i (length (kindsOf ns)) inside-kinds) in
+            ap Reading.State (e-is ∙ admits-read kind word admitted ∙ ap₂ stateOf kind-is own-word)
+            ∙ sym (ap readingOf own)

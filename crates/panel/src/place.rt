@@ -12,7 +12,10 @@ ghost use Rattle.forms.specs.Places.{placeIn, Sized};
 // The number of the object's element; `elements` are those of all objects.
 pub fn word_at(kinds: &[u8], elements: &[u8], object: usize) -> u32
     requires { ⌜ Sized (now kinds) (now elements) object ⌝ }
-    ensures { λ r. ⌜ r ≡ number (take (widthOf (kindAt (kindsOf (now (kinds .entry))) object)) (drop (placeIn (kindsOf (now (kinds .entry))) object) (now (elements .entry)))) ⌝ }
+    ensures { λ r.
+        ⌜ r ≡ number
+        (take (widthOf (kindAt (kindsOf (now (kinds .entry))) object))
+        (drop (placeIn (kindsOf (now (kinds .entry))) object) (now (elements .entry)))) ⌝ }
 {
     let at = place_of(kinds, object);
     let kind = kind_at(kinds, object);

@@ -27,7 +27,8 @@ pub fn write_state(
     position: u32,
     out: &mut [u8],
 ) -> Answer
-    ensures { λ r. ⌜ Leaves (writeStateCall (now (table .entry)) (now (image .entry)) object state position) (now (out .entry)) r (now (out .exit)) ⌝ }
+    ensures { λ r. ⌜ Leaves (writeStateCall (now (table .entry)) (now (image .entry)) object state position)
+        (now (out .entry)) r (now (out .exit)) ⌝ }
 {
     let known = outline(table);
     let answer = known.answer;
@@ -61,7 +62,9 @@ fn write_under(
     out: &mut [u8],
 ) -> Answer
     requires { ⌜ length (now kinds) ≤ 1024 ⌝ }
-    ensures { λ r. ⌜ Leaves (writeStateUnder (planAs x y (now (kinds .entry))) (now (image .entry)) object state position) (now (out .entry)) r (now (out .exit)) ⌝ }
+    ensures { λ r.
+        ⌜ Leaves (writeStateUnder (planAs x y (now (kinds .entry))) (now (image .entry)) object state position)
+        (now (out .entry)) r (now (out .exit)) ⌝ }
 {
     let answer = check_image_under(x, y, kinds, image);
     if answer.code != 0 {

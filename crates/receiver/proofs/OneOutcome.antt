@@ -18,7 +18,8 @@ module _ (T A L out : List ℕ) (s : Standing) where
   abbrev pub Takes : Taken → List ℕ → Type 0
   Takes r m = (r ≡ takenOf T A L out s) × (m ≡ outputOf T A L out)
 
-  pub one-receive : {r r′ : Answer} {m m′ : List ℕ} {k k′ : Standing} → Receives r m k → Receives r′ m′ k′ → (r ≡ r′) × ((m ≡ m′) × (k ≡ k′))
+  pub one-receive : {r r′ : Answer} {m m′ : List ℕ} {k k′ : Standing} → Receives r m k → Receives r′ m′ k′
+      → (r ≡ r′) × ((m ≡ m′) × (k ≡ k′))
   one-receive p q = (one-outcome (p .0) (q .0), one-pair (p .1) (q .1))
 
   pub one-received : {r r′ : Taken} {m m′ : List ℕ} → Takes r m → Takes r′ m′ → (r ≡ r′) × (m ≡ m′)

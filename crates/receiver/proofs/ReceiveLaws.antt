@@ -28,9 +28,11 @@ module _ (t a l out : List ℕ) (s : Standing) where
   pub taken-is : {r : Answer} {m : List ℕ} {k : Standing} → Leaves (applyCall t a l) out r m → k ≡ counted (r .code) s
       → (_≡_ {A = Taken} (record { answer = r; standing = k }) (takenOf t a l out s)) × (m ≡ outputOf t a l out)
   unfolding answerOf outputOf standingOf receiveCall
-  taken-is e q = (λ i. record { answer = e .0 i; standing = (q ∙ ap (λ (r : Answer). counted (r .code) s) (e .0)) i }, e .1)
+  taken-is e q =
+      (λ i. record { answer = e .0 i; standing = (q ∙ ap (λ (r : Answer). counted (r .code) s) (e .0)) i }, e .1)
 
   -- the outcome of a call, from what `receive` ensures
-  pub outcome : {r : Answer} {m : List ℕ} {k : Standing} → r ≡ answerOf t a l out → m ≡ outputOf t a l out → k ≡ standingOf t a l out s
+  pub outcome : {r : Answer} {m : List ℕ} {k : Standing} → r ≡ answerOf t a l out → m ≡ outputOf t a l out
+      → k ≡ standingOf t a l out s
       → _≡_ {A = Received} (record { answer = r; output = m; standing = k }) (receiveCall t a l out s)
   outcome e f g = λ i. record { answer = (e ∙ answer-is) i; output = (f ∙ output-is) i; standing = (g ∙ standing-is) i }

@@ -1,5 +1,6 @@
-// The receiver: applies a list, and counts the answer in a standing of four tallies that is lent to the call and updated there. The
-// work is done by value in `received`; `receive` only stores the standing that it gives. It uses changes and keeps nothing itself.
+// The receiver: applies a list, and counts the answer in a standing of four tallies that is lent to the call and
+// updated there. The work is done by value in `received`; `receive` only stores the standing that it gives.
+// It uses changes and keeps nothing itself.
 use history::Answer;
 use history::Standing;
 ghost use mathlib.Core.Path.{_≡_};
@@ -34,7 +35,9 @@ pub fn receive(
 ) -> Answer
     ensures { λ r. ⌜ (r ≡ answerOf (now (table .entry)) (now (image .entry)) (now (list .entry)) (now (out .entry)))
         × ((now (out .exit) ≡ outputOf (now (table .entry)) (now (image .entry)) (now (list .entry)) (now (out .entry)))
-        × (now (standing .exit) ≡ standingOf (now (table .entry)) (now (image .entry)) (now (list .entry)) (now (out .entry)) (now (standing .entry)))) ⌝ }
+        × (now (standing .exit)
+        ≡ standingOf (now (table .entry)) (now (image .entry)) (now (list .entry)) (now (out .entry))
+        (now (standing .entry)))) ⌝ }
 {
     let r = received(table, image, list, out, *standing);
     *standing = r.standing;
@@ -49,7 +52,10 @@ pub fn received(
     out: &mut [u8],
     standing: Standing,
 ) -> Taken
-    ensures { λ r. ⌜ (r ≡ takenOf (now (table .entry)) (now (image .entry)) (now (list .entry)) (now (out .entry)) standing) × (now (out .exit) ≡ outputOf (now (table .entry)) (now (image .entry)) (now (list .entry)) (now (out .entry))) ⌝ }
+    ensures { λ r.
+        ⌜ (r ≡ takenOf (now (table .entry)) (now (image .entry)) (now (list .entry)) (now (out .entry)) standing)
+        × (now (out .exit)
+        ≡ outputOf (now (table .entry)) (now (image .entry)) (now (list .entry)) (now (out .entry))) ⌝ }
 {
     let answer = changes::apply(table, image, list, out);
     Taken {

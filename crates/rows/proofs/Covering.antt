@@ -1,5 +1,5 @@
--- The covering rule and the range rule: one test, computed over the whole table, and what it says of each layout and each row. Each bit
--- of an element is in exactly one row of its layout.
+-- The covering rule and the range rule: one test, computed over all rows, and what it says of each layout and each row.
+-- Each bit of an element is in exactly one row of its layout.
 -- Assumes nothing.
 use mathlib.Core.Path.{_≡_, _∙_, refl, sym, ap, ap₂}
 use mathlib.Core.Bool.{Bool, true, false, cond, _&&_}
@@ -18,17 +18,20 @@ use Rattle.rows.proofs.Tests.{both-left, both-right}
 use Rattle.rows.proofs.Rows.{Good}
 use Rattle.rows.proofs.Words.{Tiled, tiled}
 
--- the test passes over all rows of the table
+-- all rows pass the test
 pub covered : T (covers 0 layouts)
 unfolding cells layouts
 covered = tt
 
-at-place : (ls : List Layout) (at : ℕ) → T (covers at ls) → (i : ℕ) → i < length ls → T (layoutGood (getD ls i (layout 0 0 0 0 false)))
+at-place : (ls : List Layout) (at : ℕ) → T (covers at ls) → (i : ℕ) → i < length ls
+    → T (layoutGood (getD ls i (layout 0 0 0 0 false)))
 at-place [] at t i h = absurd (not-suc-le-zero h)
 at-place (l ∷ ls) at t zero h =
-    both-right (eqb (l .first) at) (layoutGood l) (both-left (eqb (l .first) at && layoutGood l) (covers (at + l .count) ls) t)
+    both-right (eqb (l .first) at) (layoutGood l)
+    (both-left (eqb (l .first) at && layoutGood l) (covers (at + l .count) ls) t)
 at-place (l ∷ ls) at t (suc i) h =
-    at-place ls (at + l .count) (both-right (eqb (l .first) at && layoutGood l) (covers (at + l .count) ls) t) i (le-of-suc-le-suc h)
+    at-place ls (at + l .count) (both-right (eqb (l .first) at && layoutGood l) (covers (at + l .count) ls) t) i
+    (le-of-suc-le-suc h)
 
 pub record Covered (l : Layout) : Type 0 where
   pub inside : l .first + l .count ≤ rowTotal
@@ -66,11 +69,14 @@ row-of (suc n) j at end t i l h = go (eqb i j) refl (row-of n (suc j) (at + rowA
 
     go : (b : Bool) → eqb i j ≡ b → (suc j ≤ i → i < suc j + n → Good (rowAt i)) → Good (rowAt i)
     go true e later = rw (eqb-true i j e) (g .is-good)
-    go false e later = let apart : i ≡ j → ⊥ = eqb-false i j e in later (lt-of-le-ne l (λ q. apart (sym q))) (omega arith)
+    go false e later =
+        let apart : i ≡ j → ⊥ = eqb-false i j e in later (lt-of-le-ne l (λ q. apart (sym q))) (omega arith)
 
 row-in : (ls : List Layout) (at : ℕ) → T (covers at ls) → (i : ℕ) → at ≤ i → i < rowTotal → Good (rowAt i)
 row-in [] at t i l h = let e : at ≡ rowTotal = eqb→eq at rowTotal t in absurd (omega arith)
-row-in (x ∷ xs) at t i l h = go (ltb i (at + x .count)) refl (λ m. row-in xs (at + x .count) (both-right here (covers (at + x .count) xs) t) i m h)
+row-in (x ∷ xs) at t i l h =
+    go (ltb i (at + x .count)) refl
+    (λ m. row-in xs (at + x .count) (both-right here (covers (at + x .count) xs) t) i m h)
   where
     here : Bool
     here = eqb (x .first) at && layoutGood x
@@ -83,7 +89,8 @@ row-in (x ∷ xs) at t i l h = go (ltb i (at + x .count)) refl (λ m. row-in xs 
 
     go : (b : Bool) → ltb i (at + x .count) ≡ b → (at + x .count ≤ i → Good (rowAt i)) → Good (rowAt i)
     go true e later =
-        row-of (x .count) (x .first) 0 (8 * x .bytes) (good x (both-right (eqb (x .first) at) (layoutGood x) own) .tiling) i
+        row-of (x .count) (x .first) 0 (8 * x .bytes)
+        (good x (both-right (eqb (x .first) at) (layoutGood x) own) .tiling) i
         (rw starts l) (rw starts (ltb-true i (at + x .count) e))
     go false e later = later (ltb-false i (at + x .count) e)
 
@@ -106,11 +113,13 @@ none-below (r ∷ rs) at end b t h =
     let g = tiled at r rs end t in
     let s = g .starts in
     let e : leb (r .low) b ≡ false = lt-leb (r .low) b (omega arith) in
-    ap₂ (λ (x : Bool) (n : ℕ). cond (x && ltb b (r .low + r .width)) 1 0 + n) e (none-below rs (at + r .width) end b (g .rest) (omega arith))
+    ap₂ (λ (x : Bool) (n : ℕ). cond (x && ltb b (r .low + r .width)) 1 0 + n) e
+    (none-below rs (at + r .width) end b (g .rest) (omega arith))
 
 once : (rs : List Row) (at end b : ℕ) → T (tiles at rs end) → at ≤ b → b < end → holding b rs ≡ 1
 once [] at end b t l h = let e : at ≡ end = eqb→eq at end t in absurd (omega arith)
-once (r ∷ rs) at end b t l h = go (ltb b (r .low + r .width)) refl (λ i. once rs (at + r .width) end b (tiled at r rs end t .rest) i h)
+once (r ∷ rs) at end b t l h =
+    go (ltb b (r .low + r .width)) refl (λ i. once rs (at + r .width) end b (tiled at r rs end t .rest) i h)
   where
     g : Tiled at r rs end
     g = tiled at r rs end t

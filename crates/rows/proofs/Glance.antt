@@ -21,8 +21,10 @@ use Rattle.rows.proofs.Listed.{within-accepted}
 bit-clear : (x c p : ℕ) → bitAnd x c ≡ 0 → c / 2 ^ p % 2 ≡ 1 → x / 2 ^ p % 2 ≡ 0
 bit-clear x c p h m =
     let b = x / 2 ^ p % 2 in
-    let none : bitAnd (x / 2 ^ p) (c / 2 ^ p) ≡ 0 = sym (and-shr x c p) ∙ ap (λ (n : ℕ). n / 2 ^ p) h ∙ zero-div (2 ^ p) in
-    let own : bitAnd (x / 2 ^ p) (c / 2 ^ p) % 2 ≡ b % 2 = and-mod (x / 2 ^ p) (c / 2 ^ p) 1 ∙ ap (bitAnd b) m ∙ and-mask b 1 in
+    let none : bitAnd (x / 2 ^ p) (c / 2 ^ p) ≡ 0 =
+    sym (and-shr x c p) ∙ ap (λ (n : ℕ). n / 2 ^ p) h ∙ zero-div (2 ^ p) in
+    let own : bitAnd (x / 2 ^ p) (c / 2 ^ p) % 2 ≡ b % 2 =
+    and-mod (x / 2 ^ p) (c / 2 ^ p) 1 ∙ ap (bitAnd b) m ∙ and-mask b 1 in
     omega arith
 
 -- if bit p of a sum is the exclusive or of its parts' bits, nothing was carried into it: what is below didn't overflow
@@ -38,17 +40,21 @@ no-carry w a p e = go (leb (2 ^ p) (w % 2 ^ p + a % 2 ^ p)) refl
         let over : 2 ^ p ≤ w % 2 ^ p + a % 2 ^ p = leb-true _ _ t in
         let q = w % 2 ^ p + a % 2 ^ p - 2 ^ p in
         let small : q < 2 ^ p = omega (arith, mod-lt w (pow-pos p), mod-lt a (pow-pos p)) in
-        let sum : w + a ≡ (x + y + 1) * 2 ^ p + q = omega (arith, split w p, split a p, add-mul x y (2 ^ p), add-mul (x + y) 1 (2 ^ p)) in
+        let sum : w + a ≡ (x + y + 1) * 2 ^ p + q =
+        omega (arith, split w p, split a p, add-mul x y (2 ^ p), add-mul (x + y) 1 (2 ^ p)) in
         let carried : s ≡ x + y + 1 = ap (λ (n : ℕ). n / 2 ^ p) sum ∙ high (x + y + 1) p small in
-        let bits : bitXor (bitXor (w + a) w) a / 2 ^ p ≡ bitXor (bitXor s x) y = xor-shr (bitXor (w + a) w) a p ∙ ap (λ (n : ℕ). bitXor n y) (xor-shr (w + a) w p) in
+        let bits : bitXor (bitXor (w + a) w) a / 2 ^ p ≡ bitXor (bitXor s x) y =
+        xor-shr (bitXor (w + a) w) a p ∙ ap (λ (n : ℕ). bitXor n y) (xor-shr (w + a) w p) in
         omega (arith, xor-add-and s x, xor-add-and (bitXor s x) y)
 
 -- if nothing is carried out of a field, the sum of its value and what is added fits in it
-field-fits : (w a k d : ℕ) → w % 2 ^ (d + k) + a % 2 ^ (d + k) < 2 ^ (d + k) → w / 2 ^ k % 2 ^ d + a / 2 ^ k % 2 ^ d < 2 ^ d
+field-fits : (w a k d : ℕ) → w % 2 ^ (d + k) + a % 2 ^ (d + k) < 2 ^ (d + k)
+    → w / 2 ^ k % 2 ^ d + a / 2 ^ k % 2 ^ d < 2 ^ d
 field-fits w a k d h =
     let v = w / 2 ^ k % 2 ^ d in
     let u = a / 2 ^ k % 2 ^ d in
-    let less : (v + u) * 2 ^ k < 2 ^ d * 2 ^ k = omega (arith, mod-pow-add w d k, mod-pow-add a d k, pow-add 2 d k, add-mul v u (2 ^ k)) in
+    let less : (v + u) * 2 ^ k < 2 ^ d * 2 ^ k =
+    omega (arith, mod-pow-add w d k, mod-pow-add a d k, pow-add 2 d k, add-mul v u (2 ^ k)) in
     rw shl-shr at (div-lt-iff-lt-mul {k = 2 ^ k} {x = (v + u) * 2 ^ k} {y = 2 ^ d} (pow-pos k) .1 less)
 
 module _ (w add carry : ℕ) (none : carriesNone add carry w ≡ true) where
@@ -77,5 +83,6 @@ module _ (w add carry : ℕ) (none : carriesNone add carry w ≡ true) where
       let own = full r || marks add carry r in
       (here r (full r) refl (both-left own (marked add carry rs) t), within rs (both-right own (marked add carry rs) t))
 
-pub shows : (add carry : ℕ) {rs : List Row} {w : ℕ} {listed : Bool} → T (marked add carry rs) → listed ≡ carriesNone add carry w → Shows rs w listed
+pub shows : (add carry : ℕ) {rs : List Row} {w : ℕ} {listed : Bool} → T (marked add carry rs)
+    → listed ≡ carriesNone add carry w → Shows rs w listed
 shows add carry {rs} {w} t e = record { accepted = λ on. within-accepted w rs (within w add carry (sym e ∙ on) rs t) }

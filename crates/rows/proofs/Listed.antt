@@ -1,4 +1,5 @@
--- Values and what their rows admit: which values a state keeps, by its rows and by its named cases; and which number is refused, and how.
+-- Values and what their rows admit: which values a state keeps, by its rows and by its named cases;
+-- and which number is refused, and how.
 -- Assumes nothing.
 use mathlib.Core.Path.{_≡_, _∙_, refl, sym, ap, ap₂}
 use mathlib.Core.Bool.{Bool, true, false, cond, _&&_}
@@ -40,7 +41,8 @@ pub listed-within : (rs : List Row) (k : ℕ) (vs : List ℕ) → Within rs (lis
 listed-within [] k vs = tt
 listed-within (r ∷ rs) k vs = (listed-le (r .top) (getD vs k 0), listed-within rs (suc k) vs)
 
-pub listed-from : (rs : List Row) (pre us post : List ℕ) → Within rs us → listedFrom (length pre) rs (pre ++ (us ++ post)) ≡ us
+pub listed-from : (rs : List Row) (pre us post : List ℕ) → Within rs us
+    → listedFrom (length pre) rs (pre ++ (us ++ post)) ≡ us
 listed-from [] pre [] post h = refl
 listed-from [] pre (u ∷ us) post h = absurd h
 listed-from (r ∷ rs) pre [] post h = absurd h
@@ -48,14 +50,19 @@ listed-from (r ∷ rs) pre (u ∷ us) post h =
     let n : length (pre ++ (u ∷ [])) ≡ suc (length pre) = omega (arith, length-append pre (u ∷ [])) in
     ap₂ _∷_
     (ap (listed (r .top)) (getD-append-seam pre u (us ++ post) 0) ∙ listed-same (r .top) u (h .0))
-    (ap₂ (λ (k : ℕ) (l : List ℕ). listedFrom k rs l) (sym n) (sym (append-snoc pre u (us ++ post))) ∙ listed-from rs (pre ++ (u ∷ [])) us post (h .1))
+    (ap₂ (λ (k : ℕ) (l : List ℕ). listedFrom k rs l) (sym n) (sym (append-snoc pre u (us ++ post)))
+    ∙ listed-from rs (pre ++ (u ∷ [])) us post (h .1))
 
 -- a number is accepted exactly if each field's value is one that its row admits
-within-step : (w : ℕ) (r : Row) (next : Finding) → onField (fieldRead w r) next ≡ Finding.Accepted → (fieldOf w r ≤ r .top) × (next ≡ Finding.Accepted)
+within-step : (w : ℕ) (r : Row) (next : Finding) → onField (fieldRead w r) next ≡ Finding.Accepted
+    → (fieldOf w r ≤ r .top) × (next ≡ Finding.Accepted)
 within-step w r next = go (leb (fieldOf w r) (r .top)) refl
   where
     go : (b : Bool) → leb (fieldOf w r) (r .top) ≡ b
-        → onField (cond b (Field.Value (fieldOf w r)) (Field.Refused (codeAt (cond (eqb (r .top) 0) 10 11) (r .low)))) next ≡ Finding.Accepted → (fieldOf w r ≤ r .top) × (next ≡ Finding.Accepted)
+        → onField (cond b (Field.Value (fieldOf w r))
+        (Field.Refused (codeAt (cond (eqb (r .top) 0) 10 11) (r .low)))) next
+        ≡ Finding.Accepted
+        → (fieldOf w r ≤ r .top) × (next ≡ Finding.Accepted)
     go true e h = (leb-true _ _ e, h)
     go false e h = let z : _≡_ {A = ℕ} 0 1 = cc in absurd (omega arith)
 
@@ -65,9 +72,15 @@ accepted-within w (r ∷ rs) e = let s = within-step w r (checkRows w rs) e in (
 
 pub within-accepted : (w : ℕ) (rs : List Row) → Within rs (valuesOf w rs) → checkRows w rs ≡ Finding.Accepted
 within-accepted w [] h = refl
-within-accepted w (r ∷ rs) h = ap (λ (b : Bool). onField (cond b (Field.Value (fieldOf w r)) (Field.Refused (codeAt (cond (eqb (r .top) 0) 10 11) (r .low)))) (checkRows w rs)) (le-leb _ _ (h .0)) ∙ within-accepted w rs (h .1)
+within-accepted w (r ∷ rs) h =
+    ap (λ (b : Bool). onField
+    (cond b (Field.Value (fieldOf w r)) (Field.Refused (codeAt (cond (eqb (r .top) 0) 10 11) (r .low))))
+    (checkRows w rs))
+    (le-leb _ _ (h .0))
+    ∙ within-accepted w rs (h .1)
 
--- ---- what is refused: the lowest field whose value is not listed, with code 10 if it is reserved and else 11, and its lowest bit
+-- ---- what is refused: the lowest field whose value is not listed, with code 10 if it is
+-- reserved and else 11, and its lowest bit
 
 pub record FirstUnlisted (w : ℕ) (rs : List Row) (x : Refusal) : Type 0 where
   pub below : List Row
@@ -83,11 +96,23 @@ names-first w [] e = absurd (let z : _≡_ {A = ℕ} 0 1 = cc in omega arith)
 names-first w (r ∷ rs) {x} e = go (leb (fieldOf w r) (r .top)) refl (names-first w rs) e
   where
     go : (b : Bool) → leb (fieldOf w r) (r .top) ≡ b → (checkRows w rs ≡ Finding.Refused x → FirstUnlisted w rs x)
-        → onField (cond b (Field.Value (fieldOf w r)) (Field.Refused (codeAt (cond (eqb (r .top) 0) 10 11) (r .low)))) (checkRows w rs) ≡ Finding.Refused x → FirstUnlisted w (r ∷ rs) x
-    go false t later e = record { below = []; row = r; above = rs; parts = refl; listed = tt; unlisted = leb-false _ _ t; told = cc }
+        → onField (cond b (Field.Value (fieldOf w r)) (Field.Refused (codeAt (cond (eqb (r .top) 0) 10 11) (r .low))))
+        (checkRows w rs)
+        ≡ Finding.Refused x
+        → FirstUnlisted w (r ∷ rs) x
+    go false t later e =
+        record { below = []; row = r; above = rs; parts = refl; listed = tt; unlisted = leb-false _ _ t; told = cc }
     go true t later e =
         let q = later e in
-        record { below = r ∷ q .below; row = q .row; above = q .above; parts = ap (λ (l : List Row). r ∷ l) (q .parts); listed = (leb-true _ _ t, q .listed); unlisted = q .unlisted; told = q .told }
+        record {
+          below = r ∷ q .below;
+          row = q .row;
+          above = q .above;
+          parts = ap (λ (l : List Row). r ∷ l) (q .parts);
+          listed = (leb-true _ _ t, q .listed);
+          unlisted = q .unlisted;
+          told = q .told;
+        }
 
 refuses-at : (w : ℕ) (bs : List Row) (r : Row) (as′ : List Row) → Within bs (valuesOf w bs) → r .top < fieldOf w r
     → checkRows w (bs ++ (r ∷ as′)) ≡ Finding.Refused (codeAt (cond (eqb (r .top) 0) 10 11) (r .low))
@@ -118,14 +143,18 @@ abbrev pub numbered : {A : Type 0} → (A → ℕ) → ℕ → List A → Bool
 numbered num i [] = true
 numbered num i (a ∷ xs) = eqb (num a) i && numbered num (suc i) xs
 
-numbered-at : {A : Type 0} (num : A → ℕ) (xs : List A) (d : A) (i : ℕ) → T (numbered num i xs) → (v : ℕ) → v < length xs → num (getD xs v d) ≡ i + v
+numbered-at : {A : Type 0} (num : A → ℕ) (xs : List A) (d : A) (i : ℕ) → T (numbered num i xs) → (v : ℕ) → v < length xs
+    → num (getD xs v d) ≡ i + v
 numbered-at num [] d i t v h = absurd (not-suc-le-zero h)
-numbered-at num (a ∷ xs) d i t zero h = eqb→eq _ _ (both-left (eqb (num a) i) (numbered num (suc i) xs) t) ∙ sym (add-zero i)
+numbered-at num (a ∷ xs) d i t zero h =
+    eqb→eq _ _ (both-left (eqb (num a) i) (numbered num (suc i) xs) t) ∙ sym (add-zero i)
 numbered-at num (a ∷ xs) d i t (suc v) h =
-    numbered-at num xs d (suc i) (both-right (eqb (num a) i) (numbered num (suc i) xs) t) v (le-of-suc-le-suc h) ∙ suc-add i v ∙ sym (add-suc i v)
+    numbered-at num xs d (suc i) (both-right (eqb (num a) i) (numbered num (suc i) xs) t) v (le-of-suc-le-suc h)
+    ∙ suc-add i v ∙ sym (add-suc i v)
 
 -- the number of the case of v is v if v is listed, else 0
-pub named : {A : Type 0} (num : A → ℕ) (xs : List A) (d : A) (top : ℕ) → T (numbered num 0 xs) → length xs ≡ suc top → num d ≡ 0 → (v : ℕ) → num (getD xs v d) ≡ listed top v
+pub named : {A : Type 0} (num : A → ℕ) (xs : List A) (d : A) (top : ℕ) → T (numbered num 0 xs) → length xs ≡ suc top
+    → num d ≡ 0 → (v : ℕ) → num (getD xs v d) ≡ listed top v
 named num xs d top t n z v = go (leb v top) refl
   where
     go : (b : Bool) → leb v top ≡ b → num (getD xs v d) ≡ cond b v 0
@@ -136,7 +165,8 @@ pub bit-listed : (v : ℕ) → bitNo (eqb v 1) ≡ listed 1 v
 bit-listed zero = refl
 bit-listed (suc zero) = refl
 bit-listed (suc (suc n)) =
-    ap bitNo (ne-eqb (suc (suc n)) 1 (λ e. omega arith)) ∙ sym (ap (λ (b : Bool). cond b (suc (suc n)) 0) (lt-leb (suc (suc n)) 1 (omega arith)))
+    ap bitNo (ne-eqb (suc (suc n)) 1 (λ e. omega arith))
+    ∙ sym (ap (λ (b : Bool). cond b (suc (suc n)) 0) (lt-leb (suc (suc n)) 1 (omega arith)))
 
 pub bit-back : (b : Bool) → eqb (bitNo b) 1 ≡ b
 bit-back true = refl

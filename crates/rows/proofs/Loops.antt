@@ -12,14 +12,17 @@ use lib.ListN.{length, getD, set, drop, replicate, length-append}
 use borrow.Author.Tests.{eq-eqb, ne-eqb}
 use lib.Seq.{set-append-seam, append-snoc, drop-cons}
 use Rattle.rows.specs.Rows.{Row, rowTotal, rowAt, rowsFrom, numberAt}
-use Rattle.rows.specs.Values.{fieldOf, fieldRead, onField, findingOf, checkRows, valuesOf, composeOf, filled, padded, onFinding, valuesRead, bearing}
+use Rattle.rows.specs.Values.{fieldOf, fieldRead, onField, findingOf, checkRows, valuesOf, composeOf, filled}
+use Rattle.rows.specs.Values.{padded, onFinding, valuesRead, bearing}
 use Rattle.rows.specs.declared.Refusal.{Refusal}
 use Rattle.rows.specs.declared.Field.{Field}
 use Rattle.rows.specs.declared.Finding.{Finding}
 
 rows-snoc : (n i : ℕ) → rowsFrom i (suc n) ≡ rowsFrom i n ++ (rowAt (i + n) ∷ [])
 rows-snoc zero i = ap (λ (k : ℕ). rowAt k ∷ []) (sym (add-zero i))
-rows-snoc (suc n) i = ap (λ (l : List Row). rowAt i ∷ l) (rows-snoc n (suc i) ∙ ap (λ (k : ℕ). rowsFrom (suc i) n ++ (rowAt k ∷ [])) (suc-add i n ∙ sym (add-suc i n)))
+rows-snoc (suc n) i =
+    ap (λ (l : List Row). rowAt i ∷ l)
+    (rows-snoc n (suc i) ∙ ap (λ (k : ℕ). rowsFrom (suc i) n ++ (rowAt k ∷ [])) (suc-add i n ∙ sym (add-suc i n)))
 
 values-snoc : (w : ℕ) (rs : List Row) (r : Row) → valuesOf w (rs ++ (r ∷ [])) ≡ valuesOf w rs ++ (fieldOf w r ∷ [])
 values-snoc w [] r = refl
@@ -42,7 +45,8 @@ fill-store n vs v h =
     ∙ ap (λ (n : ℕ). (vs ++ (v ∷ [])) ++ replicate n 0) (sym e′)
 
 -- the rows that are left are the next row and those after it
-pub rows-next : (first count k : ℕ) → k < count → rowsFrom (first + k) (count - k) ≡ rowAt (first + k) ∷ rowsFrom (first + (k + 1)) (count - (k + 1))
+pub rows-next : (first count k : ℕ) → k < count
+    → rowsFrom (first + k) (count - k) ≡ rowAt (first + k) ∷ rowsFrom (first + (k + 1)) (count - (k + 1))
 rows-next first count k h =
     let e : count - k ≡ suc (count - (k + 1)) = omega arith in
     let e′ : suc (first + k) ≡ first + (k + 1) = omega arith in
@@ -60,7 +64,8 @@ pub record Checking (w : ℕ) (all rest : List Row) : Type 0 where
   pub to-come : checkRows w all ≡ checkRows w rest
 
 -- once the field f of the next row has been read
-module _ {w : ℕ} {all rest more : List Row} {r : Row} (c : Checking w all rest) (e : rest ≡ r ∷ more) {f : Field} (q : f ≡ fieldRead w r) where
+module _ {w : ℕ} {all rest more : List Row} {r : Row} (c : Checking w all rest) (e : rest ≡ r ∷ more) {f : Field}
+    (q : f ≡ fieldRead w r) where
   next : {g : Field} → f ≡ g → checkRows w all ≡ onField g (checkRows w more)
   next t = c .to-come ∙ ap (checkRows w) e ∙ ap (λ (f : Field). onField f (checkRows w more)) (sym q ∙ t)
 
@@ -80,7 +85,8 @@ module _ (number i : ℕ) where
       ap (bearing number i) n
       ∙ ap₂ (λ (b : Bool) (j : ℕ). cond b (rowAt i ∷ bearing number j (rowTotal - (i + 1))) []) e i-is
 
-  pub bears-next : {n : ℕ} → i < rowTotal → n ≡ numberAt i → n ≡ number → bearing number i (rowTotal - i) ≡ rowAt i ∷ bearing number (i + 1) (rowTotal - (i + 1))
+  pub bears-next : {n : ℕ} → i < rowTotal → n ≡ numberAt i → n ≡ number
+      → bearing number i (rowTotal - i) ≡ rowAt i ∷ bearing number (i + 1) (rowTotal - (i + 1))
   bears-next h is e = bears true (eq-eqb (numberAt i) number (sym is ∙ e)) h
 
   pub bears-none : {n : ℕ} → i < rowTotal → n ≡ numberAt i → (n ≡ number → ⊥) → bearing number i (rowTotal - i) ≡ []
@@ -92,7 +98,8 @@ module _ (number i : ℕ) where
       ap (bearing number i) z
 
   -- the next row's field is refused
-  pub stops : {w n : ℕ} {all : List Row} {f : Field} {x : Refusal} → Checking w all (bearing number i (rowTotal - i)) → i < rowTotal → n ≡ numberAt i → n ≡ number
+  pub stops : {w n : ℕ} {all : List Row} {f : Field} {x : Refusal} → Checking w all (bearing number i (rowTotal - i))
+      → i < rowTotal → n ≡ numberAt i → n ≡ number
       → f ≡ fieldRead w (rowAt i) → f ≡ Field.Refused x → findingOf f ≡ checkRows w all
   stops c h is e q t = ap findingOf t ∙ sym (next c (bears-next h is e) q t)
 
@@ -106,9 +113,14 @@ pub starts : (w first count : ℕ) → Reading w first count (replicate 24 0) 0
 starts w first count =
     let e : first + 0 ≡ first = omega arith in
     let e′ : count - 0 ≡ count = omega arith in
-    record { bound = omega arith; checking = record { to-come = ap₂ (λ (i n : ℕ). checkRows w (rowsFrom i n)) (sym e) (sym e′) }; so-far = refl }
+    record {
+      bound = omega arith;
+      checking = record { to-come = ap₂ (λ (i n : ℕ). checkRows w (rowsFrom i n)) (sym e) (sym e′) };
+      so-far = refl;
+    }
 
-pub turn : {w first count : ℕ} {values : List ℕ} {k : ℕ} → Reading w first count values k → k < count → count ≤ 24 → {f : Field} → f ≡ fieldRead w (rowAt (first + k))
+pub turn : {w first count : ℕ} {values : List ℕ} {k : ℕ} → Reading w first count values k → k < count → count ≤ 24
+    → {f : Field} → f ≡ fieldRead w (rowAt (first + k))
     → {v : ℕ} → f ≡ Field.Value v → Reading w first count (set values k v) (k + 1)
 turn {w} {first} {count} {values} {k} r h small q {v} t =
     let n = values-length w k first in
@@ -120,7 +132,9 @@ turn {w} {first} {count} {values} {k} r h small q {v} t =
           ap₂ (λ (l : List ℕ) (i : ℕ). set l i v) (r .so-far) (sym n)
           ∙ fill-store 24 xs v (omega arith)
           ∙ ap (λ (x : ℕ). padded (xs ++ (x ∷ []))) (value-is w (rowAt (first + k)) v (sym q ∙ t))
-          ∙ ap padded (sym (values-snoc w (rowsFrom first k) (rowAt (first + k))) ∙ ap (valuesOf w) (sym (rows-snoc k first)) ∙ ap (λ (j : ℕ). valuesOf w (rowsFrom first j)) (sym (add-one k)));
+          ∙ ap padded (sym (values-snoc w (rowsFrom first k) (rowAt (first + k)))
+          ∙ ap (valuesOf w) (sym (rows-snoc k first))
+          ∙ ap (λ (j : ℕ). valuesOf w (rowsFrom first j)) (sym (add-one k)));
     }
 
 -- the values by the finding
@@ -128,7 +142,8 @@ chosen : ℕ → List Row → Finding → List ℕ
 chosen w rs v = onFinding v (padded (valuesOf w rs)) (λ r. replicate 24 0)
 
 pub refused : {w first count : ℕ} {values : List ℕ} {k : ℕ} → Reading w first count values k → k < count → {f : Field}
-    → f ≡ fieldRead w (rowAt (first + k)) → {x : Refusal} → f ≡ Field.Refused x → replicate 24 0 ≡ valuesRead w (rowsFrom first count)
+    → f ≡ fieldRead w (rowAt (first + k)) → {x : Refusal} → f ≡ Field.Refused x
+    → replicate 24 0 ≡ valuesRead w (rowsFrom first count)
 unfolding chosen
 refused {w} {first} {count} {values} {k} r h q t =
     sym (ap (chosen w (rowsFrom first count)) (next (r .checking) (rows-next first count k h) q t))
@@ -154,8 +169,10 @@ compose-starts vs first count =
     let e′ : count - 0 ≡ count = omega arith in
     record { bound = omega arith; whole = zero-add _ ∙ ap₂ (λ (i n : ℕ). composeOf (rowsFrom i n) vs) e e′ }
 
--- once the next row's lowest bit has been read: the machine's shift loses nothing, since the sum is below 2^32, and the next turn
-module _ {vs : List ℕ} {first count word k : ℕ} (r : Composing vs first count word k) (h : k < count) (few : count ≤ 24) (long : length vs ≡ 24)
+-- once the next row's lowest bit has been read: the machine's shift loses nothing, since the
+-- sum is below 2^32, and the next turn
+module _ {vs : List ℕ} {first count word k : ℕ} (r : Composing vs first count word k) (h : k < count) (few : count ≤ 24)
+    (long : length vs ≡ 24)
     (small : composeOf (rowsFrom first count) vs < 4294967296) {low : ℕ} (e : low ≡ rowAt (first + k) .low) where
   rest : ℕ
   rest = composeOf (rowsFrom (first + (k + 1)) (count - (k + 1))) (drop (k + 1) vs)
@@ -165,7 +182,8 @@ module _ {vs : List ℕ} {first count word k : ℕ} (r : Composing vs first coun
   split =
       ap (λ (n : ℕ). word + n)
       (sym
-      (ap₂ composeOf (rows-next first count k h) (drop-cons vs k 0 (omega arith) ∙ ap (λ (j : ℕ). getD vs k 0 ∷ drop j vs) (sym (add-one k)))
+      (ap₂ composeOf (rows-next first count k h)
+      (drop-cons vs k 0 (omega arith) ∙ ap (λ (j : ℕ). getD vs k 0 ∷ drop j vs) (sym (add-one k)))
       ∙ ap (λ (l : ℕ). getD vs k 0 * 2 ^ l + rest) (sym e)))
       ∙ r .whole
 
@@ -179,7 +197,8 @@ module _ {vs : List ℕ} {first count word k : ℕ} (r : Composing vs first coun
   unfolding rest
   compose-turn = rw exact (record { bound = omega arith; whole = omega (arith, split) })
 
-pub compose-ends : {vs : List ℕ} {first count word k : ℕ} → Composing vs first count word k → count ≤ k → word ≡ composeOf (rowsFrom first count) vs
+pub compose-ends : {vs : List ℕ} {first count word k : ℕ} → Composing vs first count word k → count ≤ k
+    → word ≡ composeOf (rowsFrom first count) vs
 compose-ends {vs} {first} {count} {word} {k} r h =
     let z : count - k ≡ 0 = omega arith in
     sym (add-zero word) ∙ ap (λ (n : ℕ). word + composeOf (rowsFrom (first + k) n) (drop k vs)) (sym z) ∙ r .whole

@@ -1,5 +1,5 @@
--- The rows cover each element's bits once, without gap or overlap, and admit only values that their fields can hold. Both as one test,
--- computed over the whole table.
+-- The rows cover each element's bits once, without gap or overlap, and admit only values that their fields can hold.
+-- Both as one test, computed over all rows.
 use mathlib.Core.Bool.{Bool, true, cond, _&&_}
 use mathlib.Core.List.{List, [], _∷_}
 use Prim.Native.Nat.{ℕ, zero, suc, _+_, _*_, _^_}
@@ -32,7 +32,7 @@ layoutGood l =
     ((leb (l .bytes) 4 && allFrom (λ (i : ℕ). eqb (numberAt i) (l .number)) (l .first) (l .count)) &&
     tiles 0 (layoutRows l) (8 * l .bytes))
 
--- the layouts' rows follow each other from row `at` on and are all rows of the table
+-- the layouts' rows follow each other from row `at` on and are all rows
 abbrev pub covers : ℕ → List Layout → Bool
 covers at [] = eqb at rowTotal
 covers at (l ∷ ls) = (eqb (l .first) at && layoutGood l) && covers (at + l .count) ls

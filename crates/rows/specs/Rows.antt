@@ -1,4 +1,5 @@
--- Every row of every layout in one constant table: 131 rows of layout, lowest bit, width and highest admitted value (0: reserved).
+-- Every row of every layout in one constant: 131 rows of layout, lowest bit, width and highest admitted value (0:
+-- reserved).
 -- Then the layouts: number, first row, number of rows, width in bytes, and whether bit 0 is DAT.
 -- Written by catalogue/write.py.
 use mathlib.Core.Bool.{Bool, true, false}
@@ -174,7 +175,7 @@ pub record Row : Type 0 where
   pub width : ℕ
   pub top : ℕ
 
--- the number at a place of the table
+-- the number at a place: four for each row
 abbrev pub cellAt : ℕ → ℕ
 cellAt place = getD cells place 0
 

@@ -1,4 +1,5 @@
--- An element's fields, from bit 0 up: a field's value by its row, the refusals 10 and 11, and the number composed of values.
+-- An element's fields, from bit 0 up: a field's value by its row, the refusals 10 and 11, and
+-- the number composed of values.
 use mathlib.Core.Bool.{Bool, true, false, cond}
 use mathlib.Core.List.{List, [], _∷_, _++_}
 use Prim.Native.Nat.{ℕ, zero, suc, _+_, _-_, _*_, _/_, _%_, _^_}

@@ -1,6 +1,6 @@
-// The floor of rows: one constant table of every field of every layout, reading one field or all fields of an element's number by
-// their rows, and composing a number of values. All arithmetic of elements is here, once for all rows. It knows no type by name, reads
-// no bytes and writes nothing.
+// The floor of rows: one constant with a row for every field of every layout, reading one field or all fields of an
+// element's number by their rows, and composing a number of values. All arithmetic of elements is here, once for all
+// rows. It knows no type by name, reads no bytes and writes nothing.
 mod catalogue;
 
 pub use catalogue::Cells;
@@ -12,7 +12,7 @@ ghost use Rattle.rows.specs.Rows.{cells, rowTotal, cellAt, rowAt, rowsFr
 ghost use Rattle.rows.specs.Values.{fieldRead, findingOf, checkRows, valuesRead, composeOf, bearing};
 ghost use Rattle.rows.specs.Marks.{carriesNone};
 
-// A layout: its number, where its rows are in the table, its width in bytes, and whether its bit 0 is DAT.
+// A layout: its number, which rows are its own, its width in bytes, and whether its bit 0 is DAT.
 pub struct Layout {
     pub number: u8,
     pub first: usize,
@@ -21,8 +21,8 @@ pub struct Layout {
     pub dat: bool,
 }
 
-// A layout's marks, for a glance at all fields at once: what is added to each field that doesn't admit every value, and the bits that
-// a value that isn't listed then carries into.
+// A layout's marks, for a glance at all fields at once: what is added to each field that doesn't admit every value, and
+// the bits that a value that isn't listed then carries into.
 pub struct Marks {
     pub add: u32,
     pub carry: u64,
@@ -46,14 +46,14 @@ pub enum Finding {
     Refused(Refusal),
 }
 
-// The table. Whoever reads many rows takes it once, since a constant is copied wherever it is named.
+// The rows' numbers. Whoever reads many rows takes them once, since a constant is copied wherever it is named.
 pub fn cells() -> Cells
     ensures { λ r. ⌜ r ≡ cells ⌝ }
 {
     ROWS
 }
 
-// The number at a place of the table.
+// The number at a place: four for each row.
 pub fn cell(rows: &Cells, place: usize) -> u8
     requires { ⌜ (now rows ≡ cells) × (place < 4 * rowTotal) ⌝ }
     ensures { λ r. ⌜ r ≡ cellAt place ⌝ }
@@ -61,7 +61,7 @@ pub fn cell(rows: &Cells, place: usize) -> u8
     rows[place]
 }
 
-// The field of an element's number that a row of the table describes.
+// The field of an element's number that a row describes.
 fn read_field(rows: &Cells, word: u32, row: usize) -> Field
     requires { ⌜ (now rows ≡ cells) × (row < rowTotal) ⌝ }
     ensures { λ r. ⌜ r ≡ fieldRead word (rowAt row) ⌝ }
@@ -109,7 +109,8 @@ pub fn read_rows(word: u32, first: usize, count: usize) -> [u32; 24]
     values
 }
 
-// What is found of an element's number by its layout: the rows from the first on, as long as they have the layout's number.
+// What is found of an element's number by its layout: the rows from the first on, as long as
+// they have the layout's number.
 pub fn check_rows(word: u32, number: u8, first: usize) -> Finding
     ensures { λ r. ⌜ r ≡ checkRows word (bearing number first (rowTotal - first)) ⌝ }
 {
@@ -128,8 +129,8 @@ pub fn check_rows(word: u32, number: u8, first: usize) -> Finding
     Finding::Accepted
 }
 
-// Whether adding the marks to an element's number carries nothing into a marked bit. With the marks of its rows, each field then has a
-// listed value.
+// Whether adding the marks to an element's number carries nothing into a marked bit. With the marks of its rows, each
+// field then has a listed value.
 pub fn carries_none(word: u32, marks: Marks) -> bool
     ensures { λ r. ⌜ r ≡ carriesNone (marks .add) (marks .carry) word ⌝ }
 {

@@ -1,7 +1,10 @@
--- Each layout's state by the bits of its word, as annexes 1 and 3 of NAS 831 print them: every field by its name, with its bit or bits.
+-- Each layout's state by the bits of its word, as annexes 1 and 3 of NAS 831 print them:
+-- every field by its name, with its bit or bits.
 -- Kept by hand and typed from the annex, whose line is beside each field; catalogue/write.py leaves this file alone.
--- `..-bits`: every word is read as this state. `..-words`: in each field wider than one bit, a word with a middle value has that named case.
--- Annex 3 prints types 2 to 7 with the same bits and values, some under other names: CV_EST, CVA_EST, CVX_EST, CVX_DIR, and CEJES of CV and CVX.
+-- `..-bits`: every word is read as this state. `..-words`: in each field wider than one bit, a
+-- word with a middle value has that named case.
+-- Annex 3 prints types 2 to 7 with the same bits and values, some under other names:
+-- CV_EST, CVA_EST, CVX_EST, CVX_DIR, and CEJES of CV and CVX.
 -- Assumes nothing.
 use mathlib.Core.Path.{_≡_, refl}
 use mathlib.Core.Bool.{Bool, false, cond}
@@ -12,7 +15,11 @@ use Rattle.rows.specs.Rows.{cells, layout, layouts}
 use Rattle.rows.specs.Covering.{layoutRows}
 use Rattle.rows.specs.Values.{valuesOf, padded}
 use Rattle.rows.specs.declared.Layout.{Layout}
-use Rattle.cases.specs.Cases.{signalKindOf, signalAspectOf, mixedGaugeIndicationOf, autoRouteIndicationOf, changerAspectOf, boardAspectOf, sectionOccupancyOf, overlapOf, gaugePresenceOf, pointsSectionOccupancyOf, legOccupancyOf, legShownOf, pointsDetectionOf, pointsLockingOf, heaterIndicationOf, earthFaultIndicationOf, boundaryMovementOf, autoRouteOf, routerIndicationOf}
+use Rattle.cases.specs.Cases.{signalKindOf, signalAspectOf, mixedGaugeIndicationOf, autoRouteIndicationOf}
+use Rattle.cases.specs.Cases.{changerAspectOf, boardAspectOf, sectionOccupancyOf, overlapOf, gaugePresenceOf}
+use Rattle.cases.specs.Cases.{pointsSectionOccupancyOf, legOccupancyOf, legShownOf, pointsDetectionOf, pointsLockingOf}
+use Rattle.cases.specs.Cases.{heaterIndicationOf, earthFaultIndicationOf, boundaryMovementOf, autoRouteOf}
+use Rattle.cases.specs.Cases.{routerIndicationOf}
 use Rattle.cases.specs.declared.SignalKind.{SignalKind}
 use Rattle.cases.specs.declared.SignalAspect.{SignalAspect}
 use Rattle.cases.specs.declared.MixedGaugeIndication.{MixedGaugeIndication}
@@ -32,7 +39,9 @@ use Rattle.cases.specs.declared.EarthFaultIndication.{EarthFaultIndication}
 use Rattle.cases.specs.declared.BoundaryMovement.{BoundaryMovement}
 use Rattle.cases.specs.declared.AutoRoute.{AutoRoute}
 use Rattle.cases.specs.declared.RouterIndication.{RouterIndication}
-use Rattle.states.specs.States.{signalOf, changerSignalOf, virtualBoardOf, lineTrackCircuitOf, pointsTrackCircuitOf, crossingTrackCircuitOf, dualDetectionOf, pointsOf, electricLockOf, generalNoticesOf, controlBoundaryOf, signalV3Of}
+use Rattle.states.specs.States.{signalOf, changerSignalOf, virtualBoardOf, lineTrackCircuitOf}
+use Rattle.states.specs.States.{pointsTrackCircuitOf, crossingTrackCircuitOf, dualDetectionOf, pointsOf}
+use Rattle.states.specs.States.{electricLockOf, generalNoticesOf, controlBoundaryOf, signalV3Of}
 use Rattle.states.specs.declared.signal.Signal.{Signal}
 use Rattle.states.specs.declared.changer_signal.ChangerSignal.{ChangerSignal}
 use Rattle.states.specs.declared.virtual_board.VirtualBoard.{VirtualBoard}
@@ -313,7 +322,8 @@ pub control-boundary-bits : (w : ℕ) → controlBoundaryOf (values 23 w) ≡ co
 unfolding cells layouts
 control-boundary-bits w = refl
 
-pub control-boundary-words : (controlBoundaryOf (values 23 0x000D) .«entry_movement» ≡ BoundaryMovement.OverrideSignalPending)
+pub control-boundary-words : (controlBoundaryOf (values 23 0x000D) .«entry_movement»
+    ≡ BoundaryMovement.OverrideSignalPending)
     × (controlBoundaryOf (values 23 0x0101) .«exit_movement» ≡ BoundaryMovement.OverrideSignalOpen)
 unfolding cells layouts
 control-boundary-words = (refl, refl)

@@ -1,4 +1,5 @@
--- For each layout: a state made from values keeps the listed ones (the others become 0), and a state's values make that state again.
+-- For each layout: a state made from values keeps the listed ones (the others become 0), and a
+-- state's values make that state again.
 -- Written by catalogue/write.py. Assumes nothing.
 use mathlib.Core.Path.{_≡_}
 use mathlib.Core.List.{List, [], _∷_}
@@ -7,8 +8,24 @@ use lib.ListN.{getD}
 use Rattle.rows.specs.Rows.{cells, rowsFrom}
 use Rattle.rows.specs.Values.{padded}
 use Rattle.rows.proofs.Listed.{listedFrom, bit-listed, bit-back, reserved-listed}
-use Rattle.cases.proofs.CaseLaws.{signalKind-listed, signalKind-back, signalAspect-listed, signalAspect-back, mixedGaugeIndication-listed, mixedGaugeIndication-back, autoRouteIndication-listed, autoRouteIndication-back, changerAspect-listed, changerAspect-back, boardAspect-listed, boardAspect-back, sectionOccupancy-listed, sectionOccupancy-back, overlap-listed, overlap-back, gaugePresence-listed, gaugePresence-back, pointsSectionOccupancy-listed, pointsSectionOccupancy-back, legOccupancy-listed, legOccupancy-back, legShown-listed, legShown-back, pointsDetection-listed, pointsDetection-back, pointsLocking-listed, pointsLocking-back, heaterIndication-listed, heaterIndication-back, earthFaultIndication-listed, earthFaultIndication-back, boundaryMovement-listed, boundaryMovement-back, autoRoute-listed, autoRoute-back, routerIndication-listed, routerIndication-back}
-use Rattle.states.specs.States.{signalOf, signalValues, changerSignalOf, changerSignalValues, virtualBoardOf, virtualBoardValues, lineTrackCircuitOf, lineTrackCircuitValues, pointsTrackCircuitOf, pointsTrackCircuitValues, crossingTrackCircuitOf, crossingTrackCircuitValues, dualDetectionOf, dualDetectionValues, pointsOf, pointsValues, electricLockOf, electricLockValues, generalNoticesOf, generalNoticesValues, controlBoundaryOf, controlBoundaryValues, signalV3Of, signalV3Values}
+use Rattle.cases.proofs.CaseLaws.{signalKind-listed, signalKind-back, signalAspect-listed, signalAspect-back}
+use Rattle.cases.proofs.CaseLaws.{mixedGaugeIndication-listed, mixedGaugeIndication-back, autoRouteIndication-listed}
+use Rattle.cases.proofs.CaseLaws.{autoRouteIndication-back, changerAspect-listed, changerAspect-back}
+use Rattle.cases.proofs.CaseLaws.{boardAspect-listed, boardAspect-back, sectionOccupancy-listed, sectionOccupancy-back}
+use Rattle.cases.proofs.CaseLaws.{overlap-listed, overlap-back, gaugePresence-listed, gaugePresence-back}
+use Rattle.cases.proofs.CaseLaws.{pointsSectionOccupancy-listed, pointsSectionOccupancy-back, legOccupancy-listed}
+use Rattle.cases.proofs.CaseLaws.{legOccupancy-back, legShown-listed, legShown-back, pointsDetection-listed}
+use Rattle.cases.proofs.CaseLaws.{pointsDetection-back, pointsLocking-listed, pointsLocking-back}
+use Rattle.cases.proofs.CaseLaws.{heaterIndication-listed, heaterIndication-back, earthFaultIndication-listed}
+use Rattle.cases.proofs.CaseLaws.{earthFaultIndication-back, boundaryMovement-listed, boundaryMovement-back}
+use Rattle.cases.proofs.CaseLaws.{autoRoute-listed, autoRoute-back, routerIndication-listed, routerIndication-back}
+use Rattle.states.specs.States.{signalOf, signalValues, changerSignalOf, changerSignalValues, virtualBoardOf}
+use Rattle.states.specs.States.{virtualBoardValues, lineTrackCircuitOf, lineTrackCircuitValues}
+use Rattle.states.specs.States.{pointsTrackCircuitOf, pointsTrackCircuitValues, crossingTrackCircuitOf}
+use Rattle.states.specs.States.{crossingTrackCircuitValues, dualDetectionOf, dualDetectionValues, pointsOf}
+use Rattle.states.specs.States.{pointsValues, electricLockOf, electricLockValues, generalNoticesOf}
+use Rattle.states.specs.States.{generalNoticesValues, controlBoundaryOf, controlBoundaryValues, signalV3Of}
+use Rattle.states.specs.States.{signalV3Values}
 use Rattle.states.specs.declared.signal.Signal.{Signal}
 use Rattle.states.specs.declared.changer_signal.ChangerSignal.{ChangerSignal}
 use Rattle.states.specs.declared.virtual_board.VirtualBoard.{VirtualBoard}
@@ -111,7 +128,8 @@ virtualBoard-back s = λ i. record {
   «closing_commanded» = bit-back (s .«closing_commanded») i;
 }
 
-pub lineTrackCircuit-listed : (vs : List ℕ) → lineTrackCircuitValues (lineTrackCircuitOf vs) ≡ listedFrom 0 (rowsFrom 31 11) vs
+pub lineTrackCircuit-listed : (vs : List ℕ)
+    → lineTrackCircuitValues (lineTrackCircuitOf vs) ≡ listedFrom 0 (rowsFrom 31 11) vs
 unfolding cells
 lineTrackCircuit-listed vs =
     λ i.
@@ -142,7 +160,8 @@ lineTrackCircuit-back s = λ i. record {
   «sequence_lost» = bit-back (s .«sequence_lost») i;
 }
 
-pub pointsTrackCircuit-listed : (vs : List ℕ) → pointsTrackCircuitValues (pointsTrackCircuitOf vs) ≡ listedFrom 0 (rowsFrom 42 11) vs
+pub pointsTrackCircuit-listed : (vs : List ℕ)
+    → pointsTrackCircuitValues (pointsTrackCircuitOf vs) ≡ listedFrom 0 (rowsFrom 42 11) vs
 unfolding cells
 pointsTrackCircuit-listed vs =
     λ i.
@@ -171,7 +190,8 @@ pointsTrackCircuit-back s = λ i. record {
   «sequence_lost» = bit-back (s .«sequence_lost») i;
 }
 
-pub crossingTrackCircuit-listed : (vs : List ℕ) → crossingTrackCircuitValues (crossingTrackCircuitOf vs) ≡ listedFrom 0 (rowsFrom 53 12) vs
+pub crossingTrackCircuit-listed : (vs : List ℕ)
+    → crossingTrackCircuitValues (crossingTrackCircuitOf vs) ≡ listedFrom 0 (rowsFrom 53 12) vs
 unfolding cells
 crossingTrackCircuit-listed vs =
     λ i.
@@ -189,7 +209,8 @@ crossingTrackCircuit-listed vs =
     reserved-listed (getD vs 11 0) i ∷
     []
 
-pub crossingTrackCircuit-back : (s : CrossingTrackCircuit) → crossingTrackCircuitOf (padded (crossingTrackCircuitValues s)) ≡ s
+pub crossingTrackCircuit-back : (s : CrossingTrackCircuit)
+    → crossingTrackCircuitOf (padded (crossingTrackCircuitValues s)) ≡ s
 crossingTrackCircuit-back s = λ i. record {
   current = bit-back (s .current) i;
   «special_command_pending» = bit-back (s .«special_command_pending») i;
@@ -306,7 +327,8 @@ generalNotices-back s = λ i. record {
   «earth_fault» = earthFaultIndication-back (s .«earth_fault») i;
 }
 
-pub controlBoundary-listed : (vs : List ℕ) → controlBoundaryValues (controlBoundaryOf vs) ≡ listedFrom 0 (rowsFrom 98 9) vs
+pub controlBoundary-listed : (vs : List ℕ)
+    → controlBoundaryValues (controlBoundaryOf vs) ≡ listedFrom 0 (rowsFrom 98 9) vs
 unfolding cells
 controlBoundary-listed vs =
     λ i.

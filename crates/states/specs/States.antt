@@ -5,7 +5,15 @@ use Prim.Native.Nat.{ℕ}
 use lib.ListN.{getD}
 use lib.Dec.{eqb}
 use Rattle.rows.specs.Values.{bitNo}
-use Rattle.cases.specs.Cases.{signalKindOf, signalKindNo, signalAspectOf, signalAspectNo, mixedGaugeIndicationOf, mixedGaugeIndicationNo, autoRouteIndicationOf, autoRouteIndicationNo, changerAspectOf, changerAspectNo, boardAspectOf, boardAspectNo, sectionOccupancyOf, sectionOccupancyNo, overlapOf, overlapNo, gaugePresenceOf, gaugePresenceNo, pointsSectionOccupancyOf, pointsSectionOccupancyNo, legOccupancyOf, legOccupancyNo, legShownOf, legShownNo, pointsDetectionOf, pointsDetectionNo, pointsLockingOf, pointsLockingNo, heaterIndicationOf, heaterIndicationNo, earthFaultIndicationOf, earthFaultIndicationNo, boundaryMovementOf, boundaryMovementNo, autoRouteOf, autoRouteNo, routerIndicationOf, routerIndicationNo}
+use Rattle.cases.specs.Cases.{signalKindOf, signalKindNo, signalAspectOf, signalAspectNo, mixedGaugeIndicationOf}
+use Rattle.cases.specs.Cases.{mixedGaugeIndicationNo, autoRouteIndicationOf, autoRouteIndicationNo, changerAspectOf}
+use Rattle.cases.specs.Cases.{changerAspectNo, boardAspectOf, boardAspectNo, sectionOccupancyOf, sectionOccupancyNo}
+use Rattle.cases.specs.Cases.{overlapOf, overlapNo, gaugePresenceOf, gaugePresenceNo, pointsSectionOccupancyOf}
+use Rattle.cases.specs.Cases.{pointsSectionOccupancyNo, legOccupancyOf, legOccupancyNo, legShownOf, legShownNo}
+use Rattle.cases.specs.Cases.{pointsDetectionOf, pointsDetectionNo, pointsLockingOf, pointsLockingNo}
+use Rattle.cases.specs.Cases.{heaterIndicationOf, heaterIndicationNo, earthFaultIndicationOf, earthFaultIndicationNo}
+use Rattle.cases.specs.Cases.{boundaryMovementOf, boundaryMovementNo, autoRouteOf, autoRouteNo, routerIndicationOf}
+use Rattle.cases.specs.Cases.{routerIndicationNo}
 use Rattle.states.specs.declared.Bits.{Bits}
 use Rattle.states.specs.declared.signal.Signal.{Signal}
 use Rattle.states.specs.declared.changer_signal.ChangerSignal.{ChangerSignal}

@@ -1,8 +1,8 @@
-// The floor of states: for each layout a module with its struct of named fields, its width in bytes, its state without data if bit 0
-// is DAT, and the way from a state to its fields' values in the rows' order and back. Written by catalogue/write.py from
-// catalogue/fields.tsv. It checks nothing. The comment beside a field is its mnemonic in the first annex that prints the layout. All
-// bits are read in one place, `bits_of`: the check of a function takes its steps times its locals, and a field copied from there adds
-// to neither.
+// The floor of states: for each layout a module with its struct of named fields, its width in bytes, its state without
+// data if bit 0 is DAT, and the way from a state to its fields' values in the rows' order and back. Written by
+// catalogue/write.py from catalogue/fields.tsv. It checks nothing. The comment beside a field is its mnemonic in the
+// first annex that prints the layout. All bits are read in one place, `bits_of`: the check of a function takes its
+// steps times its locals, and a field copied from there adds to neither.
 mod changer_signal;
 mod control_boundary;
 mod crossing_track_circuit;

@@ -16,7 +16,8 @@ use Rattle.history.specs.declared.Change.{Change}
 use Rattle.history.specs.declared.Change.the-variants.{Keep as keep, Swap as swap}
 use Rattle.history.specs.Changes.{entries, differ, meets, joined, back}
 use Rattle.steps.specs.declared.Walk.{Walk}
-use Rattle.steps.specs.Steps.{span, entryBytes, names, countIf, sizeIf, saidIf, changeAt, isSwap, stepOf, Stepped, Silent, Idle, renewed}
+use Rattle.steps.specs.Steps.{span, entryBytes, names, countIf, sizeIf, saidIf, changeAt, isSwap, stepOf, Stepped}
+use Rattle.steps.specs.Steps.{Silent, Idle, renewed}
 
 -- ---- an entry at a cursor
 
@@ -39,7 +40,8 @@ module _ (l : List ℕ) (at i w : ℕ) where
   unfolding names
   names-cut h = rw (length-drop, lt-leb (2 + (w + w)) (length l - at) h)
 
-  pub names-whole : {n : ℕ} → 2 + (w + w) ≤ length l - at → n ≡ number (take 2 (drop at l)) → eqb n i ≡ names i w (drop at l)
+  pub names-whole : {n : ℕ} → 2 + (w + w) ≤ length l - at → n ≡ number (take 2 (drop at l))
+      → eqb n i ≡ names i w (drop at l)
   unfolding names
   names-whole h e = rw (length-drop, le-leb (2 + (w + w)) (length l - at) h, ← e)
 
@@ -61,10 +63,12 @@ unfolding changeAt
 span-room i w b = omega (arith, size-room i w b, span-said (names i w b) w b)
 
 -- the entry at cursor p ends within the bytes
-pub said-inside : (l : List ℕ) (p i w : ℕ) {c : Change} {m : ℕ} → p ≤ length l → c ≡ changeAt i w (drop p l) → m ≡ span w c → p + m ≤ length l
+pub said-inside : (l : List ℕ) (p i w : ℕ) {c : Change} {m : ℕ} → p ≤ length l → c ≡ changeAt i w (drop p l)
+    → m ≡ span w c → p + m ≤ length l
 said-inside l p i w h ec em = omega (arith, span-room i w (drop p l), length-drop p l, em ∙ ap (span w) ec)
 
-pub names-inside : (l : List ℕ) (p i w : ℕ) {t : Bool} → p ≤ length l → t ≡ names i w (drop p l) → p + sizeIf t w ≤ length l
+pub names-inside : (l : List ℕ) (p i w : ℕ) {t : Bool} → p ≤ length l → t ≡ names i w (drop p l)
+    → p + sizeIf t w ≤ length l
 names-inside l p i w h e = omega (arith, size-room i w (drop p l), length-drop p l, ap (λ (u : Bool). sizeIf u w) e)
 
 -- where the entry is known to be there: its old element, its new one, and both
@@ -78,7 +82,8 @@ module _ {t : Bool} (e : t ≡ true) (w p n : ℕ) (h : p + sizeIf t w ≤ n) wh
   pub new-there : p + 2 + w + w ≤ n
   new-there = omega (arith, whole)
 
-pub said-swap : {t : Bool} → t ≡ true → (w p : ℕ) (l : List ℕ) {old new : ℕ} → old ≡ number (take w (drop (p + 2) l)) → new ≡ number (take w (drop (p + 2 + w) l))
+pub said-swap : {t : Bool} → t ≡ true → (w p : ℕ) (l : List ℕ) {old new : ℕ} → old ≡ number (take w (drop (p + 2) l))
+    → new ≡ number (take w (drop (p + 2 + w) l))
     → swap old new ≡ saidIf t w (drop p l)
 said-swap e w p l o m =
     let s : p + (2 + w) ≡ p + 2 + w = omega arith in
@@ -144,17 +149,20 @@ module _ {one other : Bool} (e : one ≡ true) (g : other ≡ true) (w p q : ℕ
   places : (n : ℕ) → n + (2 + w) ≡ n + 2 + w
   places n = omega arith
 
-  pub both-meet : {new old : ℕ} → new ≡ number (take w (drop (p + 2 + w) f)) → old ≡ number (take w (drop (q + 2) s)) → eqb new old ≡ meets (saidIf one w (drop p f)) (saidIf other w (drop q s))
+  pub both-meet : {new old : ℕ} → new ≡ number (take w (drop (p + 2 + w) f)) → old ≡ number (take w (drop (q + 2) s))
+      → eqb new old ≡ meets (saidIf one w (drop p f)) (saidIf other w (drop q s))
   both-meet a b = rw (e, g, drop-drop (2 + w) p f, places p, drop-drop 2 q s, a, b)
 
-  module _ {old new : ℕ} (a : old ≡ number (take w (drop (p + 2) f))) (b : new ≡ number (take w (drop (q + 2 + w) s))) where
+  module _ {old new : ℕ} (a : old ≡ number (take w (drop (p + 2) f)))
+      (b : new ≡ number (take w (drop (q + 2 + w) s))) where
     both-are : joined (saidIf one w (drop p f)) (saidIf other w (drop q s)) ≡ differ old new
     both-are = rw (e, g, drop-drop 2 p f, drop-drop (2 + w) q s, places q, a, b)
 
     pub both-join : not (eqb old new) ≡ isSwap (joined (saidIf one w (drop p f)) (saidIf other w (drop q s)))
     both-join = differ-swap old new ∙ sym (ap isSwap both-are)
 
-    pub both-joined : {r : Change} → r ≡ differ old new → r ≡ joined (saidIf one w (drop p f)) (saidIf other w (drop q s))
+    pub both-joined : {r : Change} → r ≡ differ old new
+        → r ≡ joined (saidIf one w (drop p f)) (saidIf other w (drop q s))
     both-joined p = p ∙ sym both-are
 
 -- ---- the step
@@ -167,9 +175,11 @@ module _ {i w : ℕ} {f : List ℕ} {p : ℕ} {s : List ℕ} {q : ℕ} where
   unfolding stepOf
   difference-step h k ea eb ec = record { is = rw (ec, ea, eb); near = h; far = k }
 
-  pub join-step : p ≤ length f → q ≤ length s → {one other : Bool} → one ≡ names i w (drop p f) → other ≡ names i w (drop q s)
+  pub join-step : p ≤ length f → q ≤ length s → {one other : Bool} → one ≡ names i w (drop p f)
+      → other ≡ names i w (drop q s)
       → {e : Change} {t : Bool} {m n : ℕ}
-      → e ≡ joined (saidIf one w (drop p f)) (saidIf other w (drop q s)) → t ≡ meets (saidIf one w (drop p f)) (saidIf other w (drop q s))
+      → e ≡ joined (saidIf one w (drop p f)) (saidIf other w (drop q s))
+      → t ≡ meets (saidIf one w (drop p f)) (saidIf other w (drop q s))
       → m ≡ sizeIf one w → n ≡ sizeIf other w
       → Stepped Walk.Join i w f p s q (record { change = e; agrees = t; first = m; second = n })
   unfolding stepOf changeAt
@@ -179,7 +189,8 @@ module _ {i w : ℕ} {f : List ℕ} {p : ℕ} {s : List ℕ} {q : ℕ} where
     far = omega (arith, names-inside s q i w k es, en);
   }
 
-  pub turn-step : p ≤ length f → q ≤ length s → {c d : Change} {m : ℕ} → c ≡ changeAt i w (drop p f) → d ≡ back c → m ≡ span w c
+  pub turn-step : p ≤ length f → q ≤ length s → {c d : Change} {m : ℕ} → c ≡ changeAt i w (drop p f) → d ≡ back c
+      → m ≡ span w c
       → Stepped Walk.Turn i w f p s q (record { change = d; agrees = true; first = m; second = 0 })
   unfolding stepOf
   turn-step h k ec ed em = record { is = rw (ed, em, ec); near = said-inside f p i w h ec em; far = omega arith }
@@ -195,7 +206,8 @@ size-swap w (swap old new) = refl
 
 -- ---- an element and an entry written
 
-pub renewed-put : (part : List ℕ) {ys : List ℕ} {old new : ℕ} {c : Change} → c ≡ swap old new → ys ≡ bytes (length part) new → ys ≡ renewed c part
+pub renewed-put : (part : List ℕ) {ys : List ℕ} {old new : ℕ} {c : Change} → c ≡ swap old new
+    → ys ≡ bytes (length part) new → ys ≡ renewed c part
 renewed-put part e p = p ∙ sym (ap (λ (d : Change). renewed d part) e)
 
 none : (xs : List ℕ) → length xs ≡ 0 → xs ≡ []
@@ -205,7 +217,8 @@ none (x ∷ xs) h = absurd (omega arith)
 pub entry-kept : (part : List ℕ) (i w : ℕ) {c : Change} → length part ≡ span w c → c ≡ keep → part ≡ entryBytes i w c
 entry-kept part i w l e = none part (l ∙ ap (span w) e) ∙ sym (ap (entryBytes i w) e)
 
-entry-done : (i w old new : ℕ) → (([] ++ bytes 2 i) ++ bytes (2 + w - 2) old) ++ bytes (2 + w + w - (2 + w)) new ≡ entryBytes i w (swap old new)
+entry-done : (i w old new : ℕ)
+    → (([] ++ bytes 2 i) ++ bytes (2 + w - 2) old) ++ bytes (2 + w + w - (2 + w)) new ≡ entryBytes i w (swap old new)
 entry-done i w old new =
     let m : 2 + w - 2 ≡ w = omega arith in
     let n : 2 + w + w - (2 + w) ≡ w = omega arith in
@@ -226,7 +239,8 @@ module _ (part : List ℕ) (w : ℕ) {old new : ℕ} {c : Change} (l : length pa
   pub new-inside : (b d : List ℕ) → length b ≡ length part → length d ≡ length b → 2 + w + w ≤ length d
   new-inside b d p q = omega (arith, long)
 
-  pub entry-put : (i : ℕ) {xs ys zs : List ℕ} → xs ≡ bytes (length (midOf 0 2 part)) i → ys ≡ bytes (length (midOf 2 (2 + w - 2) (putMid 0 2 part xs))) old
+  pub entry-put : (i : ℕ) {xs ys zs : List ℕ} → xs ≡ bytes (length (midOf 0 2 part)) i
+      → ys ≡ bytes (length (midOf 2 (2 + w - 2) (putMid 0 2 part xs))) old
       → zs ≡ bytes (length (midOf (2 + w) (2 + w + w - (2 + w)) (putMid 2 (2 + w - 2) (putMid 0 2 part xs) ys))) new
       → putMid (2 + w) (2 + w + w - (2 + w)) (putMid 2 (2 + w - 2) (putMid 0 2 part xs) ys) zs ≡ entryBytes i w c
   entry-put i p q r =
@@ -240,18 +254,22 @@ module _ (part : List ℕ) (w : ℕ) {old new : ℕ} {c : Change} (l : length pa
 module _ (l : List ℕ) (at i n : ℕ) (h : i ≤ n) where
   -- no entry is left
   pub silent-cut : length l - at < 2 → Silent i n n (drop at l)
-  silent-cut c = record { on = h; within = omega arith; says = λ k w _ _. says-cut (drop at l) k w (rw length-drop (omega arith)) }
+  silent-cut c =
+      record { on = h; within = omega arith; says = λ k w _ _. says-cut (drop at l) k w (rw length-drop (omega arith)) }
 
   -- the next entry names an object already passed, one past the end, or one between
   module _ {m : ℕ} (e : m ≡ number (take 2 (drop at l))) where
     pub silent-past : m < i → Silent i n n (drop at l)
-    silent-past c = record { on = h; within = omega arith; says = λ k w a b. says-nothing (drop at l) k w e (λ q. omega arith) }
+    silent-past c =
+        record { on = h; within = omega arith; says = λ k w a b. says-nothing (drop at l) k w e (λ q. omega arith) }
 
     pub silent-after : n < m → Silent i n n (drop at l)
-    silent-after c = record { on = h; within = omega arith; says = λ k w a b. says-nothing (drop at l) k w e (λ q. omega arith) }
+    silent-after c =
+        record { on = h; within = omega arith; says = λ k w a b. says-nothing (drop at l) k w e (λ q. omega arith) }
 
     pub silent-between : i ≤ m → m ≤ n → Silent i m n (drop at l)
-    silent-between c d = record { on = c; within = d; says = λ k w a b. says-nothing (drop at l) k w e (λ q. omega arith) }
+    silent-between c d =
+        record { on = c; within = d; says = λ k w a b. says-nothing (drop at l) k w e (λ q. omega arith) }
 
 -- where nothing is said, there is nothing to do
 pub idle-none : (walk : Walk) (i n : ℕ) (f s : List ℕ) → i ≤ n → Idle walk i i n f s

@@ -1,4 +1,5 @@
--- One object's step over two forms, on any bytes. A device between the code and the meaning, which is in `history`: the laws of `walks` tie it to the meaning where the bytes are those of accepted forms.
+-- One object's step over two forms, on any bytes. A device between the code and the meaning, which is in `history`:
+-- the laws of `walks` tie it to the meaning where the bytes are those of accepted forms.
 use Prim.Native.Nat.{ℕ, _+_, _≤_, _<_}
 use mathlib.Core.Path.{_≡_}
 use mathlib.Core.Bool.{Bool, true, false, cond, _&&_}
@@ -57,14 +58,16 @@ pub record Step : Type 0 where
 
 -- the step at object i, of width w, where f and s are what remains of the two forms
 unfoldable pub stepOf : Walk → ℕ → ℕ → List ℕ → List ℕ → Step
-stepOf Walk.Difference i w f s = record { change = differ (number (take w f)) (number (take w s)); agrees = true; first = w; second = w }
+stepOf Walk.Difference i w f s =
+    record { change = differ (number (take w f)) (number (take w s)); agrees = true; first = w; second = w }
 stepOf Walk.Join i w f s = record {
   change = joined (changeAt i w f) (changeAt i w s);
   agrees = meets (changeAt i w f) (changeAt i w s);
   first = span w (changeAt i w f);
   second = span w (changeAt i w s);
 }
-stepOf Walk.Turn i w f s = record { change = back (changeAt i w f); agrees = true; first = span w (changeAt i w f); second = 0 }
+stepOf Walk.Turn i w f s =
+    record { change = back (changeAt i w f); agrees = true; first = span w (changeAt i w f); second = 0 }
 
 -- the step taken with the cursors at p and q: neither leaves its form
 pub record Stepped (walk : Walk) (i w : ℕ) (f : List ℕ) (p : ℕ) (s : List ℕ) (q : ℕ) (r : Step) : Type 0 where
@@ -78,7 +81,8 @@ pub record Silent (i j n : ℕ) (b : List ℕ) : Type 0 where
   pub within : j ≤ n
   pub says : (k w : ℕ) → i ≤ k → k < j → changeAt k w b ≡ keep
 
--- the step where there is nothing to do; and that it is the step at each object from i to below j, where f and s are what remains of the two forms
+-- the step where there is nothing to do; and that it is the step at each object from i to below
+-- j, where f and s are what remains of the two forms
 abbrev pub idle : Step
 idle = record { change = keep; agrees = true; first = 0; second = 0 }
 

@@ -1,6 +1,7 @@
-// One object's part in the four operations on change lists: its change is found and written, and the next object is found. A
-// difference compares the elements of two images; a join, the entries of two lists. Turning back takes the entry of one list;
-// application, an entry and an element. It takes any bytes, refuses nothing and knows no form's head.
+// One object's part in the four operations on change lists: its change is found and written, and the next object is
+// found. A difference compares the elements of two images; a join, the entries of two lists. Turning back takes the
+// entry of one list; application, an entry and an element. It takes any bytes, refuses nothing
+// and knows no form's head.
 use forms::kind_at;
 use history::Change;
 ghost use mathlib.Core.Path.{_≡_};
@@ -10,7 +11,8 @@ ghost use Rattle.kinds.specs.Kinds.{widthOf};
 ghost use Rattle.history.specs.Table.{kindAt};
 ghost use Rattle.history.specs.Changes.{differ, fits, meets, joined, back};
 ghost use Rattle.tables.specs.Outlines.{kindsOf};
-ghost use Rattle.steps.specs.Steps.{span, entryBytes, names, countIf, sizeIf, saidIf, changeAt, isSwap, Silent, Idle, renewed};
+ghost use Rattle.steps.specs.Steps.{span, entryBytes, names, countIf, sizeIf, saidIf, changeAt, isSwap, Silent};
+ghost use Rattle.steps.specs.Steps.{Idle, renewed};
 
 // The operations that make a list; each is a walk over the objects.
 pub enum Walk {
@@ -37,7 +39,8 @@ pub fn next(
     first_named(second, far, object, one)
 }
 
-// The object that the entries from a place on name first; the end, if that object is not between the given one and the end.
+// The object that the entries from a place on name first; the end, if that object is not
+// between the given one and the end.
 pub fn first_named(entries: &[u8], at: usize, object: usize, end: usize) -> usize
     requires { ⌜ (at ≤ length (now entries)) × (object ≤ end) ⌝ }
     ensures { λ r. ⌜ Silent object r end (drop at (now (entries .entry))) ⌝ }
@@ -114,7 +117,8 @@ pub fn change_at(entries: &[u8], at: usize, object: usize, width: usize) -> Chan
     said_if(named, entries, at, width)
 }
 
-// ---- an object in two lists, where it is known which of them name it: elements are read only where they are compared or kept
+// ---- an object in two lists, where it is known which of them name it:
+// elements are read only where they are compared or kept
 
 // Whether the lists agree on the object: if both name it, the first's new must be the second's old.
 pub fn meet_at(
@@ -126,8 +130,11 @@ pub fn meet_at(
     second: &[u8],
     far: usize,
 ) -> bool
-    requires { ⌜ (near + sizeIf one width ≤ length (now first)) × (far + sizeIf other width ≤ length (now second)) × (width ≤ 4) ⌝ }
-    ensures { λ r. ⌜ r ≡ meets (saidIf one width (drop near (now (first .entry)))) (saidIf other width (drop far (now (second .entry)))) ⌝ }
+    requires { ⌜ (near + sizeIf one width ≤ length (now first)) × (far + sizeIf other width ≤ length (now second))
+        × (width ≤ 4) ⌝ }
+    ensures { λ r.
+        ⌜ r ≡ meets (saidIf one width (drop near (now (first .entry))))
+        (saidIf other width (drop far (now (second .entry)))) ⌝ }
 {
     if !one {
         return true;
@@ -150,8 +157,12 @@ pub fn join_names(
     second: &[u8],
     far: usize,
 ) -> bool
-    requires { ⌜ (near + sizeIf one width ≤ length (now first)) × (far + sizeIf other width ≤ length (now second)) × (width ≤ 4) ⌝ }
-    ensures { λ r. ⌜ r ≡ isSwap (joined (saidIf one width (drop near (now (first .entry)))) (saidIf other width (drop far (now (second .entry))))) ⌝ }
+    requires { ⌜ (near + sizeIf one width ≤ length (now first)) × (far + sizeIf other width ≤ length (now second))
+        × (width ≤ 4) ⌝ }
+    ensures { λ r.
+        ⌜ r ≡ isSwap
+        (joined (saidIf one width (drop near (now (first .entry))))
+        (saidIf other width (drop far (now (second .entry))))) ⌝ }
 {
     if !one {
         return other;
@@ -164,7 +175,8 @@ pub fn join_names(
     old != new
 }
 
-// The object's change in the join. In both lists: the first's old and the second's new, dropped if these are equal; in one: copied.
+// The object's change in the join. In both lists: the first's old and the second's new, dropped if these are equal;
+// in one: copied.
 pub fn join_change(
     one: bool,
     other: bool,
@@ -174,8 +186,11 @@ pub fn join_change(
     second: &[u8],
     far: usize,
 ) -> Change
-    requires { ⌜ (near + sizeIf one width ≤ length (now first)) × (far + sizeIf other width ≤ length (now second)) × (width ≤ 4) ⌝ }
-    ensures { λ r. ⌜ r ≡ joined (saidIf one width (drop near (now (first .entry)))) (saidIf other width (drop far (now (second .entry)))) ⌝ }
+    requires { ⌜ (near + sizeIf one width ≤ length (now first)) × (far + sizeIf other width ≤ length (now second))
+        × (width ≤ 4) ⌝ }
+    ensures { λ r.
+        ⌜ r ≡ joined (saidIf one width (drop near (now (first .entry))))
+        (saidIf other width (drop far (now (second .entry)))) ⌝ }
 {
     if !one {
         return said_if(other, second, far, width);

@@ -14,7 +14,8 @@ pub yes : {t u : Bool} → t ≡ u → not t ≡ false → u ≡ true
 yes {t} {u} e h = sym e ∙ not-false t h
 
 -- the answer of a verdict that is known
-pub told-refused : {A : Type 0} (v : Verdict A) {x : Refused} {r : Answer} → v ≡ refused x → r ≡ numbers x 0 → r ≡ told v
+pub told-refused : {A : Type 0} (v : Verdict A) {x : Refused} {r : Answer} → v ≡ refused x → r ≡ numbers x 0
+    → r ≡ told v
 unfolding told
 told-refused v e q = rw e q
 
@@ -35,6 +36,7 @@ told-then (refused r) f = refl
 told-then (done a) f = refl
 
 -- what follows may use the value
-pub then-same : {A B : Type 0} (v : Verdict A) (f g : A → Verdict B) → ((a : A) → v ≡ done a → f a ≡ g a) → then v f ≡ then v g
+pub then-same : {A B : Type 0} (v : Verdict A) (f g : A → Verdict B) → ((a : A) → v ≡ done a → f a ≡ g a)
+    → then v f ≡ then v g
 then-same (refused r) f g h = refl
 then-same (done a) f g h = h a refl

@@ -52,12 +52,15 @@ pub record Chained (b : List ℕ) (k : ℕ) (lasts links starts : List ℕ) : Ty
 
 pub chain-begins : (b : List ℕ) → Chained b 0 (replicate 1024 0) (replicate 1024 0) (replicate 1024 0)
 chain-begins b =
-    let zero-at : (i : ℕ) → i < 1024 → getD (replicate {A = ℕ} 1024 0) i 0 ≡ 0 = λ i l. getD-replicate {A = ℕ} 1024 i 0 0 l in
+    let zero-at : (i : ℕ) → i < 1024 → getD (replicate {A = ℕ} 1024 0) i 0 ≡ 0 =
+    λ i l. getD-replicate {A = ℕ} 1024 i 0 0 l in
     record {
       lasts-room = length-replicate {A = ℕ} 1024 0;
       links-room = length-replicate {A = ℕ} 1024 0;
       starts-room = length-replicate {A = ℕ} 1024 0;
-      head = λ h l. rw (zero-at h l) (record { low = omega arith; skip = λ i lo hi. absurd (omega arith); is = λ i e. absurd (omega arith) });
+      head =
+          λ h l. rw (zero-at h l)
+          (record { low = omega arith; skip = λ i lo hi. absurd (omega arith); is = λ i e. absurd (omega arith) });
       link = λ i l. absurd (omega arith);
       start = λ i l. absurd (omega arith);
       none = λ l. (zero-at 0 (omega arith), zero-at 0 (omega arith));
@@ -65,12 +68,20 @@ chain-begins b =
 
 module _ (b : List ℕ) (k : ℕ) where
   last-here : Last b (hash b k) (k + 1) (k + 1)
-  last-here = record { low = omega arith; skip = λ i lo hi. absurd (omega arith); is = λ i f. let s : i ≡ k = omega arith in ap (hash b) s }
+  last-here =
+      record {
+        low = omega arith;
+        skip = λ i lo hi. absurd (omega arith);
+        is = λ i f. let s : i ≡ k = omega arith in
+            ap (hash b) s;
+      }
 
   last-other : (h l : ℕ) → (h ≡ hash b k → ⊥) → Last b h k l → Last b h (k + 1) l
   last-other h l n p = record {
     low = omega (arith, p .low);
-    skip = λ i lo hi f. ⊎-elim (λ s. n (sym f ∙ ap (hash b) s)) (λ lt. p .skip i lo lt f) (let y : i ≤ k = omega arith in eq-or-lt-of-le y);
+    skip =
+        λ i lo hi f. ⊎-elim (λ s. n (sym f ∙ ap (hash b) s)) (λ lt. p .skip i lo lt f)
+        (let y : i ≤ k = omega arith in eq-or-lt-of-le y);
     is = p .is;
   }
 
@@ -81,13 +92,20 @@ module _ {b : List ℕ} {k : ℕ} {lasts links starts : List ℕ} (c : Chained b
 
   module _ (j : ℕ) (m : j ≤ k) where
     pub link-low : getD links (j - 1) 0 ≤ j - 1
-    link-low = ⊎-elim (λ e. let first : j - 1 ≡ 0 = omega arith in rw first (omega (arith, c .none (omega arith) .0))) (λ l. c .link (j - 1) (omega arith) .low) (eq-zero-or-pos k)
+    link-low =
+        ⊎-elim (λ e. let first : j - 1 ≡ 0 = omega arith in rw first (omega (arith, c .none (omega arith) .0)))
+        (λ l. c .link (j - 1) (omega arith) .low) (eq-zero-or-pos k)
 
     pub start-low : (at : ℕ) → at ≡ placeOf b k → getD starts (j - 1) 0 + 2 ≤ at
     start-low at e =
         ⊎-elim
-        (λ z. let first : j - 1 ≡ 0 = omega arith in rw first (omega (arith, c .none (omega arith) .1, place-behind b k at e)))
-        (λ l. omega (arith, place-before b (j - 1) k (getD starts (j - 1) 0) at _ (omega arith) (c .start (j - 1) (omega arith)) e refl))
+        (λ z. let first : j - 1 ≡ 0 = omega arith in
+        rw first (omega (arith, c .none (omega arith) .1, place-behind b k at e)))
+        (λ l. omega (
+          arith,
+          place-before b (j - 1) k (getD starts (j - 1) 0) at _ (omega arith)
+              (c .start (j - 1) (omega arith)) e refl,
+        ))
         (eq-zero-or-pos k)
 
   -- one more entry, of hash h, at its place
@@ -98,8 +116,14 @@ module _ {b : List ℕ} {k : ℕ} {lasts links starts : List ℕ} (c : Chained b
     links-room = length-set links k (getD lasts h 0) ∙ c .links-room;
     starts-room = length-set starts k at ∙ c .starts-room;
     head = λ x l. head-at x l (eqb x h) refl;
-    link = λ i l. ⊎-elim (λ s. link-here i s) (λ lt. rw (getD-set-other links k i (getD lasts h 0) 0 (λ s. omega arith)) (c .link i lt)) (let y : i ≤ k = omega arith in eq-or-lt-of-le y);
-    start = λ i l. ⊎-elim (λ s. rw s (getD-set-same starts k at 0 (omega (arith, c .starts-room)) ∙ p)) (λ lt. getD-set-other starts k i at 0 (λ s. omega arith) ∙ c .start i lt) (let y : i ≤ k = omega arith in eq-or-lt-of-le y);
+    link =
+        λ i l. ⊎-elim (λ s. link-here i s)
+        (λ lt. rw (getD-set-other links k i (getD lasts h 0) 0 (λ s. omega arith)) (c .link i lt))
+        (let y : i ≤ k = omega arith in eq-or-lt-of-le y);
+    start =
+        λ i l. ⊎-elim (λ s. rw s (getD-set-same starts k at 0 (omega (arith, c .starts-room)) ∙ p))
+        (λ lt. getD-set-other starts k i at 0 (λ s. omega arith) ∙ c .start i lt)
+        (let y : i ≤ k = omega arith in eq-or-lt-of-le y);
     none = λ l. absurd (omega arith);
   }
     where
@@ -112,7 +136,9 @@ module _ {b : List ℕ} {k : ℕ} {lasts links starts : List ℕ} (c : Chained b
           rw (s, getD-set-same lasts h (k + 1) 0 (omega (arith, c .lasts-room)), e) (last-here b k)
       head-at x l false t =
           let n = eqb-false x h t in
-          rw (getD-set-other lasts h x (k + 1) 0 n) (last-other b k x (getD lasts x 0) (λ f. n (f ∙ sym e)) (c .head x l))
+          rw (getD-set-other lasts h x (k + 1) 0 n)
+          (last-other b k x (getD lasts x 0) (λ f. n (f ∙ sym e)) (c .head x l))
 
       link-here : (i : ℕ) → i ≡ k → Last b (hash b i) i (getD (set links k (getD lasts h 0)) i 0)
-      link-here i s = rw (s, getD-set-same links k (getD lasts h 0) 0 (omega (arith, c .links-room)), ← e) (c .head h small)
+      link-here i s =
+          rw (s, getD-set-same links k (getD lasts h 0) 0 (omega (arith, c .links-room)), ← e) (c .head h small)

@@ -21,16 +21,19 @@ use Rattle.tables.proofs.LabelLaws.{was-bad, was-good, hash-few}
 
 -- ---- what checking an entry gives
 
-pub refuses : (hash : ℕ) {v : Verdict ℕ} {x : Refused} {a : Answer} → a ≡ numbers x 0 → v ≡ refused x → Found.Refused a ≡ found hash v
+pub refuses : (hash : ℕ) {v : Verdict ℕ} {x : Refused} {a : Answer} → a ≡ numbers x 0 → v ≡ refused x
+    → Found.Refused a ≡ found hash v
 unfolding found
 refuses hash e f = ap Found.Refused e ∙ sym (ap (found hash) f)
 
-refused-in : (hash : ℕ) (v : Verdict ℕ) (a : Answer) → Found.Refused a ≡ found hash v → (x : Refused) × (v ≡ refused x) × (a ≡ numbers x 0)
+refused-in : (hash : ℕ) (v : Verdict ℕ) (a : Answer) → Found.Refused a ≡ found hash v
+    → (x : Refused) × (v ≡ refused x) × (a ≡ numbers x 0)
 unfolding found
 refused-in hash (refused r) a e = (r, refl, (cc))
 refused-in hash (done next) a e = absurd (let z : _≡_ {A = ℕ} 0 1 = cc in omega arith)
 
-entry-in : (hash : ℕ) (v : Verdict ℕ) (own : ℕ) → Found.Entry own ≡ found hash v → (next : ℕ) × (v ≡ done next) × (own ≡ hash)
+entry-in : (hash : ℕ) (v : Verdict ℕ) (own : ℕ) → Found.Entry own ≡ found hash v
+    → (next : ℕ) × (v ≡ done next) × (own ≡ hash)
 unfolding found
 entry-in hash (refused r) own e = absurd (let z : _≡_ {A = ℕ} 0 1 = cc in omega arith)
 entry-in hash (done next) own e = (next, refl, (cc))
@@ -60,7 +63,9 @@ module _ (b : List ℕ) (at k : ℕ) where
         unfolding checkObjectAt
         label-cut h = rw (← e) (simp (both, type, size, lt-leb (at + (2 + n)) (length b) (omega arith)))
 
-        module _ (rest : n ≤ length b - at - 2) {r : Label} (r-is : r ≡ hashed (labelGood (take n (drop (at + 2) b))) (hashOf (getD b at 0) (take n (drop (at + 2) b)))) where
+        module _ (rest : n ≤ length b - at - 2) {r : Label}
+            (r-is : r ≡ hashed (labelGood (take n (drop (at + 2) b)))
+            (hashOf (getD b at 0) (take n (drop (at + 2) b)))) where
           all : leb (at + (2 + n)) (length b) ≡ true
           all = le-leb (at + (2 + n)) (length b) (omega arith)
 
@@ -104,7 +109,8 @@ good-entry b at k e =
 -- ---- what the result of `check_object` tells
 
 module _ (b : List ℕ) (at k : ℕ) {r : Found} (r-is : r ≡ found (hashAt b at) (checkObjectAt b at k)) where
-  pub was-refused : {a : Answer} → r ≡ Found.Refused a → (x : Refused) × (checkObjectAt b at k ≡ refused x) × (a ≡ numbers x 0)
+  pub was-refused : {a : Answer} → r ≡ Found.Refused a
+      → (x : Refused) × (checkObjectAt b at k ≡ refused x) × (a ≡ numbers x 0)
   was-refused {a} e = refused-in (hashAt b at) (checkObjectAt b at k) a (sym e ∙ r-is)
 
   module _ {own : ℕ} (e : r ≡ Found.Entry own) where

@@ -23,9 +23,11 @@ module _ (l : List ℕ) (i : ℕ) where
   colon-here h e inv =
       let z : firstColon (drop i l) ≡ 0 = ap firstColon (at-place l i h) ∙ simp (eq-eqb _ _ e) in omega arith
 
-  pub colon-next : i < length l → (getD l i 0 ≡ 58 → ⊥) → firstColon l ≡ i + firstColon (drop i l) → firstColon l ≡ i + 1 + firstColon (drop (i + 1) l)
+  pub colon-next : i < length l → (getD l i 0 ≡ 58 → ⊥) → firstColon l ≡ i + firstColon (drop i l)
+      → firstColon l ≡ i + 1 + firstColon (drop (i + 1) l)
   colon-next h n inv =
-      let z : firstColon (drop i l) ≡ suc (firstColon (drop (i + 1) l)) = ap firstColon (at-place l i h) ∙ simp (ne-eqb _ _ n) in omega arith
+      let z : firstColon (drop i l) ≡ suc (firstColon (drop (i + 1) l)) =
+      ap firstColon (at-place l i h) ∙ simp (ne-eqb _ _ n) in omega arith
 
   pub colon-end : length l ≤ i → firstColon l ≡ i + firstColon (drop i l) → i ≡ firstColon l
   colon-end h inv =
@@ -49,7 +51,8 @@ module _ (l : List ℕ) (i : ℕ) where
     pub hash-end : length l ≤ i → hash ≡ hashFrom first l
     hash-end h = sym (inv ∙ ap (hashFrom hash) (drop-of-length-le l h))
 
-    pub hash-next : (n : ℕ) → n ≡ getD l i 0 → i < length l → hashFrom first l ≡ hashFrom ((hash * 9 + n) % 1024) (drop (i + 1) l)
+    pub hash-next : (n : ℕ) → n ≡ getD l i 0 → i < length l
+        → hashFrom first l ≡ hashFrom ((hash * 9 + n) % 1024) (drop (i + 1) l)
     hash-next n e h = rw e (inv ∙ ap (hashFrom hash) (at-place l i h))
 
 -- ---- a label's test as the code returns it
@@ -82,13 +85,17 @@ module _ (l : List ℕ) (p : ℕ) (e : p ≡ firstColon l) where
     unfolding labelGood
     colon-last g = rw (← e, le-leb 1 p h, le-ltb (p + 1) (length l) g) (and-false (printable l))
 
-    pub colon-inside : p + 1 < length l → {r : Label} (hash : ℕ) → r ≡ hashed (printable l) hash → r ≡ hashed (labelGood l) hash
+    pub colon-inside : p + 1 < length l → {r : Label} (hash : ℕ) → r ≡ hashed (printable l) hash
+        → r ≡ hashed (labelGood l) hash
     unfolding labelGood
-    colon-inside g {r} hash f = f ∙ ap (λ (t : Bool). hashed t hash) (sym (rw (← e, le-leb 1 p h, lt-ltb (p + 1) (length l) g) (and-true (printable l))))
+    colon-inside g {r} hash f =
+        f ∙ ap (λ (t : Bool). hashed t hash)
+        (sym (rw (← e, le-leb 1 p h, lt-ltb (p + 1) (length l) g) (and-true (printable l))))
 
 -- the label is the part after its entry's first two bytes
 pub label-part : (b : List ℕ) (at size first : ℕ) {r : Label} → first ≡ getD b at 0 → first < 256
-    → r ≡ hashed (labelGood (take (at + 2 + size - (at + 2)) (drop (at + 2) b))) (hashFrom first (take (at + 2 + size - (at + 2)) (drop (at + 2) b)))
+    → r ≡ hashed (labelGood (take (at + 2 + size - (at + 2)) (drop (at + 2) b)))
+    (hashFrom first (take (at + 2 + size - (at + 2)) (drop (at + 2) b)))
     → r ≡ hashed (labelGood (take size (drop (at + 2) b))) (hashOf (getD b at 0) (take size (drop (at + 2) b)))
 unfolding hashOf
 label-part b at size first e few f =

@@ -1,5 +1,5 @@
--- Two entries have the same object exactly where their types, their lengths and each byte of their labels agree; and what the search among
--- the earlier ones finds.
+-- Two entries have the same object exactly where their types, their lengths and each byte of their labels agree; and
+-- what the search among the earlier ones finds.
 -- Assumes nothing.
 use Prim.Native.Nat.{ℕ, zero, suc, _+_, _-_, _≤_, _<_}
 use native.Mathlib.Omega.{arith}
@@ -49,25 +49,31 @@ pub record Agree (b : List ℕ) (p q i n : ℕ) : Type 0 where
 pub agree-none : {b : List ℕ} {p q i n : ℕ} → n ≤ i + 1 → Agree b p q i n
 agree-none h = record { each = λ x l m. absurd (omega arith) }
 
-pub agree-more : {b : List ℕ} {p q i n : ℕ} → Agree b p q i n → getD b (p + i) 0 ≡ getD b (q + i) 0 → Agree b p q (i - 1) n
-agree-more a e = record { each = λ x l m. ⊎-elim (λ s. rw (← s) e) (λ lt. a .each x lt m) (eq-or-lt-of-le (omega arith)) }
+pub agree-more : {b : List ℕ} {p q i n : ℕ} → Agree b p q i n → getD b (p + i) 0 ≡ getD b (q + i) 0
+    → Agree b p q (i - 1) n
+agree-more a e =
+    record { each = λ x l m. ⊎-elim (λ s. rw (← s) e) (λ lt. a .each x lt m) (eq-or-lt-of-le (omega arith)) }
 
 -- a label of n bytes follows its entry's first two
 module _ (b : List ℕ) (p q n : ℕ) where
-  label-same : p + 2 + n ≤ length b → q + 2 + n ≤ length b → (i : ℕ) → i ≤ 1 → Agree b p q i (2 + n) → take n (drop (p + 2) b) ≡ take n (drop (q + 2) b)
+  label-same : p + 2 + n ≤ length b → q + 2 + n ≤ length b → (i : ℕ) → i ≤ 1 → Agree b p q i (2 + n)
+      → take n (drop (p + 2) b) ≡ take n (drop (q + 2) b)
   label-same hp hq i low a =
       ext-getD 0 _ _ (part-length b (p + 2) n hp ∙ sym (part-length b (q + 2) n hq))
       (λ x hx.
       let lt : x < n = omega (arith, part-length b (p + 2) n hp) in
       let e₁ : p + 2 + x ≡ p + (2 + x) = omega arith in
       let e₂ : q + 2 + x ≡ q + (2 + x) = omega arith in
-      part-at b (p + 2) n x lt ∙ rw (e₁, e₂) (a .each (2 + x) (omega arith) (omega arith)) ∙ sym (part-at b (q + 2) n x lt))
+      part-at b (p + 2) n x lt ∙ rw (e₁, e₂) (a .each (2 + x) (omega arith) (omega arith))
+      ∙ sym (part-at b (q + 2) n x lt))
 
-  label-byte : take n (drop (p + 2) b) ≡ take n (drop (q + 2) b) → (x : ℕ) → 1 < x → x < 2 + n → getD b (p + x) 0 ≡ getD b (q + x) 0
+  label-byte : take n (drop (p + 2) b) ≡ take n (drop (q + 2) b) → (x : ℕ) → 1 < x → x < 2 + n
+      → getD b (p + x) 0 ≡ getD b (q + x) 0
   label-byte l x low h =
       let e₁ : p + x ≡ p + 2 + (x - 2) = omega arith in
       let e₂ : q + x ≡ q + 2 + (x - 2) = omega arith in
-      rw (e₁, e₂) (sym (part-at b (p + 2) n (x - 2) (omega arith)) ∙ ap (λ (z : List ℕ). getD z (x - 2) 0) l ∙ part-at b (q + 2) n (x - 2) (omega arith))
+      rw (e₁, e₂) (sym (part-at b (p + 2) n (x - 2) (omega arith)) ∙ ap (λ (z : List ℕ). getD z (x - 2) 0) l
+      ∙ part-at b (q + 2) n (x - 2) (omega arith))
 
 -- ---- two entries
 
@@ -79,10 +85,14 @@ pub record Both (b : List ℕ) (j k was at : ℕ) : Type 0 where
   pub second-fits : at + (2 + getD b (at + 1) 0) ≤ length b
 
 module _ {b : List ℕ} {j k was at : ℕ} (p : Both b j k was at) where
-  pub same-yes : getD b (was + 1) 0 ≡ getD b (at + 1) 0 → getD b was 0 ≡ getD b at 0 → (i : ℕ) → i ≤ 1 → Agree b was at i (2 + getD b (at + 1) 0) → same b j k ≡ true
+  pub same-yes : getD b (was + 1) 0 ≡ getD b (at + 1) 0 → getD b was 0 ≡ getD b at 0 → (i : ℕ) → i ≤ 1
+      → Agree b was at i (2 + getD b (at + 1) 0) → same b j k ≡ true
   same-yes n t i low a =
-      let l = label-same b was at (getD b (at + 1) 0) (omega (arith, p .first-fits)) (omega (arith, p .second-fits)) i low a in
-      rw (← p .first, ← p .second, n, t, l) (object-refl (record { type = getD b at 0; label = take (getD b (at + 1) 0) (drop (at + 2) b) }))
+      let l =
+      label-same b was at (getD b (at + 1) 0) (omega (arith, p .first-fits))
+      (omega (arith, p .second-fits)) i low a in
+      rw (← p .first, ← p .second, n, t, l)
+      (object-refl (record { type = getD b at 0; label = take (getD b (at + 1) 0) (drop (at + 2) b) }))
 
   -- what two entries with the same object have in common
   pub record Common : Type 0 where
@@ -95,8 +105,13 @@ module _ {b : List ℕ} {j k was at : ℕ} (p : Both b j k was at) where
       let o = rw (← p .first, ← p .second) at (object-eq (objectOf b j) (objectOf b k) e) in
       let l = ap (λ (o : Object). o .label) o in
       let n : getD b (was + 1) 0 ≡ getD b (at + 1) 0 =
-      sym (part-length b (was + 2) (getD b (was + 1) 0) (omega (arith, p .first-fits))) ∙ ap length l ∙ part-length b (at + 2) (getD b (at + 1) 0) (omega (arith, p .second-fits)) in
-      record { size = n; type = ap (λ (o : Object). o .type) o; byte = label-byte b was at (getD b (at + 1) 0) (rw n at l) }
+      sym (part-length b (was + 2) (getD b (was + 1) 0) (omega (arith, p .first-fits))) ∙ ap length l
+      ∙ part-length b (at + 2) (getD b (at + 1) 0) (omega (arith, p .second-fits)) in
+      record {
+        size = n;
+        type = ap (λ (o : Object). o .type) o;
+        byte = label-byte b was at (getD b (at + 1) 0) (rw n at l);
+      }
 
   pub same-no : (Common → ⊥) → same b j k ≡ false
   same-no d = not-eq-not {b = false} .0 (λ e. d (common e))

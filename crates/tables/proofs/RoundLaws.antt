@@ -1,4 +1,5 @@
--- The loop over the entries, and in it the search among the earlier ones, turn by turn: the verdict for the whole is that for what is left.
+-- The loop over the entries, and in it the search among the earlier ones, turn by turn:
+-- the verdict for the whole is that for what is left.
 -- Assumes nothing.
 use Prim.Native.Nat.{ℕ, zero, suc, _+_, _-_, _*_, _≤_, _<_}
 use native.Mathlib.Omega.{arith}
@@ -39,10 +40,17 @@ pub record Walking (b : List ℕ) (count k at : ℕ) : Type 0 where
 
 pub walk-begins : (b : List ℕ) (count at : ℕ) → objectsPlace ≤ length b → at ≡ objectsPlace → Walking b count 0 at
 unfolding placeOf
-walk-begins b count at h e = record { bound = omega arith; place = e; inside = omega arith; near = omega (arith, objects-place); left = entries-are b count h ∙ ap (λ (n : ℕ). entriesCheck b n 0) (sym (sub-zero count)) }
+walk-begins b count at h e =
+    record {
+      bound = omega arith;
+      place = e;
+      inside = omega arith;
+      near = omega (arith, objects-place);
+      left = entries-are b count h ∙ ap (λ (n : ℕ). entriesCheck b n 0) (sym (sub-zero count));
+    }
 
--- the entry at the cursor passed its check, and repeats are searched for. The j-th entry, if j is not 0, has its hash, and all
--- from there to the cursor differ from it
+-- the entry at the cursor passed its check, and repeats are searched for. The j-th entry, if j is not 0, has its hash,
+-- and all from there to the cursor differ from it
 pub record Searching (b : List ℕ) (count k at size own : ℕ) (lasts links starts : List ℕ) (j : ℕ) : Type 0 where
   pub walking : Walking b count k at
   pub chained : Chained b k lasts links starts
@@ -70,19 +78,23 @@ module _ {b : List ℕ} {count k at : ℕ} (w : Walking b count k at) where
     turn =
         let e : count - k ≡ suc (count - (k + 1)) = omega arith in
         w .left ∙ ap (λ (n : ℕ). entriesCheck b n k) e
-        ∙ ap₂ (λ (p m : ℕ). then (checkObjectAt b p k) (λ next. refusalAt 7 k unless not (repeatsBelow b k k) ⨾ entriesCheck b (count - (k + 1)) m)) (sym (w .place)) (sym (add-one k))
+        ∙ ap₂ (λ (p m : ℕ). then (checkObjectAt b p k)
+        (λ next. refusalAt 7 k unless not (repeatsBelow b k k) ⨾ entriesCheck b (count - (k + 1)) m))
+        (sym (w .place)) (sym (add-one k))
 
     module _ {r : Found} (r-is : r ≡ found (hashAt b at) (checkObjectAt b at k)) where
       pub walk-stops : {a : Answer} → r ≡ Found.Refused a → a ≡ told (objectsIn b count)
       walk-stops {a} e =
           let q = was-refused b at k r-is e in
-          told-refused (objectsIn b count) (turn ∙ ap (λ (v : Verdict ℕ). then v (λ next. after b count k)) (q .1)) (q .2)
+          told-refused (objectsIn b count)
+          (turn ∙ ap (λ (v : Verdict ℕ). then v (λ next. after b count k)) (q .1)) (q .2)
 
       module _ {own : ℕ} (e : r ≡ Found.Entry own) where
         entered : (next : ℕ) × (checkObjectAt b at k ≡ done next) × (own ≡ hashAt b at)
         entered = was-found b at k r-is e
 
-        pub search-begins : (size : ℕ) → size ≡ 2 + getD b (at + 1) 0 → {lasts links starts : List ℕ} → Chained b k lasts links starts → Searching b count k at size own lasts links starts (getD lasts own 0)
+        pub search-begins : (size : ℕ) → size ≡ 2 + getD b (at + 1) 0 → {lasts links starts : List ℕ}
+            → Chained b k lasts links starts → Searching b count k at size own lasts links starts (getD lasts own 0)
         search-begins size s {lasts} c =
             let o : own ≡ hash b k = entered .2 ∙ ap (hashAt b) (w .place) in
             let l = c .head own (found-few b at k r-is e) in
@@ -115,7 +127,8 @@ module _ {b : List ℕ} {count k at : ℕ} (w : Walking b count k at) where
     unfolding entriesCheck told
     end-good e = rw (none, ← w .place, eq-eqb _ _ e)
 
-module _ {b : List ℕ} {count k at size own : ℕ} {lasts links starts : List ℕ} {j : ℕ} (s : Searching b count k at size own lasts links starts j) where
+module _ {b : List ℕ} {count k at size own : ℕ} {lasts links starts : List ℕ} {j : ℕ}
+    (s : Searching b count k at size own lasts links starts j) where
   is-after : objectsIn b count ≡ after b count k
   is-after = turn (s .walking) (s .more) ∙ ap (λ (v : Verdict ℕ). then v (λ next. after b count k)) (s .good)
 
@@ -131,7 +144,8 @@ module _ {b : List ℕ} {count k at size own : ℕ} {lasts links starts : List �
         left = is-after ∙ rw r;
       }
 
-  pub chained-next : k < 1024 → Chained b (k + 1) (set lasts own (k + 1)) (set links k (getD lasts own 0)) (set starts k at)
+  pub chained-next : k < 1024
+      → Chained b (k + 1) (set lasts own (k + 1)) (set links k (getD lasts own 0)) (set starts k at)
   chained-next few = chain-next (s .chained) few own at (s .own-is) (s .walking .place)
 
   -- the j-th entry is compared with the one at the cursor
@@ -140,7 +154,9 @@ module _ {b : List ℕ} {count k at size own : ℕ} {lasts links starts : List �
     was = getD starts (j - 1) 0
 
     before : was + (2 + getD b (was + 1) 0) ≤ at
-    before = place-before b (j - 1) k was at _ (omega (arith, s .passed)) (s .chained .start (j - 1) (omega (arith, s .passed))) (s .walking .place) refl
+    before =
+        place-before b (j - 1) k was at _ (omega (arith, s .passed))
+        (s .chained .start (j - 1) (omega (arith, s .passed))) (s .walking .place) refl
 
     both : Both b (j - 1) k was at
     both = record {
@@ -165,7 +181,8 @@ module _ {b : List ℕ} {count k at size own : ℕ} {lasts links starts : List �
       unlike-at i lo hi false t =
           let l : i < j = leb-false j i t in
           let m : i ≤ j - 1 = omega arith in
-          ⊎-elim (λ f. rw f (same-no both d)) (λ lt. other-hash b i k (λ f. link .skip i lo lt (f ∙ sym same-hash))) (eq-or-lt-of-le m)
+          ⊎-elim (λ f. rw f (same-no both d)) (λ lt. other-hash b i k (λ f. link .skip i lo lt (f ∙ sym same-hash)))
+          (eq-or-lt-of-le m)
 
       goes : Searching b count k at size own lasts links starts (getD links (j - 1) 0)
       goes = record {
@@ -185,10 +202,12 @@ module _ {b : List ℕ} {count k at size own : ℕ} {lasts links starts : List �
         unlike = λ i lo hi. unlike-at i lo hi (leb j i) refl;
       }
 
-    pub goes-by-type : (getD b was 0 ≡ getD b at 0 → ⊥) → Searching b count k at size own lasts links starts (getD links (j - 1) 0)
+    pub goes-by-type : (getD b was 0 ≡ getD b at 0 → ⊥)
+        → Searching b count k at size own lasts links starts (getD links (j - 1) 0)
     goes-by-type d = goes (λ x. d (x .type))
 
-    pub goes-by-byte : (i : ℕ) → 1 < i → i < size → (getD b (was + i) 0 ≡ getD b (at + i) 0 → ⊥) → Searching b count k at size own lasts links starts (getD links (j - 1) 0)
+    pub goes-by-byte : (i : ℕ) → 1 < i → i < size → (getD b (was + i) 0 ≡ getD b (at + i) 0 → ⊥)
+        → Searching b count k at size own lasts links starts (getD links (j - 1) 0)
     goes-by-byte i low l d = goes (λ x. d (x .byte i low (omega (arith, s .size-is))))
 
     module _ (n : ℕ) (e : n ≡ 2 + getD b (was + 1) 0) where
@@ -199,9 +218,12 @@ module _ {b : List ℕ} {count k at size own : ℕ} {lasts links starts : List �
         pub was-fits : was + size ≤ length b
         was-fits = omega (arith, before, s .fits)
 
-        pub search-finds : getD b was 0 ≡ getD b at 0 → (i : ℕ) → i ≤ 1 → Agree b was at i size → numbers (naming 7 k 255) 0 ≡ told (objectsIn b count)
+        pub search-finds : getD b was 0 ≡ getD b at 0 → (i : ℕ) → i ≤ 1 → Agree b was at i size
+            → numbers (naming 7 k 255) 0 ≡ told (objectsIn b count)
         unfolding told
         search-finds t i low a =
-            let r = repeats-yes b k (j - 1) (omega (arith, s .passed)) (same-yes both (omega (arith, s .size-is)) t i low (rw (s .size-is) at a)) in
+            let r =
+            repeats-yes b k (j - 1) (omega (arith, s .passed))
+            (same-yes both (omega (arith, s .size-is)) t i low (rw (s .size-is) at a)) in
             let v : objectsIn b count ≡ refusalAt 7 k = is-after ∙ rw r in
             sym (ap told v)

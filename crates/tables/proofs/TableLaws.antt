@@ -1,4 +1,5 @@
--- The table's check in the code's order, and what an accepted table tells: where its entries are, and that each is good.
+-- The table's check in the code's order, and what an accepted table tells:
+-- where its entries are, and that each is good.
 -- Assumes nothing.
 use Prim.Native.Nat.{ℕ, zero, suc, _+_, _≤_, _<_}
 use native.Mathlib.Omega.{arith}
@@ -61,12 +62,14 @@ module _ (b : List ℕ) where
       module _ (c : catalogueGood (getD b 5 0) (getD b 6 0) ≡ true) (n : ℕ) (e : n ≡ countIn b) where
         pub table-4 : 1024 < n → unnamed 4 0 ≡ told (tableCall b)
         unfolding told
-        table-4 h = let l : leb (countIn b) 1024 ≡ false = lt-leb (countIn b) 1024 (omega arith) in rw (in-order, w, v, c, l)
+        table-4 h =
+            let l : leb (countIn b) 1024 ≡ false = lt-leb (countIn b) 1024 (omega arith) in rw (in-order, w, v, c, l)
 
         pub table-rest : n ≤ 1024 → (a : Answer) → a ≡ told (objectsIn b n) → a ≡ told (tableCall b)
         table-rest h a f =
             let l : leb (countIn b) 1024 ≡ true = le-leb (countIn b) 1024 (omega arith) in
-            f ∙ ap (λ (m : ℕ). told (objectsIn b m)) e ∙ sym (told-then (objectsIn b (countIn b)) (tableWith b)) ∙ rw (in-order, w, v, c, l)
+            f ∙ ap (λ (m : ℕ). told (objectsIn b m)) e ∙ sym (told-then (objectsIn b (countIn b)) (tableWith b))
+            ∙ rw (in-order, w, v, c, l)
 
 -- ---- an accepted table
 
@@ -89,7 +92,9 @@ good-run b (suc n) k h =
     let r = good-run b n (suc k) (q .1) in
     let e : k + suc n ≡ suc k + n = omega arith in
     record {
-      each = λ j l m. ⊎-elim (λ e. rw (← e) (good-entry b (placeOf b k) k (p .1))) (λ lt. r .each j lt (omega arith)) (eq-or-lt-of-le l);
+      each =
+          λ j l m. ⊎-elim (λ e. rw (← e) (good-entry b (placeOf b k) k (p .1))) (λ lt. r .each j lt (omega arith))
+          (eq-or-lt-of-le l);
       objects = r .objects ∙ ap (objectsBelow b) (sym e);
     }
 
@@ -132,7 +137,8 @@ pub table-of : (b : List ℕ) → told (tableCall b) .code ≡ 0 → (t : Table)
 table-of b = zero-told (tableCall b) (table-call-coded b)
 
 -- an entry of an accepted table, at its place
-pub entry-at : (b : List ℕ) → told (tableCall b) .code ≡ 0 → (k at : ℕ) → at ≡ placeOf b k → k < countIn b → GoodEntry b at
+pub entry-at : (b : List ℕ) → told (tableCall b) .code ≡ 0 → (k at : ℕ) → at ≡ placeOf b k → k < countIn b
+    → GoodEntry b at
 entry-at b z k at e l = rw e (accepted b (table-of b z .1) .each k l)
 
 -- a cursor on its way through the first n entries of an accepted table: at entry k, or after the last
@@ -143,9 +149,17 @@ pub record CursorAt (b : List ℕ) (n k at : ℕ) : Type 0 where
   pub place : at ≡ placeOf b k
   pub inside : at ≤ length b
 
-pub cursor-first : (b : List ℕ) (n at : ℕ) → told (tableCall b) .code ≡ 0 → n ≤ countIn b → at ≡ objectsPlace → CursorAt b n 0 at
+pub cursor-first : (b : List ℕ) (n at : ℕ) → told (tableCall b) .code ≡ 0 → n ≤ countIn b → at ≡ objectsPlace
+    → CursorAt b n 0 at
 unfolding placeOf
-cursor-first b n at z h e = record { good = z; few = h; bound = omega arith; place = e; inside = omega (arith, accepted b (table-of b z .1) .long) }
+cursor-first b n at z h e =
+    record {
+      good = z;
+      few = h;
+      bound = omega arith;
+      place = e;
+      inside = omega (arith, accepted b (table-of b z .1) .long);
+    }
 
 module _ {b : List ℕ} {n k at : ℕ} (s : CursorAt b n k at) where
   pub cursor-last : n ≤ k → at ≡ placeOf b n
@@ -162,7 +176,14 @@ module _ {b : List ℕ} {n k at : ℕ} (s : CursorAt b n k at) where
     type-there = omega (arith, entry-there)
 
     pub cursor-next : (size : ℕ) → size ≡ 2 + getD b (at + 1) 0 → CursorAt b n (k + 1) (at + size)
-    cursor-next size e = record { good = s .good; few = s .few; bound = omega arith; place = place-next b k at size (s .place) e; inside = omega (arith, entry-there) }
+    cursor-next size e =
+        record {
+          good = s .good;
+          few = s .few;
+          bound = omega arith;
+          place = place-next b k at size (s .place) e;
+          inside = omega (arith, entry-there);
+        }
 
 -- what is known once a table's check gave code 0
 module _ (a : Answer) (b : List ℕ) (e : a ≡ told (tableCall b)) (z : a .code ≡ 0) where

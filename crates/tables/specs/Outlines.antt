@@ -27,8 +27,10 @@ layoutsIn (done t) = filled 1024 (map layoutNo (planOf t .kinds))
 
 -- the answer, and for an accepted table X, Y, count and layout numbers, else zeros
 unfoldable pub outlineOf : Verdict Table → Outline
-outlineOf (refused r) = record { answer = told {A = Table} (refused r); x = 0; y = 0; count = 0; kinds = filled 1024 [] }
-outlineOf (done t) = record { answer = told (done t); x = t .x; y = t .y; count = length (t .objects); kinds = layoutsIn (done t) }
+outlineOf (refused r) =
+    record { answer = told {A = Table} (refused r); x = 0; y = 0; count = 0; kinds = filled 1024 [] }
+outlineOf (done t) =
+    record { answer = told (done t); x = t .x; y = t .y; count = length (t .objects); kinds = layoutsIn (done t) }
 
 -- the whole outcome, and what callers rely on
 pub record Outlined (b : List ℕ) (r : Outline) : Type 0 where

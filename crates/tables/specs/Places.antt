@@ -1,4 +1,5 @@
--- The table's entries by their places in the bytes, as a loop with a cursor walks them. A device of the proofs: the meaning is in `history`.
+-- The table's entries by their places in the bytes, as a loop with a cursor walks them. A device of the proofs:
+-- the meaning is in `history`.
 use Prim.Native.Nat.{ℕ, zero, suc, _+_}
 use mathlib.Core.Bool.{_&&_}
 use mathlib.Core.List.{List, []}
@@ -15,7 +16,8 @@ unfoldable pub placeOf : List ℕ → ℕ → ℕ
 placeOf b zero = objectsPlace
 placeOf b (suc k) = placeOf b k + (2 + getD b (placeOf b k + 1) 0)
 
--- the entry at a place, except for repeats: 8 (two bytes missing), 5, 6 (length), 8 (label cut), 6 (bytes); then where the next begins
+-- the entry at a place, except for repeats: 8 (two bytes missing), 5, 6 (length), 8 (label cut), 6 (bytes);
+-- then where the next begins
 unfoldable pub checkObjectAt : List ℕ → ℕ → ℕ → Verdict ℕ
 checkObjectAt b at k =
     refusal 8 unless leb (at + 2) (length b) ⨾

@@ -1,4 +1,5 @@
-// The numbers that a call returns, one function for each kind of answer; and `Outline`, what `outline` returns with them.
+// The numbers that a call returns, one function for each kind of answer;
+// and `Outline`, what `outline` returns with them.
 use history::Answer;
 use rows::Refusal;
 ghost use mathlib.Core.Path.{_≡_};
@@ -67,7 +68,8 @@ pub fn short(bytes: u32) -> Answer
     }
 }
 
-// What `outline` returns: the table's answer, and for an accepted table X, Y, the count and each object's layout number, else zeros.
+// What `outline` returns: the table's answer, and for an accepted table X, Y, the count and
+// each object's layout number, else zeros.
 pub struct Outline {
     pub answer: Answer,
     pub x: u8,

@@ -1,5 +1,5 @@
-// Labels: bytes 33 to 126; some byte is a colon, and the first colon has a byte before and after it. The pass that tests the bytes also makes
-// the hash of the entry's type and label, by which repeats are found.
+// Labels: bytes 33 to 126; some byte is a colon, and the first colon has a byte before and after it. The pass that
+// tests the bytes also makes the hash of the entry's type and label, by which repeats are found.
 use heads::byte_at;
 ghost use mathlib.Core.Path.{_≡_};
 ghost use Prim.Native.Nat.{_+_, _≤_, _<_};
@@ -65,7 +65,9 @@ fn check_label(first: usize, label: &[u8]) -> Label
 // Checks the label of the entry at `at`. The hash starts from the entry's type.
 pub fn check_label_at(table: &[u8], at: usize, size: usize) -> Label
     requires { ⌜ at + 2 + size ≤ length (now table) ⌝ }
-    ensures { λ r. ⌜ r ≡ hashed (labelGood (take size (drop (at + 2) (now (table .entry))))) (hashOf (getD (now (table .entry)) at 0) (take size (drop (at + 2) (now (table .entry))))) ⌝ }
+    ensures { λ r.
+        ⌜ r ≡ hashed (labelGood (take size (drop (at + 2) (now (table .entry)))))
+        (hashOf (getD (now (table .entry)) at 0) (take size (drop (at + 2) (now (table .entry))))) ⌝ }
 {
     let from = at + 2;
     let to = from + size;

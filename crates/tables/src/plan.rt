@@ -57,7 +57,8 @@ fn kinds_of(table: &[u8], count: usize) -> [u8; 1024]
     kinds
 }
 
-// The first layout numbers, as many as there are objects. They are lent from the outline's array, so that it isn't copied.
+// The first layout numbers, as many as there are objects. They are lent from the outline's
+// array, so that it isn't copied.
 pub fn first_kinds(kinds: &[u8], count: usize) -> &[u8]
     requires { ⌜ count ≤ length (now kinds) ⌝ }
     ensures { λ r. ⌜ now r ≡ take count (now (kinds .entry)) ⌝ }

@@ -45,11 +45,11 @@ pub fn check_table(table: &[u8]) -> Answer
     check_objects(table, count)
 }
 
-// For each entry its check, then 7; at the end 8 (bytes left over). Only earlier entries of the same hash can have the same type and label,
-// so only these are searched, the last first, until one is the same. Two entries are compared by type, by length, and then by label from
-// the last byte to the first, since the labels of a station begin alike.
-// `lasts` has for each hash its last entry, `links` for each entry the one before it of the same hash: each as its number plus one, 0 for
-// none. `starts` has for each entry where it begins.
+// For each entry its check, then 7; at the end 8 (bytes left over). Only earlier entries of the same hash can have the
+// same type and label, so only these are searched, the last first, until one is the same. Two entries are compared by
+// type, by length, and then by label from the last byte to the first, since the labels of a station begin alike.
+// `lasts` has for each hash its last entry, `links` for each entry the one before it of the same hash: each as its
+// number plus one, 0 for none. `starts` has for each entry where it begins.
 fn check_objects(table: &[u8], count: usize) -> Answer
     requires { ⌜ (objectsPlace ≤ length (now table)) × (count ≤ 1024) ⌝ }
     ensures { λ r. ⌜ r ≡ told (objectsIn (now (table .entry)) count) ⌝ }

@@ -1,4 +1,5 @@
--- The digits of a number stand for it: read in decimal they give it back, each is 0 to 9, and the first is 0 only if it is the only one.
+-- The digits of a number stand for it: read in decimal they give it back, each is 0 to 9, and
+-- the first is 0 only if it is the only one.
 -- Assumes nothing.
 use mathlib.Core.Path.{_≡_, refl, sym, _∙_}
 use mathlib.Core.Bool.{Bool, true, false, cond, _&&_}
@@ -48,7 +49,12 @@ says-at : (b : Bool) (k n : ℕ) → ltb n 10 ≡ b → (10 ≤ n → Says (n / 
     → Says n (cond b ((48 + n) ∷ []) (decimalIn k (n / 10) ++ ((48 + n % 10) ∷ [])))
 says-at true k n e tens =
     let few : n < 10 = ltb-true n 10 e in
-    record { value = omega arith; each = simp (le-leb 48 (48 + n) (omega arith), le-leb (48 + n) 57 (omega arith)); some = omega arith; first = λ z. (omega arith, refl) }
+    record {
+      value = omega arith;
+      each = simp (le-leb 48 (48 + n) (omega arith), le-leb (48 + n) 57 (omega arith));
+      some = omega arith;
+      first = λ z. (omega arith, refl);
+    }
 says-at false k n e tens =
     let ten : 10 ≤ n = ltb-false n 10 e in
     let t = tens ten in

@@ -21,7 +21,8 @@ tenth k n h = div-lt-iff-lt-mul (lit< tt) .1 (rw pow-suc at h)
 
 -- any limit that is enough for the number gives the same digits
 enough-at : (b : Bool) (k j n : ℕ) → ltb n 10 ≡ b → (10 ≤ n → decimalIn k (n / 10) ≡ decimalIn j (n / 10))
-    → cond b ((48 + n) ∷ []) (decimalIn k (n / 10) ++ ((48 + n % 10) ∷ [])) ≡ cond b ((48 + n) ∷ []) (decimalIn j (n / 10) ++ ((48 + n % 10) ∷ []))
+    → cond b ((48 + n) ∷ []) (decimalIn k (n / 10) ++ ((48 + n % 10) ∷ []))
+    ≡ cond b ((48 + n) ∷ []) (decimalIn j (n / 10) ++ ((48 + n % 10) ∷ []))
 enough-at true k j n e less = refl
 enough-at false k j n e less = ap (λ (l : List ℕ). l ++ ((48 + n % 10) ∷ [])) (less (ltb-false n 10 e))
 
@@ -29,7 +30,8 @@ enough : (k j n : ℕ) → n < 10 ^ suc k → n < 10 ^ suc j → decimalIn (suc 
 unfolding decimalIn
 enough zero j n h h′ = enough-at (ltb n 10) zero j n refl (λ ten. absurd (omega arith))
 enough (suc k) zero n h h′ = enough-at (ltb n 10) (suc k) zero n refl (λ ten. absurd (omega arith))
-enough (suc k) (suc j) n h h′ = enough-at (ltb n 10) (suc k) (suc j) n refl (λ ten. enough k j (n / 10) (tenth k n h) (tenth j n h′))
+enough (suc k) (suc j) n h h′ =
+    enough-at (ltb n 10) (suc k) (suc j) n refl (λ ten. enough k j (n / 10) (tenth k n h) (tenth j n h′))
 
 pub decimal-small : (n : ℕ) → n < 10 → decimal n ≡ (48 + n) ∷ []
 unfolding decimal decimalIn
@@ -37,7 +39,9 @@ decimal-small n h = simp (lt-ltb _ _ h)
 
 decimal-more : (n : ℕ) → 10 ≤ n → n < 10000000000 → decimal n ≡ decimal (n / 10) ++ ((48 + n % 10) ∷ [])
 unfolding decimal decimalIn
-decimal-more n h h′ = simp (le-ltb _ _ h) (ap (λ (l : List ℕ). l ++ ((48 + n % 10) ∷ [])) (enough 8 9 (n / 10) (omega arith) (omega arith)))
+decimal-more n h h′ =
+    simp (le-ltb _ _ h)
+    (ap (λ (l : List ℕ). l ++ ((48 + n % 10) ∷ [])) (enough 8 9 (n / 10) (omega arith) (omega arith)))
 
 sets-append : (l : List ℕ) (i : ℕ) (xs ys : List ℕ) → sets (sets l i xs) (i + length xs) ys ≡ sets l i (xs ++ ys)
 sets-append l i [] ys = ap (λ (k : ℕ). sets l k ys) (add-zero i)
@@ -49,15 +53,18 @@ decimal-length : (n : ℕ) → 10 ≤ n → n < 10000000000 → length (decimal 
 decimal-length n h h′ = ap length (decimal-more n h h′) ∙ length-append (decimal (n / 10)) ((48 + n % 10) ∷ [])
 
 -- a number below 10 ^ k, with k not 0, has at most k digits
-fits-at : (b : Bool) (k n : ℕ) → ltb n 10 ≡ b → n < 10000000000 → (10 ≤ n → length (decimal (n / 10)) ≤ k) → length (decimal n) ≤ suc k
+fits-at : (b : Bool) (k n : ℕ) → ltb n 10 ≡ b → n < 10000000000 → (10 ≤ n → length (decimal (n / 10)) ≤ k)
+    → length (decimal n) ≤ suc k
 fits-at true k n e h less = omega (arith, ap length (decimal-small n (ltb-true n 10 e)))
 fits-at false k n e h less = omega (arith, decimal-length n (ltb-false n 10 e) h, less (ltb-false n 10 e))
 
 pub decimal-fits : (k n : ℕ) → n < 10 ^ suc k → n < 10000000000 → length (decimal n) ≤ suc k
 decimal-fits zero n h h′ = omega (arith, ap length (decimal-small n h))
-decimal-fits (suc k) n h h′ = fits-at (ltb n 10) (suc k) n refl h′ (λ _. decimal-fits k (n / 10) (tenth k n h) (omega arith))
+decimal-fits (suc k) n h h′ =
+    fits-at (ltb n 10) (suc k) n refl h′ (λ _. decimal-fits k (n / 10) (tenth k n h) (omega arith))
 
-pub then : {l : List ℕ} {at : ℕ} {xs m : List ℕ} {p : ℕ} {ys n : List ℕ} {r : ℕ} → Wrote l at xs m p → Wrote m p ys n r → Wrote l at (xs ++ ys) n r
+pub then : {l : List ℕ} {at : ℕ} {xs m : List ℕ} {p : ℕ} {ys n : List ℕ} {r : ℕ} → Wrote l at xs m p → Wrote m p ys n r
+    → Wrote l at (xs ++ ys) n r
 then {l} {at} {xs} {m} {p} {ys} {n} {r} a b = record {
   next = omega (arith, a .next, b .next, length-append xs ys);
   text = b .text ∙ (λ i. sets (a .text i) (a .next i) ys) ∙ sets-append l at xs ys;
@@ -96,7 +103,8 @@ hexes-append [] bs = refl
 hexes-append (a ∷ xs) bs = ap (λ (l : List ℕ). hexDigit (a / 16) ∷ hexDigit (a % 16) ∷ l) (hexes-append xs bs)
 
 -- the two digits of a byte
-pub two-digits : {l m k : List ℕ} {at p r d e : ℕ} (b : ℕ) → d ≡ hexDigit (b / 16) → e ≡ hexDigit (b % 16) → Wrote l at (d ∷ []) m p → Wrote m p (e ∷ []) k r
+pub two-digits : {l m k : List ℕ} {at p r d e : ℕ} (b : ℕ) → d ≡ hexDigit (b / 16) → e ≡ hexDigit (b % 16)
+    → Wrote l at (d ∷ []) m p → Wrote m p (e ∷ []) k r
     → Wrote l at (hexes (b ∷ [])) k r
 two-digits b high low a c = simp (high, low) at (then a c)
 
@@ -105,7 +113,8 @@ module _ (s : List ℕ) {l m : List ℕ} {at i p : ℕ} (w : Wrote l at (hexes (
   pub hex-room : i < length s → at + 2 * length s ≤ length l → length m ≡ length l → p + 2 ≤ length m
   hex-room h r e = omega (arith, hexes-length (take i s), length-take-le i s (le-of-lt h), w .next)
 
-  pub hex-next : i < length s → {k : List ℕ} {r : ℕ} → Wrote m p (hexes (getD s i 0 ∷ [])) k r → Wrote l at (hexes (take (i + 1) s)) k r
+  pub hex-next : i < length s → {k : List ℕ} {r : ℕ} → Wrote m p (hexes (getD s i 0 ∷ [])) k r
+      → Wrote l at (hexes (take (i + 1) s)) k r
   hex-next h b = rw (add-one, take-suc s i 0, hexes-append) (then w b)
 
   pub hex-end : length s ≤ i → Wrote l at (hexes s) m p

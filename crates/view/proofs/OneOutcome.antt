@@ -1,5 +1,5 @@
--- Two outcomes of one request are equal: a view, its count, the numbers, and the part that a label request gives. Of a part: where it points
--- and the bytes there (and so how many), which is all that a program can see of it.
+-- Two outcomes of one request are equal: a view, its count, the numbers, and the part that a label request gives. Of a
+-- part: where it points and the bytes there (and so how many), which is all that a program can see of it.
 -- Assumes nothing.
 use Prim.Native.Nat.{ℕ}
 use mathlib.Core.Path.{_≡_}
@@ -29,8 +29,10 @@ module _ (T : RefT (List ℕ)) where
   one-view-answer = one-outcome
 
   -- `label` of a view of T, `table_label` and `label_part` of T
-  pub one-label : (i : ℕ) {r r′ : RefT (List ℕ)} → Part T r (givenPlace (labelCall (now T) i)) → Part T r′ (givenPlace (labelCall (now T) i)) → (r .ptr ≡ r′ .ptr) × (now r ≡ now r′)
+  pub one-label : (i : ℕ) {r r′ : RefT (List ℕ)} → Part T r (givenPlace (labelCall (now T) i))
+      → Part T r′ (givenPlace (labelCall (now T) i)) → (r .ptr ≡ r′ .ptr) × (now r ≡ now r′)
   one-label i = one-part
 
-  pub one-label-answer : (i : ℕ) {r r′ : Answer} → Tells (labelCall (now T) i) r → Tells (labelCall (now T) i) r′ → r ≡ r′
+  pub one-label-answer : (i : ℕ) {r r′ : Answer} → Tells (labelCall (now T) i) r
+      → Tells (labelCall (now T) i) r′ → r ≡ r′
   one-label-answer i = one-outcome

@@ -1,5 +1,5 @@
--- A view's count and a label's part, from the table's outline and the label's place; and what a caller relies on: a request's numbers and
--- its part fit each other.
+-- A view's count and a label's part, from the table's outline and the label's place; and what a caller relies on: a
+-- request's numbers and its part fit each other.
 -- Assumes nothing.
 use Prim.Native.Nat.{ℕ, _+_, _-_, _≤_}
 use native.Mathlib.Omega.{arith}
@@ -46,10 +46,13 @@ found-place {T} {i} l = ap at (l .whole) ∙ told-place (labelCall T i)
 
 -- the part that the code takes at the place is the one defined
 pub found-part : {T : RefT (List ℕ)} {i : ℕ} {r : LabelAt} (part : RefT (List ℕ)) → LabelFound (now T) i r
-    → part .ptr ≡ (T .ptr .0, r .offset + T .ptr .1) → now part ≡ take (r .offset + r .size - r .offset) (drop (r .offset) (now T)) → Part T part (givenPlace (labelCall (now T) i))
+    → part .ptr ≡ (T .ptr .0, r .offset + T .ptr .1)
+    → now part ≡ take (r .offset + r .size - r .offset) (drop (r .offset) (now T))
+    → Part T part (givenPlace (labelCall (now T) i))
 found-part {T} {i} {r} part l p b =
     let all : r .offset + r .size - r .offset ≡ r .size = omega arith in
-    subst (Part T part) (found-place l) (record { place = p; bytes = b ∙ ap (λ (n : ℕ). take n (drop (r .offset) (now T))) all })
+    subst (Part T part) (found-place l)
+    (record { place = p; bytes = b ∙ ap (λ (n : ℕ). take n (drop (r .offset) (now T))) all })
 
 -- ---- what a caller relies on
 
@@ -57,24 +60,36 @@ own-place : (v : Verdict Place) (p : Place) → v ≡ done p → givenPlace v �
 unfolding givenPlace
 own-place v p e = ap givenPlace e
 
-empty-place : (v : Verdict Place) (b : List ℕ) → (told v .code ≡ 0 → ⊥) → take (givenPlace v .size) (drop (givenPlace v .offset) b) ≡ []
+empty-place : (v : Verdict Place) (b : List ℕ) → (told v .code ≡ 0 → ⊥)
+    → take (givenPlace v .size) (drop (givenPlace v .offset) b) ≡ []
 unfolding givenPlace told
 empty-place (refused r) b n = refl
 empty-place (done p) b n = absurd (n refl)
 
-module _ {T part : RefT (List ℕ)} (i : ℕ) (p : Part T part (givenPlace (labelCall (now T) i))) {r : Answer} (r-is : r ≡ told (labelCall (now T) i)) where
+module _ {T part : RefT (List ℕ)} (i : ℕ) (p : Part T part (givenPlace (labelCall (now T) i))) {r : Answer}
+    (r-is : r ≡ told (labelCall (now T) i)) where
   -- refused: the part is empty
   pub refused-empty : (r .code ≡ 0 → ⊥) → now part ≡ []
-  refused-empty bad = p .bytes ∙ empty-place (labelCall (now T) i) (now T) (λ z. bad (ap (λ (a : Answer). a .code) r-is ∙ z))
+  refused-empty bad =
+      p .bytes ∙ empty-place (labelCall (now T) i) (now T) (λ z. bad (ap (λ (a : Answer). a .code) r-is ∙ z))
 
   -- accepted: the part is the object's label, of at least three bytes
-  pub accepted-label : Bytes (now T) → r .code ≡ 0 → (t : Table) × (readTable (now T) ≡ done t) × (now part ≡ object t i .label) × (3 ≤ length (now part))
+  pub accepted-label : Bytes (now T) → r .code ≡ 0
+      → (t : Table) × (readTable (now T) ≡ done t) × (now part ≡ object t i .label) × (3 ≤ length (now part))
   accepted-label h ok =
-      let q = zero-told (labelCall (now T) i) (label-call-coded (now T) i) (ap (λ (a : Answer). a .code) (sym r-is) ∙ ok) in
+      let q =
+      zero-told (labelCall (now T) i) (label-call-coded (now T) i) (ap (λ (a : Answer). a .code) (sym r-is) ∙ ok) in
       let l = label-is (now T) h i (q .1) in
-      let b : now part ≡ take (q .0 .size) (drop (q .0 .offset) (now T)) = p .bytes ∙ ap (λ (p : Place). take (p .size) (drop (p .offset) (now T))) (own-place (labelCall (now T) i) (q .0) (q .1)) in (
+      let b : now part ≡ take (q .0 .size) (drop (q .0 .offset) (now T)) =
+      p .bytes ∙ ap (λ (p : Place). take (p .size) (drop (p .offset) (now T)))
+      (own-place (labelCall (now T) i) (q .0) (q .1)) in (
         l .table,
         l .reads,
         b ∙ l .label,
-        omega (arith, l .some, ap length b ∙ length-take-le (q .0 .size) (drop (q .0 .offset) (now T)) (omega (arith, l .inside, length-drop (q .0 .offset) (now T)))),
+        omega (
+          arith,
+          l .some,
+          ap length b ∙ length-take-le (q .0 .size) (drop (q .0 .offset) (now T))
+              (omega (arith, l .inside, length-drop (q .0 .offset) (now T))),
+        ),
       )

@@ -1,5 +1,5 @@
--- "Given an object number, the label is handed back as the very bytes of the lent table, not a copy. Refused label requests give an
--- empty part."
+-- "Given an object number, the label is handed back as the very bytes of the lent table, not a copy. Refused label
+-- requests give an empty part."
 use Prim.Native.Nat.{ℕ, _+_}
 use mathlib.Core.Path.{_≡_}
 use mathlib.Core.List.{List}

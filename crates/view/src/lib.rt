@@ -1,5 +1,5 @@
-// The floor of labels: an object's label as the very bytes of the lent table, never a copy. A view holds the table and its count. Every
-// label comes from `label_part`, which checks the table again, so a view made of any bytes is safe.
+// The floor of labels: an object's label as the very bytes of the lent table, never a copy. A view holds the table and
+// its count. Every label comes from `label_part`, which checks the table again, so a view made of any bytes is safe.
 use history::Answer;
 use tables::check_table;
 use tables::label_place;

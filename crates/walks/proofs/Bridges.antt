@@ -1,4 +1,5 @@
--- The walks find the meaning: over the bytes of admitted words and lawful changes, each walk gives what its operation gives, and `unfit` and `renewal` give what application does.
+-- The walks find the meaning: over the bytes of admitted words and lawful changes, each walk gives what its operation
+-- gives, and `unfit` and `renewal` give what application does.
 -- Assumes nothing.
 use Prim.Native.Nat.{ℕ, suc, _+_, _^_, _≤_, _<_}
 use native.Mathlib.Omega.{arith}
@@ -44,7 +45,8 @@ none-here : {ks : List Kind} {cs : List Change} (i w j : ℕ) → i < j → j + 
 none-here i w j h s nil = says-cut [] i w (omega arith)
 none-here i w j h s (and {b = keep} p ps) = none-here i w (suc j) (omega arith) (omega arith) ps
 none-here i w j h s (and {a = k} {b = swap old new} {xs = ks} {ys = cs} p ps) =
-    says-nothing (entriesBytes j (k ∷ ks) (swap old new ∷ cs)) i w (sym (read-bytes 2 j _ (omega arith))) (λ e. omega arith)
+    says-nothing (entriesBytes j (k ∷ ks) (swap old new ∷ cs)) i w (sym (read-bytes 2 j _ (omega arith)))
+    (λ e. omega arith)
 
 -- an object's own entry, and the bytes after it
 pub record Found (i : ℕ) (k : Kind) (c : Change) (b r : List ℕ) : Type 0 where
@@ -53,7 +55,9 @@ pub record Found (i : ℕ) (k : Kind) (c : Change) (b r : List ℕ) : Type 0 whe
 
 after-entry : (i : ℕ) (k : Kind) (ks : List Kind) (c : Change) (cs : List Change)
     → drop (span (widthOf k) c) (entriesBytes i (k ∷ ks) (c ∷ cs)) ≡ entriesBytes (suc i) ks cs
-after-entry i k ks c cs = rw (entries-cons i k ks c cs) (drop-at (entryBytes i (widthOf k) c) (entriesBytes (suc i) ks cs) _ (length-entry i (widthOf k) c))
+after-entry i k ks c cs =
+    rw (entries-cons i k ks c cs)
+    (drop-at (entryBytes i (widthOf k) c) (entriesBytes (suc i) ks cs) _ (length-entry i (widthOf k) c))
 
 swap-here : (i w old new : ℕ) (r : List ℕ) → i < 65536 → old < 256 ^ w → new < 256 ^ w
     → changeAt i w (bytes 2 i ++ (bytes w old ++ (bytes w new ++ r))) ≡ swap old new
@@ -62,7 +66,8 @@ swap-here i w old new r h ho hn =
     let c : List ℕ = bytes w new ++ r in
     let b : List ℕ = bytes w old ++ c in
     let long : 2 + (w + w) ≤ length (bytes 2 i ++ b) = simp (length-append, length-bytes) (omega arith) in
-    let new-at : drop (2 + w) (bytes 2 i ++ b) ≡ c = sym (drop-drop w 2 (bytes 2 i ++ b)) ∙ rw (drop-bytes 2 i b) (drop-bytes w old c) in
+    let new-at : drop (2 + w) (bytes 2 i ++ b) ≡ c =
+    sym (drop-drop w 2 (bytes 2 i ++ b)) ∙ rw (drop-bytes 2 i b) (drop-bytes w old c) in
     rw (
       le-leb (2 + (w + w)) _ long,
       read-bytes 2 i b h,
@@ -73,13 +78,16 @@ swap-here i w old new r h ho hn =
       read-bytes w new r hn,
     )
 
-found : {ks : List Kind} {cs : List Change} (i : ℕ) (k : Kind) (c : Change) → i + suc (length ks) ≤ 65536 → lawful k c ≡ true → Every lawful ks cs
+found : {ks : List Kind} {cs : List Change} (i : ℕ) (k : Kind) (c : Change) → i + suc (length ks) ≤ 65536
+    → lawful k c ≡ true → Every lawful ks cs
     → Found i k c (entriesBytes i (k ∷ ks) (c ∷ cs)) (entriesBytes (suc i) ks cs)
 found i k keep s p ps = record { change = none-here i (widthOf k) (suc i) (omega arith) (omega arith) ps; rest = refl }
 found {ks} {cs} i k (swap old new) s p ps =
     let h = lawful-swap k old new p in
     record {
-      change = swap-here i (widthOf k) old new (entriesBytes (suc i) ks cs) (omega arith) (admits-fits k old (h .old)) (admits-fits k new (h .new));
+      change =
+          swap-here i (widthOf k) old new (entriesBytes (suc i) ks cs) (omega arith) (admits-fits k old (h .old))
+          (admits-fits k new (h .new));
       rest = after-entry i k ks (swap old new) cs;
     }
 
@@ -101,7 +109,8 @@ difference-walk i (and {a = k} {b = a} {xs = ks} {ys = as′} p ps) (and {b = b}
       difference-walk (suc i) ps qs,
     )
 
-pub join-walk : {ks : List Kind} {c d : List Change} (i : ℕ) → i + length ks ≤ 65536 → Every lawful ks c → Every lawful ks d
+pub join-walk : {ks : List Kind} {c d : List Change} (i : ℕ) → i + length ks ≤ 65536 → Every lawful ks c
+    → Every lawful ks d
     → walked Walk.Join i ks (entriesBytes i ks c) (entriesBytes i ks d) ≡ zipWith joined c d
 unfolding walked stepOf zipWith
 join-walk i s nil nil = refl
@@ -125,7 +134,8 @@ entries-back [] = refl
 entries-back (keep ∷ cs) = entries-back cs
 entries-back (swap old new ∷ cs) = ap suc (entries-back cs)
 
-length-back : (i : ℕ) (ks : List Kind) (cs : List Change) → length (entriesBytes i ks (map back cs)) ≡ length (entriesBytes i ks cs)
+length-back : (i : ℕ) (ks : List Kind) (cs : List Change)
+    → length (entriesBytes i ks (map back cs)) ≡ length (entriesBytes i ks cs)
 length-back i [] cs = refl
 length-back i (k ∷ ks) [] = refl
 length-back i (k ∷ ks) (keep ∷ cs) = length-back (suc i) ks cs
@@ -147,11 +157,13 @@ module _ {C : Type 0} (code : ℕ) (value : C) where
   abbrev pub foundAt : ℕ → ℕ → Verdict C
   foundAt n m = refusalAt code m unless leb n m ⨾ done value
 
-  found-step : (t : Bool) (i n m : ℕ) (v : Verdict C) → i < n → v ≡ foundAt n m → (refusalAt code i unless t ⨾ v) ≡ foundAt n (cond t m i)
+  found-step : (t : Bool) (i n m : ℕ) (v : Verdict C) → i < n → v ≡ foundAt n m
+      → (refusalAt code i unless t ⨾ v) ≡ foundAt n (cond t m i)
   found-step true i n m v h e = e
   found-step false i n m v h e = rw (lt-leb n i h)
 
-  pub join-misfit : {ks : List Kind} {c d : List Change} (i n : ℕ) → i + length ks ≡ n → n ≤ 65536 → Every lawful ks c → Every lawful ks d
+  pub join-misfit : {ks : List Kind} {c d : List Change} (i n : ℕ) → i + length ks ≡ n → n ≤ 65536 → Every lawful ks c
+      → Every lawful ks d
       → lowest code meets i c d value ≡ foundAt n (misfit Walk.Join i ks (entriesBytes i ks c) (entriesBytes i ks d))
   unfolding misfit stepOf
   join-misfit i n e s nil nil = rw (le-leb n i (omega arith))
@@ -161,7 +173,8 @@ module _ {C : Type 0} (code : ℕ) (value : C) where
       rw (x .change, y .change, x .rest, y .rest)
       (found-step (meets c d) i n _ _ (omega arith) (join-misfit (suc i) n (omega arith) s ps qs))
 
-  pub apply-unfit : {ks : List Kind} {c : List Change} {a : List ℕ} (i n : ℕ) → i + length ks ≡ n → n ≤ 65536 → Every lawful ks c → Every admits ks a
+  pub apply-unfit : {ks : List Kind} {c : List Change} {a : List ℕ} (i n : ℕ) → i + length ks ≡ n → n ≤ 65536
+      → Every lawful ks c → Every admits ks a
       → lowest code fits i c a value ≡ foundAt n (unfit i ks (entriesBytes i ks c) (wordsBytes ks a))
   unfolding unfit
   apply-unfit i n e s nil nil = rw (le-leb n i (omega arith))
@@ -178,7 +191,8 @@ renewed-is : (w a : ℕ) (c : Change) → renewed c (bytes w a) ≡ bytes w (aft
 renewed-is w a keep = refl
 renewed-is w a (swap old new) = rw (length-bytes w a)
 
-pub renewal-is : {ks : List Kind} {c : List Change} {a : List ℕ} (i : ℕ) → i + length ks ≤ 65536 → Every lawful ks c → Every admits ks a
+pub renewal-is : {ks : List Kind} {c : List Change} {a : List ℕ} (i : ℕ) → i + length ks ≤ 65536 → Every lawful ks c
+    → Every admits ks a
     → renewal i ks (entriesBytes i ks c) (wordsBytes ks a) ≡ wordsBytes ks (zipWith after c a)
 unfolding renewal zipWith
 renewal-is i s nil nil = refl
@@ -186,4 +200,11 @@ renewal-is i s (and {a = k} {b = c} {xs = ks} p ps) (and {b = a} {ys = as′} q 
     let x = found i k c s p ps in
     let w : ℕ = widthOf k in
     let g : List ℕ = wordsBytes ks as′ in
-    rw (x .change, x .rest, take-bytes w a g, drop-bytes w a g, renewed-is w a c, renewal-is (suc i) (omega arith) ps qs)
+    rw (
+      x .change,
+      x .rest,
+      take-bytes w a g,
+      drop-bytes w a g,
+      renewed-is w a c,
+      renewal-is (suc i) (omega arith) ps qs,
+    )

@@ -1,4 +1,5 @@
--- The turns of the loops that make a list, operation by operation: each is a turn of the walk, with the step that the functions called return.
+-- The turns of the loops that make a list, operation by operation:
+-- each is a turn of the walk, with the step that the functions called return.
 -- Assumes nothing.
 use Prim.Native.Nat.{ℕ, suc, _+_, _-_, _^_, _≤_, _<_}
 use native.Mathlib.Omega.{arith}
@@ -18,8 +19,10 @@ use Rattle.history.specs.Changes.{entriesBytes, differ, meets, joined, back}
 use Rattle.tables.specs.Outlines.{kindsOf}
 use Rattle.forms.proofs.KindLaws.{kinds-next}
 use Rattle.steps.specs.declared.Walk.{Walk}
-use Rattle.steps.specs.Steps.{span, entryBytes, names, countIf, sizeIf, saidIf, changeAt, isSwap, stepOf, Stepped, Silent, Idle}
-use Rattle.steps.proofs.StepLaws.{difference-step, join-step, turn-step, differ-swap, names-inside, said-inside, idle-none, idle-turn}
+use Rattle.steps.specs.Steps.{span, entryBytes, names, countIf, sizeIf, saidIf, changeAt, isSwap, stepOf, Stepped}
+use Rattle.steps.specs.Steps.{Silent, Idle}
+use Rattle.steps.proofs.StepLaws.{difference-step, join-step, turn-step, differ-swap, names-inside, said-inside}
+use Rattle.steps.proofs.StepLaws.{idle-none, idle-turn}
 use Rattle.walks.specs.Walks.{walked, walkBytes, ElementsLong, Asked, Surveyed}
 use Rattle.walks.proofs.Rounds.{Sizing, sized-until, one-sized, Putting, put-fits, put-inside, put-long, one-put}
 
@@ -29,7 +32,8 @@ asked {ns = ns} {f = f} {s = s} e a = subst (λ (walk : Walk). Asked walk ns f s
 
 -- room and bytes, once it is known which walk it is
 module _ {walk which : Walk} (e : walk ≡ which) (ns f s : List ℕ) where
-  pub room-as : {n : ℕ} → n ≡ length (walkBytes walk 0 (kindsOf ns) f s) → n ≡ length (walkBytes which 0 (kindsOf ns) f s)
+  pub room-as : {n : ℕ} → n ≡ length (walkBytes walk 0 (kindsOf ns) f s)
+      → n ≡ length (walkBytes which 0 (kindsOf ns) f s)
   room-as l = rw e at l
 
   pub bytes-as : {b : List ℕ} → b ≡ walkBytes which 0 (kindsOf ns) f s → b ≡ walkBytes walk 0 (kindsOf ns) f s
@@ -44,7 +48,8 @@ pub record Comparing (ns f s : List ℕ) (p i : ℕ) : Type 0 where
 pub none-compared : {ns f s : List ℕ} → ElementsLong ns f s → Comparing ns f s 0 0
 none-compared e = record { old = omega (arith, e .first); new = omega (arith, e .second) }
 
-module _ {ns f s : List ℕ} {p i : ℕ} (z : Comparing ns f s p i) (h : i < length ns) {w : ℕ} (ew : w ≡ widthOf (kindAt (kindsOf ns) i)) where
+module _ {ns f s : List ℕ} {p i : ℕ} (z : Comparing ns f s p i) (h : i < length ns) {w : ℕ}
+    (ew : w ≡ widthOf (kindAt (kindsOf ns) i)) where
   pub old-inside : p + w ≤ length f
   old-inside = omega (arith, z .old, ap widths (kinds-next ns i h))
 
@@ -55,20 +60,27 @@ module _ {ns f s : List ℕ} {p i : ℕ} (z : Comparing ns f s p i) (h : i < len
   place-fits k = omega (arith, old-inside)
 
   pub one-compared : Comparing ns f s (p + w) (i + 1)
-  one-compared = record { old = omega (arith, z .old, ap widths (kinds-next ns i h)); new = omega (arith, z .new, ap widths (kinds-next ns i h)) }
+  one-compared =
+      record {
+        old = omega (arith, z .old, ap widths (kinds-next ns i h));
+        new = omega (arith, z .new, ap widths (kinds-next ns i h));
+      }
 
   module _ {a b : ℕ} (ea : a ≡ number (take w (drop p f))) (eb : b ≡ number (take w (drop p s))) where
-    step : {c : Change} → c ≡ differ a b → Stepped Walk.Difference i w f p s p (record { change = c; agrees = true; first = w; second = w })
+    step : {c : Change} → c ≡ differ a b
+        → Stepped Walk.Difference i w f p s p (record { change = c; agrees = true; first = w; second = w })
     step ec = difference-step old-inside new-inside ea eb ec
 
     onward : Idle Walk.Difference (i + 1) (i + 1) (length ns) (drop (p + w) f) (drop (p + w) s)
     onward = idle-none Walk.Difference (i + 1) (length ns) (drop (p + w) f) (drop (p + w) s) (omega arith)
 
-    pub difference-sized : {count size m n : ℕ} → Sizing Walk.Difference ns f s count size p p i → (m ≡ countIf (not (eqb a b))) × (m ≤ 1) → (n ≡ sizeIf (not (eqb a b)) w) × (n ≤ 10)
+    pub difference-sized : {count size m n : ℕ} → Sizing Walk.Difference ns f s count size p p i
+        → (m ≡ countIf (not (eqb a b))) × (m ≤ 1) → (n ≡ sizeIf (not (eqb a b)) w) × (n ≤ 10)
         → Sizing Walk.Difference ns f s (count + m) (size + n) (p + w) (p + w) (i + 1)
     difference-sized y em en = one-sized y h ew (step refl) refl (differ-swap a b) em en onward
 
-    module _ {c : Change} (ec : c ≡ differ a b) {part₀ part : List ℕ} {at n : ℕ} (y : Putting Walk.Difference ns f s part₀ part at p p i) (en : n ≡ span w c) where
+    module _ {c : Change} (ec : c ≡ differ a b) {part₀ part : List ℕ} {at n : ℕ}
+        (y : Putting Walk.Difference ns f s part₀ part at p p i) (en : n ≡ span w c) where
       pub difference-fits : length part₀ < 2 ^ 64 → at + n < 2 ^ 64
       difference-fits k = put-fits y h ew (step ec) en k
 
@@ -78,32 +90,47 @@ module _ {ns f s : List ℕ} {p i : ℕ} (z : Comparing ns f s p i) (h : i < len
       pub difference-long : length (midOf at (at + n - at) part) ≡ span w c
       difference-long = put-long y h ew (step ec) en
 
-      pub difference-put : {ys : List ℕ} → ys ≡ entryBytes i w c → Putting Walk.Difference ns f s part₀ (putMid at (at + n - at) part ys) (at + n) (p + w) (p + w) (i + 1)
+      pub difference-put : {ys : List ℕ} → ys ≡ entryBytes i w c
+          → Putting Walk.Difference ns f s part₀ (putMid at (at + n - at) part ys) (at + n) (p + w) (p + w) (i + 1)
       difference-put q = one-put y h ew (step ec) en q onward
 
 -- ---- a join: what each list says of the object
 
 -- the cursor past an entry is still inside
-module _ (l : List ℕ) (p i w : ℕ) {t : Bool} {m : ℕ} (h : p ≤ length l) (e : t ≡ names i w (drop p l)) (em : (m ≡ sizeIf t w) × (m ≤ 10)) where
+module _ (l : List ℕ) (p i w : ℕ) {t : Bool} {m : ℕ} (h : p ≤ length l) (e : t ≡ names i w (drop p l))
+    (em : (m ≡ sizeIf t w) × (m ≤ 10)) where
   pub cursor-inside : p + m ≤ length l
   cursor-inside = omega (arith, names-inside l p i w h e, em .0)
 
   pub cursor-fits : length l < 2 ^ 64 → p + m < 2 ^ 64
   cursor-fits k = omega (arith, cursor-inside)
 
-module _ {ns f s : List ℕ} {p q i w : ℕ} {one other : Bool} (h : i < length ns) (ew : w ≡ widthOf (kindAt (kindsOf ns) i)) (eo : one ≡ names i w (drop p f)) (es : other ≡ names i w (drop q s)) where
-  module _ {count size : ℕ} (z : Sizing Walk.Join ns f s count size p q i) {t : Bool} (et : t ≡ meets (saidIf one w (drop p f)) (saidIf other w (drop q s))) where
+module _ {ns f s : List ℕ} {p q i w : ℕ} {one other : Bool} (h : i < length ns)
+    (ew : w ≡ widthOf (kindAt (kindsOf ns) i)) (eo : one ≡ names i w (drop p f))
+    (es : other ≡ names i w (drop q s)) where
+  module _ {count size : ℕ} (z : Sizing Walk.Join ns f s count size p q i) {t : Bool}
+      (et : t ≡ meets (saidIf one w (drop p f)) (saidIf other w (drop q s))) where
     pub join-until : t ≡ false → Surveyed ns f s (record { misfit = i; size = record { count = count; bytes = size } })
     join-until b = sized-until z h ew (join-step (z .seek .near) (z .seek .far) eo es refl et refl refl) b
 
-    pub join-sized : t ≡ true → {kept : Bool} → kept ≡ isSwap (joined (saidIf one w (drop p f)) (saidIf other w (drop q s)))
-        → {m n k l : ℕ} → (m ≡ countIf kept) × (m ≤ 1) → (n ≡ sizeIf kept w) × (n ≤ 10) → (k ≡ sizeIf one w) × (k ≤ 10) → (l ≡ sizeIf other w) × (l ≤ 10)
+    pub join-sized : t ≡ true → {kept : Bool}
+        → kept ≡ isSwap (joined (saidIf one w (drop p f)) (saidIf other w (drop q s)))
+        → {m n k l : ℕ} → (m ≡ countIf kept) × (m ≤ 1) → (n ≡ sizeIf kept w) × (n ≤ 10) → (k ≡ sizeIf one w) × (k ≤ 10)
+        → (l ≡ sizeIf other w) × (l ≤ 10)
         → {j : ℕ} → Idle Walk.Join (i + 1) j (length ns) (drop (p + k) f) (drop (q + l) s)
         → Sizing Walk.Join ns f s (count + m) (size + n) (p + k) (q + l) j
-    join-sized b e em en ek el d = one-sized z h ew (join-step (z .seek .near) (z .seek .far) eo es refl et (ek .0) (el .0)) b e em en d
+    join-sized b e em en ek el d =
+        one-sized z h ew (join-step (z .seek .near) (z .seek .far) eo es refl et (ek .0) (el .0)) b e em en d
 
-  module _ {part₀ part : List ℕ} {at n : ℕ} (z : Putting Walk.Join ns f s part₀ part at p q i) {c : Change} (ec : c ≡ joined (saidIf one w (drop p f)) (saidIf other w (drop q s))) (en : n ≡ span w c) where
-    joint : Stepped Walk.Join i w f p s q (record { change = c; agrees = meets (saidIf one w (drop p f)) (saidIf other w (drop q s)); first = sizeIf one w; second = sizeIf other w })
+  module _ {part₀ part : List ℕ} {at n : ℕ} (z : Putting Walk.Join ns f s part₀ part at p q i) {c : Change}
+      (ec : c ≡ joined (saidIf one w (drop p f)) (saidIf other w (drop q s))) (en : n ≡ span w c) where
+    joint : Stepped Walk.Join i w f p s q
+        (record {
+          change = c;
+          agrees = meets (saidIf one w (drop p f)) (saidIf other w (drop q s));
+          first = sizeIf one w;
+          second = sizeIf other w;
+        })
     joint = join-step (z .near) (z .far) eo es ec refl refl refl
 
     pub join-fits : length part₀ < 2 ^ 64 → at + n < 2 ^ 64
@@ -115,7 +142,8 @@ module _ {ns f s : List ℕ} {p q i w : ℕ} {one other : Bool} (h : i < length 
     pub join-long : length (midOf at (at + n - at) part) ≡ span w c
     join-long = put-long z h ew joint en
 
-    pub join-put : {ys : List ℕ} → ys ≡ entryBytes i w c → {k l : ℕ} → (k ≡ sizeIf one w) × (k ≤ 10) → (l ≡ sizeIf other w) × (l ≤ 10)
+    pub join-put : {ys : List ℕ} → ys ≡ entryBytes i w c → {k l : ℕ} → (k ≡ sizeIf one w) × (k ≤ 10)
+        → (l ≡ sizeIf other w) × (l ≤ 10)
         → {j : ℕ} → Idle Walk.Join (i + 1) j (length ns) (drop (p + k) f) (drop (q + l) s)
         → Putting Walk.Join ns f s part₀ (putMid at (at + n - at) part ys) (at + n) (p + k) (q + l) j
     join-put y ek el d = one-put z h ew (join-step (z .near) (z .far) eo es ec refl (ek .0) (el .0)) en y d
@@ -132,17 +160,22 @@ bytes-alone : (ks : List Kind) (f s t : List ℕ) → walkBytes Walk.Turn 0 ks f
 bytes-alone ks f s t = ap (entriesBytes 0 ks) (alone 0 ks f s t)
 
 module _ {walk : Walk} (e : walk ≡ Walk.Turn) (ns f s : List ℕ) where
-  pub room-alone : {n : ℕ} → n ≡ length (walkBytes walk 0 (kindsOf ns) f s) → n ≡ length (walkBytes Walk.Turn 0 (kindsOf ns) f [])
+  pub room-alone : {n : ℕ} → n ≡ length (walkBytes walk 0 (kindsOf ns) f s)
+      → n ≡ length (walkBytes Walk.Turn 0 (kindsOf ns) f [])
   room-alone l = room-as e ns f s l ∙ ap length (bytes-alone (kindsOf ns) f s [])
 
   pub bytes-turned : {b : List ℕ} → b ≡ walkBytes Walk.Turn 0 (kindsOf ns) f [] → b ≡ walkBytes walk 0 (kindsOf ns) f s
   bytes-turned p = bytes-as e ns f s (p ∙ bytes-alone (kindsOf ns) f [] s)
 
-pub said-fits : (l : List ℕ) (p i w : ℕ) {c : Change} {m : ℕ} → p ≤ length l → c ≡ changeAt i w (drop p l) → (m ≡ span w c) × (m ≤ 10) → length l < 2 ^ 64 → p + m < 2 ^ 64
+pub said-fits : (l : List ℕ) (p i w : ℕ) {c : Change} {m : ℕ} → p ≤ length l → c ≡ changeAt i w (drop p l)
+    → (m ≡ span w c) × (m ≤ 10) → length l < 2 ^ 64 → p + m < 2 ^ 64
 said-fits l p i w h ec em k = omega (arith, said-inside l p i w h ec (em .0))
 
-module _ {ns f s part₀ part : List ℕ} {at p i w n : ℕ} (z : Putting Walk.Turn ns f s part₀ part at p 0 i) (h : i < length ns) (ew : w ≡ widthOf (kindAt (kindsOf ns) i)) {c d : Change} (ec : c ≡ changeAt i w (drop p f)) (ed : d ≡ back c) (en : n ≡ span w d) where
-  turned : {m : ℕ} → m ≡ span w c → Stepped Walk.Turn i w f p s 0 (record { change = d; agrees = true; first = m; second = 0 })
+module _ {ns f s part₀ part : List ℕ} {at p i w n : ℕ} (z : Putting Walk.Turn ns f s part₀ part at p 0 i)
+    (h : i < length ns) (ew : w ≡ widthOf (kindAt (kindsOf ns) i)) {c d : Change} (ec : c ≡ changeAt i w (drop p f))
+    (ed : d ≡ back c) (en : n ≡ span w d) where
+  turned : {m : ℕ} → m ≡ span w c
+      → Stepped Walk.Turn i w f p s 0 (record { change = d; agrees = true; first = m; second = 0 })
   turned em = turn-step (z .near) (z .far) ec ed em
 
   pub turn-fits : length part₀ < 2 ^ 64 → at + n < 2 ^ 64
@@ -154,6 +187,7 @@ module _ {ns f s part₀ part : List ℕ} {at p i w n : ℕ} (z : Putting Walk.T
   pub turn-long : length (midOf at (at + n - at) part) ≡ span w d
   turn-long = put-long z h ew (turned refl) en
 
-  pub turn-put : {ys : List ℕ} → ys ≡ entryBytes i w d → {m : ℕ} → (m ≡ span w c) × (m ≤ 10) → {j : ℕ} → Silent (i + 1) j (length ns) (drop (p + m) f)
+  pub turn-put : {ys : List ℕ} → ys ≡ entryBytes i w d → {m : ℕ} → (m ≡ span w c) × (m ≤ 10) → {j : ℕ}
+      → Silent (i + 1) j (length ns) (drop (p + m) f)
       → Putting Walk.Turn ns f s part₀ (putMid at (at + n - at) part ys) (at + n) (p + m) 0 j
   turn-put y em v = one-put z h ew (turned (em .0)) en y (idle-turn s v)

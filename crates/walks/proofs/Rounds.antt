@@ -1,4 +1,5 @@
--- The turns of the walk's loops: at object i, with the cursors p and q, what is done and what the walk still gives make up the whole.
+-- The turns of the walk's loops: at object i, with the cursors p and q, what is done and what
+-- the walk still gives make up the whole.
 -- Assumes nothing.
 use Prim.Native.Nat.{ℕ, suc, _+_, _-_, _*_, _^_, _≤_, _<_}
 use native.Mathlib.Omega.{arith}
@@ -33,7 +34,8 @@ entries-more : (c : Change) (cs : List Change) → entries (c ∷ cs) ≡ entrie
 entries-more keep cs = omega arith
 entries-more (swap old new) cs = omega arith
 
-bytes-cons : (i j : ℕ) (k : Kind) (c : Change) {ks ks′ : List Kind} {cs cs′ : List Change} {w : ℕ} → ks ≡ k ∷ ks′ → cs ≡ c ∷ cs′ → w ≡ widthOf k → j ≡ suc i
+bytes-cons : (i j : ℕ) (k : Kind) (c : Change) {ks ks′ : List Kind} {cs cs′ : List Change} {w : ℕ} → ks ≡ k ∷ ks′
+    → cs ≡ c ∷ cs′ → w ≡ widthOf k → j ≡ suc i
     → entriesBytes i ks cs ≡ entryBytes i w c ++ entriesBytes j ks′ cs′
 bytes-cons i j k c {ks′ = ks′} {cs′ = cs′} e f g h = rw (e, f, g, h) (entries-cons i k ks′ c cs′)
 
@@ -46,7 +48,8 @@ module _ (walk : Walk) (ns f s : List ℕ) where
   leftBytes i p q = entriesBytes i (drop i (kindsOf ns)) (left i p q)
 
   module _ (i p q : ℕ) where
-    module _ (h : i < length ns) {w : ℕ} (e : w ≡ widthOf (kindAt (kindsOf ns) i)) {r : Step} (t : Stepped walk i w f p s q r) where
+    module _ (h : i < length ns) {w : ℕ} (e : w ≡ widthOf (kindAt (kindsOf ns) i)) {r : Step}
+        (t : Stepped walk i w f p s q r) where
       left-next : left i p q ≡ r .change ∷ left (i + 1) (p + r .first) (q + r .second)
       unfolding walked
       left-next =
@@ -55,11 +58,13 @@ module _ (walk : Walk) (ns f s : List ℕ) where
       bytes-next : leftBytes i p q ≡ entryBytes i w (r .change) ++ leftBytes (i + 1) (p + r .first) (q + r .second)
       bytes-next = bytes-cons i (i + 1) (kindAt (kindsOf ns) i) (r .change) (kinds-next ns i h) left-next e (add-one i)
 
-      count-next : entries (left i p q) ≡ entries (r .change ∷ []) + entries (left (i + 1) (p + r .first) (q + r .second))
+      count-next : entries (left i p q)
+          ≡ entries (r .change ∷ []) + entries (left (i + 1) (p + r .first) (q + r .second))
       count-next = ap entries left-next ∙ entries-more (r .change) (left (i + 1) (p + r .first) (q + r .second))
 
       misfit-next : misfit walk i (drop i (kindsOf ns)) (drop p f) (drop q s)
-          ≡ cond (r .agrees) (misfit walk (i + 1) (drop (i + 1) (kindsOf ns)) (drop (p + r .first) f) (drop (q + r .second) s)) i
+          ≡ cond (r .agrees)
+          (misfit walk (i + 1) (drop (i + 1) (kindsOf ns)) (drop (p + r .first) f) (drop (q + r .second) s)) i
       unfolding misfit
       misfit-next =
           rw (kinds-next ns i h, ← e, ← (t .is), add-one i, drop-drop (r .first) p f, drop-drop (r .second) q s)
@@ -78,18 +83,28 @@ module _ (walk : Walk) (ns f s : List ℕ) where
 
   -- ---- a run of objects at which there is nothing to do
 
-  module _ {i p q j n : ℕ} (near : p ≤ length f) (far : q ≤ length s) (d : Idle walk i j n (drop p f) (drop q s)) (h : n ≤ length ns) where
+  module _ {i p q j n : ℕ} (near : p ≤ length f) (far : q ≤ length s) (d : Idle walk i j n (drop p f) (drop q s))
+      (h : n ≤ length ns) where
     still : (k : ℕ) → i ≤ k → k < j → Stepped walk k (widthOf (kindAt (kindsOf ns) k)) f p s q idle
-    still k a b = record { is = sym (d .is k (widthOf (kindAt (kindsOf ns) k)) a b); near = omega arith; far = omega arith }
+    still k a b =
+        record { is = sym (d .is k (widthOf (kindAt (kindsOf ns) k)) a b); near = omega arith; far = omega arith }
 
     bytes-run : leftBytes i p q ≡ leftBytes j p q
-    bytes-run = run (λ k. leftBytes k p q) (d .on) (λ k a b. rw (add-zero p, add-zero q) at (bytes-next k p q (omega (arith, d .within)) refl (still k a b)))
+    bytes-run =
+        run (λ k. leftBytes k p q) (d .on)
+        (λ k a b. rw (add-zero p, add-zero q) at (bytes-next k p q (omega (arith, d .within)) refl (still k a b)))
 
     count-run : entries (left i p q) ≡ entries (left j p q)
-    count-run = run (λ k. entries (left k p q)) (d .on) (λ k a b. rw (add-zero p, add-zero q, zero-add) at (count-next k p q (omega (arith, d .within)) refl (still k a b)))
+    count-run =
+        run (λ k. entries (left k p q)) (d .on)
+        (λ k a b. rw (add-zero p, add-zero q, zero-add) at
+        (count-next k p q (omega (arith, d .within)) refl (still k a b)))
 
-    misfit-run : misfit walk i (drop i (kindsOf ns)) (drop p f) (drop q s) ≡ misfit walk j (drop j (kindsOf ns)) (drop p f) (drop q s)
-    misfit-run = run (λ k. misfit walk k (drop k (kindsOf ns)) (drop p f) (drop q s)) (d .on) (λ k a b. rw (add-zero p, add-zero q) at (misfit-next k p q (omega (arith, d .within)) refl (still k a b)))
+    misfit-run : misfit walk i (drop i (kindsOf ns)) (drop p f) (drop q s)
+        ≡ misfit walk j (drop j (kindsOf ns)) (drop p f) (drop q s)
+    misfit-run =
+        run (λ k. misfit walk k (drop k (kindsOf ns)) (drop p f) (drop q s)) (d .on)
+        (λ k a b. rw (add-zero p, add-zero q) at (misfit-next k p q (omega (arith, d .within)) refl (still k a b)))
 
 -- ---- the lowest object on which the forms do not agree
 
@@ -104,18 +119,26 @@ none-sought : (walk : Walk) (ns f s : List ℕ) → Seeking walk ns f s 0 0 0
 none-sought walk ns f s = record { inside = omega arith; near = omega arith; far = omega arith; same = refl }
 
 module _ {walk : Walk} {ns f s : List ℕ} {p q i : ℕ} (z : Seeking walk ns f s p q i) where
-  module _ (h : i < length ns) {w : ℕ} {r : Step} (e : w ≡ widthOf (kindAt (kindsOf ns) i)) (t : Stepped walk i w f p s q r) where
+  module _ (h : i < length ns) {w : ℕ} {r : Step} (e : w ≡ widthOf (kindAt (kindsOf ns) i))
+      (t : Stepped walk i w f p s q r) where
     misfit-here : r .agrees ≡ false → i ≡ misfit walk 0 (kindsOf ns) f s
     misfit-here b = sym (z .same ∙ misfit-next walk ns f s i p q h e t ∙ rw b)
 
     step-sought : r .agrees ≡ true → Seeking walk ns f s (p + r .first) (q + r .second) (i + 1)
-    step-sought b = record { inside = omega arith; near = t .near; far = t .far; same = z .same ∙ misfit-next walk ns f s i p q h e t ∙ rw b }
+    step-sought b =
+        record {
+          inside = omega arith;
+          near = t .near;
+          far = t .far;
+          same = z .same ∙ misfit-next walk ns f s i p q h e t ∙ rw b;
+        }
 
   all-sought : length ns ≤ i → i ≡ misfit walk 0 (kindsOf ns) f s
   all-sought h = sym (z .same ∙ misfit-end walk ns f s i p q h)
 
 -- on to the next object at which there is something to do
-run-sought : {walk : Walk} {ns f s : List ℕ} {p q i j : ℕ} → Seeking walk ns f s p q i → Idle walk i j (length ns) (drop p f) (drop q s) → Seeking walk ns f s p q j
+run-sought : {walk : Walk} {ns f s : List ℕ} {p q i j : ℕ} → Seeking walk ns f s p q i
+    → Idle walk i j (length ns) (drop p f) (drop q s) → Seeking walk ns f s p q j
 run-sought {walk} {ns} {f} {s} z d = record {
   inside = d .within;
   near = z .near;
@@ -143,7 +166,8 @@ none-sized walk ns f s = record {
 }
 
 -- on to the next object at which there is something to do
-run-sized : {walk : Walk} {ns f s : List ℕ} {count size p q i j : ℕ} → Sizing walk ns f s count size p q i → Idle walk i j (length ns) (drop p f) (drop q s)
+run-sized : {walk : Walk} {ns f s : List ℕ} {count size p q i j : ℕ} → Sizing walk ns f s count size p q i
+    → Idle walk i j (length ns) (drop p f) (drop q s)
     → Sizing walk ns f s count size p q j
 run-sized {walk} {ns} {f} {s} z d = record {
   seek = run-sought (z .seek) d;
@@ -154,7 +178,8 @@ run-sized {walk} {ns} {f} {s} z d = record {
 }
 
 module _ {walk : Walk} {ns f s : List ℕ} {count size p q i : ℕ} (z : Sizing walk ns f s count size p q i) where
-  pub one-sized : i < length ns → {w m n : ℕ} {r : Step} → w ≡ widthOf (kindAt (kindsOf ns) i) → Stepped walk i w f p s q r → r .agrees ≡ true
+  pub one-sized : i < length ns → {w m n : ℕ} {r : Step} → w ≡ widthOf (kindAt (kindsOf ns) i)
+      → Stepped walk i w f p s q r → r .agrees ≡ true
       → {kept : Bool} → kept ≡ isSwap (r .change) → (m ≡ countIf kept) × (m ≤ 1) → (n ≡ sizeIf kept w) × (n ≤ 10)
       → {j : ℕ} → Idle walk (i + 1) j (length ns) (drop (p + r .first) f) (drop (q + r .second) s)
       → Sizing walk ns f s (count + m) (size + n) (p + r .first) (q + r .second) j
@@ -168,7 +193,11 @@ module _ {walk : Walk} {ns f s : List ℕ} {count size p q i : ℕ} (z : Sizing 
         short = omega arith;
         entries = omega (arith, count-next walk ns f s i p q h e t);
         bytes =
-            omega (arith, length-entry i w (r .change), simp length-append at (ap length (bytes-next walk ns f s i p q h e t)));
+            omega (
+              arith,
+              length-entry i w (r .change),
+              simp length-append at (ap length (bytes-next walk ns f s i p q h e t)),
+            );
       })
       d
 
@@ -187,11 +216,14 @@ module _ {ns f s : List ℕ} {count size p q i : ℕ} (z : Sizing Walk.Join ns f
   survey = record { misfit = i; size = record { count = count; bytes = size } }
 
   -- the lists do not agree on the object
-  pub sized-until : i < length ns → {w : ℕ} {r : Step} → w ≡ widthOf (kindAt (kindsOf ns) i) → Stepped Walk.Join i w f p s q r → r .agrees ≡ false → Surveyed ns f s survey
-  sized-until h e t b = record { found = misfit-here (z .seek) h e t b; inside = omega arith; measured = λ k. absurd (omega arith) }
+  pub sized-until : i < length ns → {w : ℕ} {r : Step} → w ≡ widthOf (kindAt (kindsOf ns) i)
+      → Stepped Walk.Join i w f p s q r → r .agrees ≡ false → Surveyed ns f s survey
+  sized-until h e t b =
+      record { found = misfit-here (z .seek) h e t b; inside = omega arith; measured = λ k. absurd (omega arith) }
 
   pub all-sized : length ns ≤ i → length ns ≤ 1024 → Surveyed ns f s survey
-  all-sized h few = record { found = all-sought (z .seek) h; inside = z .seek .inside; measured = λ _. all-measured z h few }
+  all-sized h few =
+      record { found = all-sought (z .seek) h; inside = z .seek .inside; measured = λ _. all-measured z h few }
 
 -- ---- writing the entries
 
@@ -201,15 +233,19 @@ pub record Putting (walk : Walk) (ns f s part₀ part : List ℕ) (at p q i : �
   pub far : q ≤ length s
   pub fill : Filling (leftBytes walk ns f s 0 0 0) part₀ (leftBytes walk ns f s i p q) at part
 
-pub none-put : (walk : Walk) (ns f s part : List ℕ) → length part ≡ length (walkBytes walk 0 (kindsOf ns) f s) → Putting walk ns f s part part 0 0 0 0
-none-put walk ns f s part h = record { inside = omega arith; near = omega arith; far = omega arith; fill = begin _ part h }
+pub none-put : (walk : Walk) (ns f s part : List ℕ) → length part ≡ length (walkBytes walk 0 (kindsOf ns) f s)
+    → Putting walk ns f s part part 0 0 0 0
+none-put walk ns f s part h =
+    record { inside = omega arith; near = omega arith; far = omega arith; fill = begin _ part h }
 
 module _ {walk : Walk} {ns f s part₀ part : List ℕ} {at p q i : ℕ} (z : Putting walk ns f s part₀ part at p q i) where
   pub put-keeps : length part ≡ length part₀
   put-keeps = keeps (z .fill)
 
-  module _ (h : i < length ns) {w n : ℕ} {r : Step} (e : w ≡ widthOf (kindAt (kindsOf ns) i)) (t : Stepped walk i w f p s q r) (en : n ≡ span w (r .change)) where
-    next : Filling (leftBytes walk ns f s 0 0 0) part₀ (entryBytes i w (r .change) ++ leftBytes walk ns f s (i + 1) (p + r .first) (q + r .second)) at part
+  module _ (h : i < length ns) {w n : ℕ} {r : Step} (e : w ≡ widthOf (kindAt (kindsOf ns) i))
+      (t : Stepped walk i w f p s q r) (en : n ≡ span w (r .change)) where
+    next : Filling (leftBytes walk ns f s 0 0 0) part₀
+        (entryBytes i w (r .change) ++ leftBytes walk ns f s (i + 1) (p + r .first) (q + r .second)) at part
     next = along (z .fill) (bytes-next walk ns f s i p q h e t)
 
     -- the entry has room
@@ -225,13 +261,16 @@ module _ {walk : Walk} {ns f s part₀ part : List ℕ} {at p q i : ℕ} (z : Pu
     pub put-long : length (midOf at (at + n - at) part) ≡ span w (r .change)
     put-long = mid-len at (at + n) part put-inside ∙ omega arith
 
-    pub one-put : {ys : List ℕ} → ys ≡ entryBytes i w (r .change) → {j : ℕ} → Idle walk (i + 1) j (length ns) (drop (p + r .first) f) (drop (q + r .second) s)
+    pub one-put : {ys : List ℕ} → ys ≡ entryBytes i w (r .change) → {j : ℕ}
+        → Idle walk (i + 1) j (length ns) (drop (p + r .first) f) (drop (q + r .second) s)
         → Putting walk ns f s part₀ (putMid at (at + n - at) part ys) (at + n) (p + r .first) (q + r .second) j
     one-put q d = record {
       inside = d .within;
       near = t .near;
       far = t .far;
-      fill = along (write next q (at + n) (ap (λ (m : ℕ). at + m) (length-entry i w (r .change) ∙ sym en))) (bytes-run walk ns f s (t .near) (t .far) d (omega arith));
+      fill =
+          along (write next q (at + n) (ap (λ (m : ℕ). at + m) (length-entry i w (r .change) ∙ sym en)))
+          (bytes-run walk ns f s (t .near) (t .far) d (omega arith));
     }
 
   pub all-put : length ns ≤ i → part ≡ walkBytes walk 0 (kindsOf ns) f s

@@ -32,7 +32,9 @@ run g {i} {j} h step =
 
 -- ---- where a place moves by the objects' widths
 
-widths-first : (ns : List ℕ) (i d : ℕ) → i < length ns → widths (kindsOf (take (suc d) (drop i ns))) ≡ widthOf (kindAt (kindsOf ns) i) + widths (kindsOf (take d (drop (i + 1) ns)))
+widths-first : (ns : List ℕ) (i d : ℕ) → i < length ns
+    → widths (kindsOf (take (suc d) (drop i ns)))
+    ≡ widthOf (kindAt (kindsOf ns) i) + widths (kindsOf (take d (drop (i + 1) ns)))
 unfolding kindsOf
 widths-first ns i d h = rw (drop-cons ns i 0 h, add-one i, ← kind-is ns i)
 
@@ -44,17 +46,23 @@ pass-by ns g zero i a h step z = rw (add-zero i, add-zero a) z
 pass-by ns g (suc d) i a h step z =
     let w : ℕ = widthOf (kindAt (kindsOf ns) i) in
     let e : i + 1 + d ≡ i + suc d = omega arith in
-    let l : a + w + widths (kindsOf (take d (drop (i + 1) ns))) ≡ a + widths (kindsOf (take (suc d) (drop i ns))) = omega (arith, widths-first ns i d (omega arith)) in
-    rw (e, l) at (pass-by ns g d (i + 1) (a + w) (omega arith) (λ k b x y. step k b (omega arith) (omega arith)) (step i a (omega arith) (omega arith) z))
+    let l : a + w + widths (kindsOf (take d (drop (i + 1) ns))) ≡ a + widths (kindsOf (take (suc d) (drop i ns))) =
+    omega (arith, widths-first ns i d (omega arith)) in
+    rw (e, l) at
+    (pass-by ns g d (i + 1) (a + w) (omega arith) (λ k b x y. step k b (omega arith) (omega arith))
+    (step i a (omega arith) (omega arith) z))
 
 -- past all objects of which the entries e say nothing
-pub pass : (ns : List ℕ) {e : List ℕ} (g : ℕ → ℕ → Type 0) {i j a m : ℕ} → Silent i j (length ns) e → m ≡ widths (kindsOf (take (j - i) (drop i ns)))
-    → ((k b : ℕ) → k < length ns → changeAt k (widthOf (kindAt (kindsOf ns) k)) e ≡ keep → g k b → g (k + 1) (b + widthOf (kindAt (kindsOf ns) k)))
+pub pass : (ns : List ℕ) {e : List ℕ} (g : ℕ → ℕ → Type 0) {i j a m : ℕ} → Silent i j (length ns) e
+    → m ≡ widths (kindsOf (take (j - i) (drop i ns)))
+    → ((k b : ℕ) → k < length ns → changeAt k (widthOf (kindAt (kindsOf ns) k)) e ≡ keep → g k b
+    → g (k + 1) (b + widthOf (kindAt (kindsOf ns) k)))
     → g i a → g j (a + m)
 pass ns g {i} {j} {a} {m} d q step z =
     let l : i + (j - i) ≡ j = omega (arith, d .on) in
     rw (l, ← q)
-    at (pass-by ns g (j - i) i a (omega (arith, d .on, d .within)) (λ k b x y. step k b (omega (arith, d .on, d .within)) (d .says k _ x (omega (arith, d .on)))) z)
+    at (pass-by ns g (j - i) i a (omega (arith, d .on, d .within))
+    (λ k b x y. step k b (omega (arith, d .on, d .within)) (d .says k _ x (omega (arith, d .on)))) z)
 
 -- a part of at most 1,024 layout numbers has at most 1,024
 pub few-part : (ns : List ℕ) (i m : ℕ) → length ns ≤ 1024 → length (take m (drop i ns)) ≤ 1024

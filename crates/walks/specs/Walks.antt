@@ -1,4 +1,6 @@
--- The walk over two forms, and an image's elements under a list's entries, object by object, on any bytes. A device between the code and the meaning, which is in `history`: proofs/Bridges ties it to the meaning where the bytes are those of accepted forms.
+-- The walk over two forms, and an image's elements under a list's entries, object by object, on any bytes.
+-- A device between the code and the meaning, which is in `history`:
+-- proofs/Bridges ties it to the meaning where the bytes are those of accepted forms.
 use Prim.Native.Nat.{ℕ, suc, _≤_}
 use mathlib.Core.Path.{_≡_}
 use mathlib.Core.Bool.{cond}
@@ -20,7 +22,8 @@ unfoldable pub walked : Walk → ℕ → List Kind → List ℕ → List ℕ →
 walked walk i [] f s = []
 walked walk i (k ∷ ks) f s =
     stepOf walk i (widthOf k) f s .change
-    ∷ walked walk (suc i) ks (drop (stepOf walk i (widthOf k) f s .first) f) (drop (stepOf walk i (widthOf k) f s .second) s)
+    ∷ walked walk (suc i) ks (drop (stepOf walk i (widthOf k) f s .first) f)
+    (drop (stepOf walk i (widthOf k) f s .second) s)
 
 abbrev pub walkBytes : Walk → ℕ → List Kind → List ℕ → List ℕ → List ℕ
 walkBytes walk i ks f s = entriesBytes i ks (walked walk i ks f s)
@@ -48,7 +51,8 @@ unfoldable pub misfit : Walk → ℕ → List Kind → List ℕ → List ℕ →
 misfit walk i [] f s = i
 misfit walk i (k ∷ ks) f s =
     cond (stepOf walk i (widthOf k) f s .agrees)
-    (misfit walk (suc i) ks (drop (stepOf walk i (widthOf k) f s .first) f) (drop (stepOf walk i (widthOf k) f s .second) s))
+    (misfit walk (suc i) ks (drop (stepOf walk i (widthOf k) f s .first) f)
+    (drop (stepOf walk i (widthOf k) f s .second) s))
     i
 
 -- what is found of a join: that object; and the size, if there is none

@@ -1,6 +1,7 @@
-// The loops over the objects, for each operation on change lists: from object to object, with a cursor into each of two forms. Loops over
-// lists jump over objects that no list names. A difference and an application require an image's elements to be exactly as long as
-// the objects need; entries may be any bytes. It refuses nothing and knows no form's head; the caller has checked the forms.
+// The loops over the objects, for each operation on change lists: from object to object, with a cursor into each of two
+// forms. Loops over lists jump over objects that no list names. A difference and an application require an image's
+// elements to be exactly as long as the objects need; entries may be any bytes.
+// It refuses nothing and knows no form's head; the caller has checked the forms.
 use steps::Walk;
 ghost use mathlib.Core.Path.{_≡_};
 ghost use Prim.Native.Nat.{_≤_};
@@ -16,7 +17,8 @@ pub struct Size {
     pub bytes: usize,
 }
 
-// The lowest object on which two lists do not agree, or the count of objects if they agree on all; only then is the size that of the whole join.
+// The lowest object on which two lists do not agree, or the count of objects if they agree on all;
+// only then is the size that of the whole join.
 pub struct Survey {
     pub misfit: usize,
     pub size: Size,
@@ -28,7 +30,9 @@ pub struct Survey {
 pub fn measure_difference(kinds: &[u8], old: &[u8], new: &[u8]) -> Size
     requires { ⌜ length (now kinds) ≤ 1024 ⌝ }
     requires { ⌜ ElementsLong (now kinds) (now old) (now new) ⌝ }
-    ensures { λ r. ⌜ Measured Walk.Difference (kindsOf (now (kinds .entry))) (now (old .entry)) (now (new .entry)) (r .count) (r .bytes) ⌝ }
+    ensures { λ r.
+        ⌜ Measured Walk.Difference (kindsOf (now (kinds .entry))) (now (old .entry)) (now (new .entry)) (r .count)
+        (r .bytes) ⌝ }
 {
     let mut count: usize = 0;
     let mut bytes: usize = 0;
@@ -87,7 +91,9 @@ pub fn put_changes(part: &mut [u8], walk: Walk, kinds: &[u8], first: &[u8], seco
     requires { ⌜ length (now kinds) ≤ 1024 ⌝ }
     requires { ⌜ Asked walk (now kinds) (now first) (now second) ⌝ }
     requires { ⌜ length (now part) ≡ length (walkBytes walk 0 (kindsOf (now kinds)) (now first) (now second)) ⌝ }
-    ensures { λ _. ⌜ now (part .exit) ≡ walkBytes walk 0 (kindsOf (now (kinds .entry))) (now (first .entry)) (now (second .entry)) ⌝ }
+    ensures { λ _.
+        ⌜ now (part .exit)
+        ≡ walkBytes walk 0 (kindsOf (now (kinds .entry))) (now (first .entry)) (now (second .entry)) ⌝ }
 {
     match walk {
         Walk::Difference => put_difference(part, kinds, first, second),
@@ -101,7 +107,9 @@ fn put_difference(part: &mut [u8], kinds: &[u8], old: &[u8], new: &[u8])
     requires { ⌜ length (now kinds) ≤ 1024 ⌝ }
     requires { ⌜ ElementsLong (now kinds) (now old) (now new) ⌝ }
     requires { ⌜ length (now part) ≡ length (walkBytes Walk.Difference 0 (kindsOf (now kinds)) (now old) (now new)) ⌝ }
-    ensures { λ _. ⌜ now (part .exit) ≡ walkBytes Walk.Difference 0 (kindsOf (now (kinds .entry))) (now (old .entry)) (now (new .entry)) ⌝ }
+    ensures { λ _.
+        ⌜ now (part .exit)
+        ≡ walkBytes Walk.Difference 0 (kindsOf (now (kinds .entry))) (now (old .entry)) (now (new .entry)) ⌝ }
 {
     let mut at: usize = 0;
     let mut place: usize = 0;
@@ -123,7 +131,9 @@ fn put_difference(part: &mut [u8], kinds: &[u8], old: &[u8], new: &[u8])
 fn put_joined(part: &mut [u8], kinds: &[u8], first: &[u8], second: &[u8])
     requires { ⌜ length (now kinds) ≤ 1024 ⌝ }
     requires { ⌜ length (now part) ≡ length (walkBytes Walk.Join 0 (kindsOf (now kinds)) (now first) (now second)) ⌝ }
-    ensures { λ _. ⌜ now (part .exit) ≡ walkBytes Walk.Join 0 (kindsOf (now (kinds .entry))) (now (first .entry)) (now (second .entry)) ⌝ }
+    ensures { λ _.
+        ⌜ now (part .exit)
+        ≡ walkBytes Walk.Join 0 (kindsOf (now (kinds .entry))) (now (first .entry)) (now (second .entry)) ⌝ }
 {
     let mut at: usize = 0;
     let mut near: usize = 0;
@@ -147,7 +157,8 @@ fn put_joined(part: &mut [u8], kinds: &[u8], first: &[u8], second: &[u8])
 fn put_turned(part: &mut [u8], kinds: &[u8], entries: &[u8])
     requires { ⌜ length (now kinds) ≤ 1024 ⌝ }
     requires { ⌜ length (now part) ≡ length (walkBytes Walk.Turn 0 (kindsOf (now kinds)) (now entries) []) ⌝ }
-    ensures { λ _. ⌜ now (part .exit) ≡ walkBytes Walk.Turn 0 (kindsOf (now (kinds .entry))) (now (entries .entry)) [] ⌝ }
+    ensures { λ _.
+        ⌜ now (part .exit) ≡ walkBytes Walk.Turn 0 (kindsOf (now (kinds .entry))) (now (entries .entry)) [] ⌝ }
 {
     let mut at: usize = 0;
     let mut entry_at: usize = 0;
@@ -170,7 +181,9 @@ fn put_turned(part: &mut [u8], kinds: &[u8], entries: &[u8])
 pub fn find_unfit(kinds: &[u8], entries: &[u8], elements: &[u8]) -> usize
     requires { ⌜ length (now kinds) ≤ 1024 ⌝ }
     requires { ⌜ length (now elements) ≡ widths (kindsOf (now kinds)) ⌝ }
-    ensures { λ r. ⌜ (r ≡ unfit 0 (kindsOf (now (kinds .entry))) (now (entries .entry)) (now (elements .entry))) × (r ≤ length (now (kinds .entry))) ⌝ }
+    ensures { λ r.
+        ⌜ (r ≡ unfit 0 (kindsOf (now (kinds .entry))) (now (entries .entry)) (now (elements .entry)))
+        × (r ≤ length (now (kinds .entry))) ⌝ }
 {
     let mut at: usize = 0;
     let mut entry_at: usize = 0;
@@ -194,7 +207,8 @@ pub fn find_unfit(kinds: &[u8], entries: &[u8], elements: &[u8]) -> usize
 pub fn renew(part: &mut [u8], kinds: &[u8], entries: &[u8])
     requires { ⌜ length (now kinds) ≤ 1024 ⌝ }
     requires { ⌜ length (now part) ≡ widths (kindsOf (now kinds)) ⌝ }
-    ensures { λ _. ⌜ now (part .exit) ≡ renewal 0 (kindsOf (now (kinds .entry))) (now (entries .entry)) (now (part .entry)) ⌝ }
+    ensures { λ _.
+        ⌜ now (part .exit) ≡ renewal 0 (kindsOf (now (kinds .entry))) (now (entries .entry)) (now (part .entry)) ⌝ }
 {
     let mut at: usize = 0;
     let mut entry_at: usize = 0;

@@ -1,4 +1,5 @@
--- `changes::turn_back` meets its contract: a refused table's answer is the whole answer; under an accepted one the list decides.
+-- `changes::turn_back` meets its contract: a refused table's answer is the whole answer;
+-- under an accepted one the list decides.
 -- Assumes nothing.
 use borrow.Author.Needs.{needs}
 use Rattle.history.proofs.OutputLaws.{leaves-as}

@@ -13,4 +13,6 @@ returns-2 : tie.Need-returns-2
 returns-2 c = c .dat-rule .ensures ∙ search check-rest
 
 pub check-by-rows-spec : {M : Type 1} → statement M
-check-by-rows-spec = tie.close (tie.spec (λ c κs. search needs) (λ c. search needs) (λ c. search needs) returns (λ c κs. search needs) returns-2)
+check-by-rows-spec =
+    tie.close (tie.spec (λ c κs. search needs) (λ c. search needs) (λ c. search needs) returns
+    (λ c κs. search needs) returns-2)

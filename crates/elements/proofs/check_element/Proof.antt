@@ -10,4 +10,6 @@ returns : tie.Need-returns
 returns c = search (shown, not-true)
 
 pub check-element-spec : {M : Type 1} → statement M
-check-element-spec = tie.close (tie.spec (λ c κs. search needs) (λ c κs. search needs) returns (λ c κs. search needs) (λ c. search needs))
+check-element-spec =
+    tie.close (tie.spec (λ c κs. search needs) (λ c κs. search needs) returns (λ c κs. search needs)
+    (λ c. search needs))

@@ -15,7 +15,8 @@ returns c =
     let laid = c .before in
     let a = laid .before .args in
     c .check-rows .ensures
-    ∙ ap (λ (l : Layout). checkRows (a .word) (bearing (l .number) (l .first) (rowTotal - l .first))) (laid .layout .ensures)
+    ∙ ap (λ (l : Layout). checkRows (a .word) (bearing (l .number) (l .first) (rowTotal - l .first)))
+    (laid .layout .ensures)
     ∙ ap (checkRows (a .word)) (bearing-rows (a .kind))
 
 pub check-fields-spec : {M : Type 1} → statement M

@@ -15,4 +15,5 @@ unfolding kindNumbered
 returns-2 c = ap carriedKind (sym (c .before .found .given .1) ∙ c .before .before .before .find-numbered .ensures)
 
 pub kind-numbered-spec : {M : Type 1} → statement M
-kind-numbered-spec = tie.close (tie.spec (λ c κs. search needs) (λ c. search needs) (λ c. search needs) returns returns-2)
+kind-numbered-spec =
+    tie.close (tie.spec (λ c κs. search needs) (λ c. search needs) (λ c. search needs) returns returns-2)

@@ -15,4 +15,6 @@ returns-3 : tie.Need-returns-3
 returns-3 c = search refuses-it
 
 pub refuse-state-spec : {M : Type 1} → statement M
-refuse-state-spec = tie.close (tie.spec (λ c κs. search needs) returns (λ c κs. search needs) returns-2 (λ c κs. search needs) returns-3)
+refuse-state-spec =
+    tie.close (tie.spec (λ c κs. search needs) returns (λ c κs. search needs) returns-2
+    (λ c κs. search needs) returns-3)

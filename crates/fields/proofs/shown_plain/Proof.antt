@@ -1,7 +1,7 @@
 -- `fields::shown_plain` meets its contract: the rows walked are those of the state's layout.
 -- Assumes nothing.
 use borrow.Author.Needs.{needs}
-use Rattle.elements.proofs.Answers.{in-table}
+use Rattle.elements.proofs.Answers.{in-rows}
 use Rattle.fields.proofs.Loops.{state-shown}
 use Rattle.fields.proofs.shown_plain.Statement.{statement}
 use Rattle.fields.proofs.shown_plain.Tie as tie
@@ -16,7 +16,7 @@ shown-plain-spec =
     (λ c κs. search needs)
     (λ c κs. search needs)
     (λ c κs. search needs)
-    (λ c κs. search in-table)
+    (λ c κs. search in-rows)
     (λ c κs. search needs)
     (λ c. search needs)
     returns)

@@ -1,4 +1,5 @@
--- `gateway::shefumbari_read_state` meets its contract: what was read, as numbers and as fields; a refusal leaves the fields as they were.
+-- `gateway::shefumbari_read_state` meets its contract: what was read, as numbers and as fields;
+-- a refusal leaves the fields as they were.
 -- Assumes nothing.
 use borrow.Author.Needs.{needs}
 use Rattle.gateway.proofs.CallLaws.{fields-stay, fields-shown, read-told}

@@ -9,4 +9,6 @@ returns : tie.Need-returns
 returns c = search (received-answer, received-tallies)
 
 pub shefumbari-receive-spec : {M : Type 1} → statement M
-shefumbari-receive-spec = tie.close (tie.spec (λ c κs. search needs) (λ c κs. search needs) (λ c κs. search needs) (λ c κs. search needs) (λ c. search needs) returns)
+shefumbari-receive-spec =
+    tie.close (tie.spec (λ c κs. search needs) (λ c κs. search needs) (λ c κs. search needs) (λ c κs. search needs)
+    (λ c. search needs) returns)

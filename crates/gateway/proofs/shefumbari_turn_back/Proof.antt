@@ -9,4 +9,5 @@ returns : tie.Need-returns
 returns c = wrote _ _ (c .answer-slots .ensures) (c .before .before .before .turn-back .ensures)
 
 pub shefumbari-turn-back-spec : {M : Type 1} → statement M
-shefumbari-turn-back-spec = tie.close (tie.spec (λ c κs. search needs) (λ c κs. search needs) (λ c. search needs) returns)
+shefumbari-turn-back-spec =
+    tie.close (tie.spec (λ c κs. search needs) (λ c κs. search needs) (λ c. search needs) returns)

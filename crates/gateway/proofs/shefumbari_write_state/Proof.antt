@@ -9,4 +9,5 @@ returns : tie.Need-returns
 returns c = wrote _ _ (c .answer-slots .ensures) (c .before .before .before .write-fields .ensures)
 
 pub shefumbari-write-state-spec : {M : Type 1} → statement M
-shefumbari-write-state-spec = tie.close (tie.spec (λ c κs. search needs) (λ c κs. search needs) (λ c. search needs) returns)
+shefumbari-write-state-spec =
+    tie.close (tie.spec (λ c κs. search needs) (λ c κs. search needs) (λ c. search needs) returns)

@@ -10,8 +10,51 @@ use Rattle.kinds.proofs.find_numbered.Tie as tie
 
 other : tie.Need-returns-13
 unfolding layouts
-other c = vain (c .before .args .number) numbered (c .match .rest .0 .0 .0 .0 .0 .0 .0 .0 .0 .0 .0 .1, (c .match .rest .0 .0 .0 .0 .0 .0 .0 .0 .0 .0 .1, (c .match .rest .0 .0 .0 .0 .0 .0 .0 .0 .0 .1, (c .match .rest .0 .0 .0 .0 .0 .0 .0 .0 .1, (c .match .rest .0 .0 .0 .0 .0 .0 .0 .1, (c .match .rest .0 .0 .0 .0 .0 .0 .1, (c .match .rest .0 .0 .0 .0 .0 .1, (c .match .rest .0 .0 .0 .0 .1, (c .match .rest .0 .0 .0 .1, (c .match .rest .0 .0 .1, (c .match .rest .0 .1, (c .match .rest .1, tt))))))))))))
+other c =
+    vain (c .before .args .number) numbered (
+      c .match .rest .0 .0 .0 .0 .0 .0 .0 .0 .0 .0 .0 .1,
+      (
+        c .match .rest .0 .0 .0 .0 .0 .0 .0 .0 .0 .0 .1,
+        (
+          c .match .rest .0 .0 .0 .0 .0 .0 .0 .0 .0 .1,
+          (
+            c .match .rest .0 .0 .0 .0 .0 .0 .0 .0 .1,
+            (
+              c .match .rest .0 .0 .0 .0 .0 .0 .0 .1,
+              (
+                c .match .rest .0 .0 .0 .0 .0 .0 .1,
+                (
+                  c .match .rest .0 .0 .0 .0 .0 .1,
+                  (
+                    c .match .rest .0 .0 .0 .0 .1,
+                    (
+                      c .match .rest .0 .0 .0 .1,
+                      (
+                        c .match .rest .0 .0 .1,
+                        (c .match .rest .0 .1, (c .match .rest .1, tt)),
+                      ),
+                    ),
+                  ),
+                ),
+              ),
+            ),
+          ),
+        ),
+      ),
+    )
 
 pub find-numbered-spec : {M : Type 1} → statement M
 unfolding layouts
-find-numbered-spec = tie.close (tie.spec (λ c. sym (ap (λ (n : ℕ). findIn n numbered) (c .match .keys1))) (λ c. sym (ap (λ (n : ℕ). findIn n numbered) (c .match .keys2))) (λ c. sym (ap (λ (n : ℕ). findIn n numbered) (c .match .keys3))) (λ c. sym (ap (λ (n : ℕ). findIn n numbered) (c .match .keys4))) (λ c. sym (ap (λ (n : ℕ). findIn n numbered) (c .match .keys5))) (λ c. sym (ap (λ (n : ℕ). findIn n numbered) (c .match .keys6))) (λ c. sym (ap (λ (n : ℕ). findIn n numbered) (c .match .keys7))) (λ c. sym (ap (λ (n : ℕ). findIn n numbered) (c .match .keys8))) (λ c. sym (ap (λ (n : ℕ). findIn n numbered) (c .match .keys9))) (λ c. sym (ap (λ (n : ℕ). findIn n numbered) (c .match .keys10))) (λ c. sym (ap (λ (n : ℕ). findIn n numbered) (c .match .keys11))) (λ c. sym (ap (λ (n : ℕ). findIn n numbered) (c .match .keys12))) other)
+find-numbered-spec =
+    tie.close (tie.spec (λ c. sym (ap (λ (n : ℕ). findIn n numbered) (c .match .keys1)))
+    (λ c. sym (ap (λ (n : ℕ). findIn n numbered) (c .match .keys2)))
+    (λ c. sym (ap (λ (n : ℕ). findIn n numbered) (c .match .keys3)))
+    (λ c. sym (ap (λ (n : ℕ). findIn n numbered) (c .match .keys4)))
+    (λ c. sym (ap (λ (n : ℕ). findIn n numbered) (c .match .keys5)))
+    (λ c. sym (ap (λ (n : ℕ). findIn n numbered) (c .match .keys6)))
+    (λ c. sym (ap (λ (n : ℕ). findIn n numbered) (c .match .keys7)))
+    (λ c. sym (ap (λ (n : ℕ). findIn n numbered) (c .match .keys8)))
+    (λ c. sym (ap (λ (n : ℕ). findIn n numbered) (c .match .keys9)))
+    (λ c. sym (ap (λ (n : ℕ). findIn n numbered) (c .match .keys10)))
+    (λ c. sym (ap (λ (n : ℕ). findIn n numbered) (c .match .keys11)))
+    (λ c. sym (ap (λ (n : ℕ). findIn n numbered) (c .match .keys12))) other)

@@ -1,4 +1,5 @@
--- `kinds::glance_by` meets its contract: the number of as many bytes as the kind is wide, and what a glance shows of it.
+-- `kinds::glance_by` meets its contract: the number of as many bytes as the kind is wide, and
+-- what a glance shows of it.
 -- Written by catalogue/write.py. Assumes nothing.
 use mathlib.Core.Path.{_∙_, ap}
 use Prim.Native.Nat.{ℕ}

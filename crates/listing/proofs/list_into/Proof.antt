@@ -1,4 +1,5 @@
--- `listing::list_into` meets its contract: every listing fits in a buffer of 65,536 bytes, so its refusals are those of any output.
+-- `listing::list_into` meets its contract: every listing fits in a buffer of 65,536 bytes, so
+-- its refusals are those of any output.
 -- Assumes nothing.
 use native.Mathlib.Omega.{arith}
 use borrow.Author.Needs.{needs}
@@ -8,7 +9,9 @@ use Rattle.listing.proofs.list_into.Statement.{statement}
 use Rattle.listing.proofs.list_into.Tie as tie
 
 returns-2 : tie.Need-returns-2
-returns-2 c = told-leaves _ _ (refusal-is _ _ zeros-room (c .before .before .before .put-listing2 .ensures .0) (c .if2 .taken)) (c .if2 .taken)
+returns-2 c =
+    told-leaves _ _ (refusal-is _ _ zeros-room (c .before .before .before .put-listing2 .ensures .0) (c .if2 .taken))
+    (c .if2 .taken)
 
 part-put-front-end : tie.Need-part-put-front-end
 part-put-front-end c =

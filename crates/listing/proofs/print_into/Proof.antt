@@ -1,4 +1,5 @@
--- `listing::print_into` meets its contract: a short output stays as it was; any other has the text or the line of its refusal in front.
+-- `listing::print_into` meets its contract: a short output stays as it was;
+-- any other has the text or the line of its refusal in front.
 -- Assumes nothing.
 use native.Mathlib.Omega.{arith}
 use borrow.Author.Needs.{needs}

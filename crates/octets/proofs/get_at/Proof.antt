@@ -1,4 +1,5 @@
--- `octets::get_at` meets its contract: after each step, the number of the bytes read so far; it returns once these are as many as asked for.
+-- `octets::get_at` meets its contract: after each step, the number of the bytes read so far;
+-- it returns once these are as many as asked for.
 -- Assumes nothing.
 use borrow.Author.Needs.{needs}
 use native.Mathlib.Omega.{arith}

@@ -18,12 +18,17 @@ cast-result c = omega (arith, c .shared-slice-known .given (c .before .args .at 
 add-result-2 : tie.Need-add-result-2
 add-result-2 c =
     let a = c .before .args in
-    record { fits = fits-next (a .i) (a .value) _ (omega arith) (c .before .pre .3) (c .shared-slice-known .given _ .fits) }
+    record {
+      fits = fits-next (a .i) (a .value) _ (omega arith) (c .before .pre .3)
+          (c .shared-slice-known .given _ .fits);
+    }
 
 returns : tie.Need-returns
 returns c =
-    let a = c .before .args in
-    (number-next (a .s .now) (a .at) (a .i) _ (omega arith) (c .before .pre .2), small-next (a .i) (a .value) _ (c .before .pre .3) (c .shared-slice-known .given _ .fits))
+    let a = c .before .args in (
+      number-next (a .s .now) (a .at) (a .i) _ (omega arith) (c .before .pre .2),
+      small-next (a .i) (a .value) _ (c .before .pre .3) (c .shared-slice-known .given _ .fits),
+    )
 
 pub get-next-spec : {M : Type 1} → statement M
 get-next-spec = tie.close (tie.spec mul-result (λ c. search needs) (λ c. search needs) cast-result add-result-2 returns)

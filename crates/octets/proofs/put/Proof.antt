@@ -1,4 +1,5 @@
--- `octets::put` meets its contract: the number's bytes are those of what is left of it, followed by what is written from the cursor on.
+-- `octets::put` meets its contract: the number's bytes are those of what is left of it,
+-- followed by what is written from the cursor on.
 -- Assumes nothing.
 use native.Mathlib.Omega.{arith}
 use borrow.Author.Needs.{needs}

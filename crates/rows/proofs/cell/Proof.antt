@@ -1,4 +1,4 @@
--- `rows::cell` meets its contract: what is lent is the table.
+-- `rows::cell` meets its contract: what is lent is the rows' numbers.
 -- Assumes nothing.
 use borrow.Author.Needs.{needs}
 use Prim.Native.Nat.{ℕ}

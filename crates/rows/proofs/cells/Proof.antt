@@ -1,4 +1,4 @@
--- `rows::cells` meets its contract: the constant is the table.
+-- `rows::cells` meets its contract: the constant is the definition's.
 -- Assumes nothing.
 use mathlib.Core.Path.{refl}
 use Rattle.rows.specs.Rows.{cells}

@@ -11,7 +11,8 @@ use Rattle.rows.proofs.check_rows.Statement.{statement}
 use Rattle.rows.proofs.check_rows.Tie as tie
 
 abbrev Inv-loop : tie.InvT-loop
-Inv-loop word number first rows row₀ row = Checking word (bearing number first (rowTotal - first)) (bearing number row (rowTotal - row))
+Inv-loop word number first rows row₀ row =
+    Checking word (bearing number first (rowTotal - first)) (bearing number row (rowTotal - row))
 
 abbrev μ-loop : tie.MeasureT-loop
 μ-loop word number first rows row₀ row = rowTotal - row
@@ -32,5 +33,6 @@ pub check-rows-spec : {M : Type 1} → statement M
 check-rows-spec =
     tie.close
     (tie.spec
-    Inv-loop μ-loop (λ c κs. search needs) (λ c. record { to-come = refl }) (λ c. omega arith) (λ c κs. (search, omega arith)) returns (λ c κs. (search, omega arith)) (λ c. search needs)
+    Inv-loop μ-loop (λ c κs. search needs) (λ c. record { to-come = refl }) (λ c. omega arith)
+    (λ c κs. (search, omega arith)) returns (λ c κs. (search, omega arith)) (λ c. search needs)
     (λ c. search needs) (λ c κs. search needs) returns-2 (λ c. omega arith) (λ c. omega arith) loop-again returns-3)

@@ -25,14 +25,25 @@ module _ (i : ℕ) (h : i < rowTotal) {d : ℕ} (ed : d ≡ rowAt i .width) wher
     field-law : w / 2 ^ l % (1 * 2 ^ d % 4294967296) ≡ fieldOf w (rowAt i)
     field-law = rw (shifted, el, ed)
 
-    value-law : w / 2 ^ l % (1 * 2 ^ d % 4294967296) ≤ t → Field.Value (w / 2 ^ l % (1 * 2 ^ d % 4294967296)) ≡ fieldRead w (rowAt i)
+    value-law : w / 2 ^ l % (1 * 2 ^ d % 4294967296) ≤ t
+        → Field.Value (w / 2 ^ l % (1 * 2 ^ d % 4294967296)) ≡ fieldRead w (rowAt i)
     value-law h = rw field-law (simp (le-leb (fieldOf w (rowAt i)) (rowAt i .top) (rw (field-law, et) at h)))
 
-    reserved-law : t < w / 2 ^ l % (1 * 2 ^ d % 4294967296) → t ≡ 0 → Field.Refused (codeAt 10 l) ≡ fieldRead w (rowAt i)
-    reserved-law h z = rw el (simp (lt-leb (fieldOf w (rowAt i)) (rowAt i .top) (rw (field-law, et) at h), eq-eqb (rowAt i .top) 0 (sym et ∙ z)))
+    reserved-law : t < w / 2 ^ l % (1 * 2 ^ d % 4294967296) → t ≡ 0
+        → Field.Refused (codeAt 10 l) ≡ fieldRead w (rowAt i)
+    reserved-law h z =
+        rw el (simp (
+          lt-leb (fieldOf w (rowAt i)) (rowAt i .top) (rw (field-law, et) at h),
+          eq-eqb (rowAt i .top) 0 (sym et ∙ z),
+        ))
 
-    unlisted-law : t < w / 2 ^ l % (1 * 2 ^ d % 4294967296) → (t ≡ 0 → ⊥) → Field.Refused (codeAt 11 l) ≡ fieldRead w (rowAt i)
-    unlisted-law h z = rw el (simp (lt-leb (fieldOf w (rowAt i)) (rowAt i .top) (rw (field-law, et) at h), ne-eqb (rowAt i .top) 0 (λ e. z (et ∙ e))))
+    unlisted-law : t < w / 2 ^ l % (1 * 2 ^ d % 4294967296) → (t ≡ 0 → ⊥)
+        → Field.Refused (codeAt 11 l) ≡ fieldRead w (rowAt i)
+    unlisted-law h z =
+        rw el (simp (
+          lt-leb (fieldOf w (rowAt i)) (rowAt i .top) (rw (field-law, et) at h),
+          ne-eqb (rowAt i .top) 0 (λ e. z (et ∙ e)),
+        ))
 
 returns : tie.Need-returns
 returns c = search value-law
@@ -47,6 +58,8 @@ pub read-field-spec : {M : Type 1} → statement M
 read-field-spec =
     tie.close
     (tie.spec
-    (λ c. search needs) (λ c. search needs) (λ c κs. search needs) (λ c. search needs) (λ c. search needs) (λ c κs. search needs)
-    (λ c. search needs) (λ c. search needs) (λ c κs. search needs) (λ c. search needs) (λ c. search low-small) (λ c. search needs) (λ c. search width-small)
+    (λ c. search needs) (λ c. search needs) (λ c κs. search needs) (λ c. search needs) (λ c. search needs)
+    (λ c κs. search needs)
+    (λ c. search needs) (λ c. search needs) (λ c κs. search needs) (λ c. search needs) (λ c. search low-small)
+    (λ c. search needs) (λ c. search width-small)
     (λ c. search shift-pos) (λ c. search needs) returns returns-2 returns-3)

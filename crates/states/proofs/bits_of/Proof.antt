@@ -54,4 +54,8 @@ returns c =
     }
 
 pub bits-of-spec : {M : Type 1} → statement M
-bits-of-spec = tie.close (tie.spec (λ c κs. lit< tt) (λ c κs. lit< tt) (λ c κs. lit< tt) (λ c κs. lit< tt) (λ c κs. lit< tt) (λ c κs. lit< tt) (λ c κs. lit< tt) (λ c κs. lit< tt) (λ c κs. lit< tt) (λ c κs. lit< tt) (λ c κs. lit< tt) (λ c κs. lit< tt) (λ c κs. lit< tt) (λ c κs. lit< tt) (λ c κs. lit< tt) (λ c κs. lit< tt) (λ c κs. lit< tt) (λ c κs. lit< tt) (λ c κs. lit< tt) (λ c κs. lit< tt) (λ c κs. lit< tt) (λ c κs. lit< tt) returns)
+bits-of-spec =
+    tie.close (tie.spec (λ c κs. lit< tt) (λ c κs. lit< tt) (λ c κs. lit< tt) (λ c κs. lit< tt) (λ c κs. lit< tt)
+    (λ c κs. lit< tt) (λ c κs. lit< tt) (λ c κs. lit< tt) (λ c κs. lit< tt) (λ c κs. lit< tt) (λ c κs. lit< tt)
+    (λ c κs. lit< tt) (λ c κs. lit< tt) (λ c κs. lit< tt) (λ c κs. lit< tt) (λ c κs. lit< tt) (λ c κs. lit< tt)
+    (λ c κs. lit< tt) (λ c κs. lit< tt) (λ c κs. lit< tt) (λ c κs. lit< tt) (λ c κs. lit< tt) returns)

@@ -1,4 +1,5 @@
--- `steps::first_named` meets its contract: no entry is left, or the next one names an object already passed, one past the end, or one between.
+-- `steps::first_named` meets its contract: no entry is left, or the next one names an object
+-- already passed, one past the end, or one between.
 -- Assumes nothing.
 use borrow.Author.Needs.{needs}
 use Rattle.steps.proofs.StepLaws.{silent-cut, silent-past, silent-after, silent-between}

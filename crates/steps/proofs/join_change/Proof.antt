@@ -1,4 +1,5 @@
--- `steps::join_change` meets its contract: an object in one list is copied; one in both has the first's old and the second's new.
+-- `steps::join_change` meets its contract: an object in one list is copied;
+-- one in both has the first's old and the second's new.
 -- Assumes nothing.
 use borrow.Author.Needs.{needs}
 use borrow.Author.Tests.{not-true, not-false}

@@ -1,4 +1,5 @@
--- `steps::join_names` meets its contract: for an object in both lists, the first's old and the second's new are compared.
+-- `steps::join_names` meets its contract: for an object in both lists, the first's old and the
+-- second's new are compared.
 -- Assumes nothing.
 use borrow.Author.Needs.{needs}
 use borrow.Author.Tests.{not-true, not-false}

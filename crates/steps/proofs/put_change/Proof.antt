@@ -1,4 +1,5 @@
--- `steps::put_change` meets its contract: the number, the old and the new element, end to end; nothing for a kept object.
+-- `steps::put_change` meets its contract: the number, the old and the new element, end to end;
+-- nothing for a kept object.
 -- Assumes nothing.
 use borrow.Author.Needs.{needs}
 use Rattle.steps.proofs.StepLaws.{number-inside, old-inside, new-inside, entry-put, entry-kept}

@@ -9,4 +9,6 @@ returns : tie.Need-returns
 returns c = search renewed-put
 
 pub put-new-spec : {M : Type 1} → statement M
-put-new-spec = tie.close (tie.spec (λ c. search needs) (λ c κs. search needs) (λ c. search needs) (λ c. search needs) returns (λ c. search needs))
+put-new-spec =
+    tie.close (tie.spec (λ c. search needs) (λ c κs. search needs) (λ c. search needs) (λ c. search needs) returns
+    (λ c. search needs))

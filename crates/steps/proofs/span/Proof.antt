@@ -11,4 +11,6 @@ returns-2 : tie.Need-returns-2
 returns-2 c = (sym (ap (span (c .before .before .args .width)) (c .enum-told2 .given .1)), omega arith)
 
 pub span-spec : {M : Type 1} → statement M
-span-spec = tie.close (tie.spec (λ c. search needs) (λ c. search needs) (λ c. search needs) (λ c. search needs) (λ c. search needs) returns-2)
+span-spec =
+    tie.close (tie.spec (λ c. search needs) (λ c. search needs) (λ c. search needs) (λ c. search needs)
+    (λ c. search needs) returns-2)

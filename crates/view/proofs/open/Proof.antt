@@ -1,5 +1,7 @@
--- `view::open` meets its contract: a walk of its MIR, by hand. `count_of` is called on the slice, and a view is made of the slice and what it returns.
--- A `&[u8]` is Copy, so what it owns can be had again wherever it is asked for. All that the proof knows of `count_of` is that it meets its contract.
+-- `view::open` meets its contract: a walk of its MIR, by hand.
+-- `count_of` is called on the slice, and a view is made of the slice and what it returns.
+-- A `&[u8]` is Copy, so what it owns can be had again wherever it is asked for.
+-- All that the proof knows of `count_of` is that it meets its contract.
 -- Assumes nothing.
 use mathlib.Core.Path.{_≡_, refl, ap}
 use Prim.Native.Nat.{ℕ, _<_, _^_}
@@ -17,9 +19,11 @@ use prog.Wp.{Heap, Calls, Loops, WpFn, Tables}
 use ghost.Atoms.{Atoms, sem}
 use contract.Monad.{Fun, fact}
 use contract.Running.{givenOf, tables, tablesOf}
-use types.Kit.{Given, ‵, raw, _⊛_, ⋆, some, later, _$_, _∵_, !, qed, by, move, keep, use1, use2, split, join, pick, rewrite, fsplit, fjoin, suffices, frame, await, done}
+use types.Kit.{Given, ‵, raw, _⊛_, ⋆, some, later, _$_, _∵_, !, qed, by, move, keep, use1, use2, split, join, pick}
+use types.Kit.{rewrite, fsplit, fjoin, suffices, frame, await, done}
 use types.Part.{agg}
-use types.Run.{look, init, forget, stop, from, load, and-then, no-more, assigns, land, returns, enter, alloc1, alloc0, params1, pass1, pass0, free1, free0}
+use types.Run.{look, init, forget, stop, from, load, and-then, no-more, assigns, land, returns, enter, alloc1, alloc0}
+use types.Run.{params1, pass1, pass0, free1, free0}
 use sound.WpLaws.{FmC, fmOf, WpFn-mono}
 use denote.RattleType.{owns}
 use denote.Laws.{Is, shows}
@@ -56,10 +60,12 @@ abbrev stayed : Stays (open′.ended .signature .params) (open′.ended .kept)
 stayed = (stay-none-slice (0 ∷ []) tt (plain (λ _. u8)) yes, tt)
 
 -- the contract that the proof cites
-abbrev Count : {M : Type 1} (𝓤 : URA M) (H : Heap 𝓤) (A : Atoms 𝓤) (mem : Memory → SProp 𝓤) (run : Routine → Fun 𝓤) → Contract 𝓤
+abbrev Count : {M : Type 1} (𝓤 : URA M) (H : Heap 𝓤) (A : Atoms 𝓤) (mem : Memory → SProp 𝓤) (run : Routine → Fun 𝓤)
+    → Contract 𝓤
 Count 𝓤 H A mem run = tripleOf 𝓤 H A count.signature (count.spec 𝓤 H A mem run)
 
-module _ {M : Type 1} (𝓤 : URA M) (H : Heap 𝓤) (A : Atoms 𝓤) (W : Given 𝓤 H A) (mem : Memory → SProp 𝓤) (run : Routine → Fun 𝓤) (κ : Lft) (q : Share) (s : RefT (List ℕ)) where
+module _ {M : Type 1} (𝓤 : URA M) (H : Heap 𝓤) (A : Atoms 𝓤) (W : Given 𝓤 H A) (mem : Memory → SProp 𝓤)
+    (run : Routine → Fun 𝓤) (κ : Lft) (q : Share) (s : RefT (List ℕ)) where
   abbrev α : NamedLft
   α = namedLft 1 0 tt (κ, tt)
 
@@ -83,47 +89,94 @@ module _ {M : Type 1} (𝓤 : URA M) (H : Heap 𝓤) (A : Atoms 𝓤) (W : Given
   abbrev to : Count 𝓤 H A mem run .Ghost
   to = (((κ, tt), (q, tt), tt, (s, tt), at), tt)
 
-  goes : ent 𝓤 (onEntry 𝓤 H A open′.signature (κ, tt) (q, tt) (s, tt) at) (sep 𝓤 (Count 𝓤 H A mem run .pre to) (sem 𝓤 H A Own))
+  goes : ent 𝓤 (onEntry 𝓤 H A open′.signature (κ, tt) (q, tt) (s, tt) at)
+      (sep 𝓤 (Count 𝓤 H A mem run .pre to) (sem 𝓤 H A Own))
   goes =
       qed W ((‵ (flft κ q) ⊛ ‵ ftrue) ∷ ‵ (owns (ShrSlice (named 0) κ u8 ∷ []) (s, tt) at) ∷ []) ∵
-      move ! (1 ∷ []) $ fsplit ! $ use1 W (‵ Own ⊛ ‵ Own) (shr-slice-copy 𝓤 H A W (named 0) κ u8 .twice s (v ∷ [])) $ split ! $
-      move ! (0 ∷ 2 ∷ []) $ fjoin ! $ move ! (2 ∷ 0 ∷ []) $ use2 W (raw (Count 𝓤 H A mem run .pre to)) (qed W ((‵ (flft κ q) ⊛ ‵ ftrue) ∷ ‵ (owns (ShrSlice (named 0) κ u8 ∷ []) (s, tt) at) ∷ []) ∵ join ! $ frame ! $ done !) $ frame ! $ done !
+      move ! (1 ∷ []) $ fsplit ! $
+      use1 W (‵ Own ⊛ ‵ Own) (shr-slice-copy 𝓤 H A W (named 0) κ u8 .twice s (v ∷ [])) $ split ! $
+      move ! (0 ∷ 2 ∷ []) $ fjoin ! $ move ! (2 ∷ 0 ∷ []) $
+      use2 W (raw (Count 𝓤 H A mem run .pre to))
+      (qed W ((‵ (flft κ q) ⊛ ‵ ftrue) ∷ ‵ (owns (ShrSlice (named 0) κ u8 ∷ []) (s, tt) at) ∷ []) ∵ join ! $
+      frame ! $ done !) $
+      frame ! $ done !
 
-  said : (n : ℕ) → ent 𝓤 (ensured 𝓤 H A count.ended (count.clauses 𝓤 H A mem run) (κ, tt) (s, tt) tt n) (fact 𝓤 (n ≡ countOf (tableCall (now s))))
-  said n = exE 𝓤 _ (λ ws. snd∗ 𝓤 (sem 𝓤 H A (lasts count.ended (κ, tt) (s, tt) ws)) (fact 𝓤 (n ≡ countOf (tableCall (now s)))))
+  said : (n : ℕ)
+      → ent 𝓤 (ensured 𝓤 H A count.ended (count.clauses 𝓤 H A mem run) (κ, tt) (s, tt) tt n)
+      (fact 𝓤 (n ≡ countOf (tableCall (now s))))
+  said n =
+      exE 𝓤 _ (λ ws. snd∗ 𝓤 (sem 𝓤 H A (lasts count.ended (κ, tt) (s, tt) ws))
+      (fact 𝓤 (n ≡ countOf (tableCall (now s)))))
 
-  exits : (n : ℕ) → n ≡ countOf (tableCall (now s)) → n < 2 ^ 64 → ent 𝓤 (⋆ 𝓤 H A ((‵ (flft κ q) ⊛ ‵ ftrue) ∷ ‵ Own ∷ [])) (Post (T′.lowered (made n)))
+  exits : (n : ℕ) → n ≡ countOf (tableCall (now s)) → n < 2 ^ 64
+      → ent 𝓤 (⋆ 𝓤 H A ((‵ (flft κ q) ⊛ ‵ ftrue) ∷ ‵ Own ∷ [])) (Post (T′.lowered (made n)))
   exits n e fits =
       qed W ((‵ (flft κ q) ⊛ ‵ ftrue) ∷ ‵ Own ∷ []) ∵
-      suffices ! _ (ends-at 𝓤 H A open′.ended stayed (open′.clauses 𝓤 H A mem run) W (((κ, tt), (q, tt), tt, (s, tt), at), tt) (T′.lowered (made n)) (made n) (tt, tt) (tt, tt)) $ says ! (refl, e) $
-      frame ! $ use1 W (‵ Own ⊛ ‵ Own) (shr-slice-copy 𝓤 H A W (named 0) κ u8 .twice s (v ∷ [])) $ split ! $ nothing ! $ move ! (1 ∷ 0 ∷ []) $ fjoin ! $ frame ! $
+      suffices ! _
+      (ends-at 𝓤 H A open′.ended stayed (open′.clauses 𝓤 H A mem run) W (((κ, tt), (q, tt), tt, (s, tt), at), tt)
+      (T′.lowered (made n)) (made n) (tt, tt) (tt, tt)) $
+      says ! (refl, e) $
+      frame ! $ use1 W (‵ Own ⊛ ‵ Own) (shr-slice-copy 𝓤 H A W (named 0) κ u8 .twice s (v ∷ [])) $ split ! $ nothing ! $
+      move ! (1 ∷ 0 ∷ []) $ fjoin ! $ frame ! $
       -- [what table owns]: this and count's facts make up what the struct owns
-      nothing ! $ owned ! usize (Is usize) (uint-makes 𝓤 H A W w64) n _ (refl, fits) $ fjoin ! $ move ! (1 ∷ 0 ∷ []) $ fjoin ! $ by ! (own-shut 𝓤 H A W (T.the-type α) (T′.the-laws α) (s, (n, tt)))
+      nothing ! $ owned ! usize (Is usize) (uint-makes 𝓤 H A W w64) n _ (refl, fits) $ fjoin ! $ move ! (1 ∷ 0 ∷ []) $
+      fjoin ! $ by ! (own-shut 𝓤 H A W (T.the-type α) (T′.the-laws α) (s, (n, tt)))
 
-  module _ (C : Calls 𝓤 H) (Λ : Loops 𝓤 H) (fm : FmC 𝓤 H (W .laws) C) (known : Triple 𝓤 (C #view·count-of) (Count 𝓤 H A mem run)) where
-    walk : Is (ShrSlice (named 0) κ u8) s (v ∷ []) → ent 𝓤 (onEntry 𝓤 H A open′.signature (κ, tt) (q, tt) (s, tt) at) (WpFn 𝓤 H C Λ code.function (v ∷ []) Post)
+  module _ (C : Calls 𝓤 H) (Λ : Loops 𝓤 H) (fm : FmC 𝓤 H (W .laws) C)
+      (known : Triple 𝓤 (C #view·count-of) (Count 𝓤 H A mem run)) where
+    walk : Is (ShrSlice (named 0) κ u8) s (v ∷ [])
+        → ent 𝓤 (onEntry 𝓤 H A open′.signature (κ, tt) (q, tt) (s, tt) at) (WpFn 𝓤 H C Λ code.function (v ∷ []) Post)
     walk p =
-        qed W (raw (onEntry 𝓤 H A open′.signature (κ, tt) (q, tt) (s, tt) at) ∷ []) ∵ enter ! C Λ code.function (v ∷ []) _ $
-        alloc1 ! (λ l₀. alloc1 ! (λ l₁. alloc1 ! (λ l₂. alloc0 ! $ params1 ! $ pass1 ! (init ! 2 refl (shr-slice-lawful 𝓤 H A W (named 0) κ u8 .typed s (v ∷ []) p .0)) $ pass0 ! $
+        qed W (raw (onEntry 𝓤 H A open′.signature (κ, tt) (q, tt) (s, tt) at) ∷ []) ∵
+        enter ! C Λ code.function (v ∷ []) _ $
+        alloc1 ! (λ l₀.
+        alloc1 ! (λ l₁.
+        alloc1 ! (λ l₂. alloc0 ! $ params1 ! $
+        pass1 ! (init ! 2 refl (shr-slice-lawful 𝓤 H A W (named 0) κ u8 .typed s (v ∷ []) p .0)) $ pass0 ! $
         move ! (6 ∷ []) $ use1 W (raw (Count 𝓤 H A mem run .pre to) ⊛ ‵ Own) goes $ split ! $
-        calls-at ! fm (Count 𝓤 H A mem run) known to (and-then ! (load ! (from ! (stop !)) (look ! 4 refl)) (no-more !)) (λ u.
-        use1 W (later (some (λ (n : ℕ). ((‵ (flft κ q) ⊛ ‵ ftrue) ⊛ ‵ (usize .own n (u ∷ []))) ⊛ raw (ensured 𝓤 H A count.ended (count.clauses 𝓤 H A mem run) (κ, tt) (s, tt) tt n)))) (id⊢ 𝓤 _) $ await ! tt $ pick ! (λ n.
-        split ! $ move ! (1 ∷ []) $ use1 W (raw (fact 𝓤 (n ≡ countOf (tableCall (now s))))) (said n) $ heard ! (n ≡ countOf (tableCall (now s))) (λ e. split ! $ move ! (1 ∷ []) $
+        calls-at ! fm (Count 𝓤 H A mem run) known to
+        (and-then ! (load ! (from ! (stop !)) (look ! 4 refl)) (no-more !)) (λ u.
+        use1 W (later
+        (some (λ (n : ℕ). ((‵ (flft κ q) ⊛ ‵ ftrue) ⊛ ‵ (usize .own n (u ∷ []))) ⊛ raw
+        (ensured 𝓤 H A count.ended (count.clauses 𝓤 H A mem run) (κ, tt) (s, tt) tt n)))) (id⊢ 𝓤 _) $
+        await ! tt $ pick ! (λ n.
+        split ! $ move ! (1 ∷ []) $ use1 W (raw (fact 𝓤 (n ≡ countOf (tableCall (now s))))) (said n) $
+        heard ! (n ≡ countOf (tableCall (now s))) (λ e. split ! $ move ! (1 ∷ []) $
         -- [the result; the token; what s owns; room for _2; …; _1; …; room for _0; …]
         peeks ! usize (Is usize) (shows 𝓤 H A usize) n (u ∷ []) (λ is.
-        land ! (from ! (stop !)) (init ! 3 refl (uint-lawful 𝓤 H A W w64 .typed n _ is .0)) $ rewrite ! 3 (λ (z : Val). ‵ (fat fullShare (tyInt w64) l₂ 0 z)) (ap only (is .0)) refl $
-        assigns ! (agg ! (and-then ! (load ! (from ! (stop !)) (look ! 5 refl)) (and-then ! (load ! (from ! (stop !)) (look ! 3 refl)) (no-more !)))) (from ! (stop !)) (init ! 7 refl (tt, (shr-slice-lawful 𝓤 H A W (named 0) κ u8 .typed s (v ∷ []) p .0 .1, (record { fits = is .1 }, tt)))) $
-        returns ! (look ! 7 refl) $ forget ! 3 refl $ forget ! 5 refl $ forget ! 7 refl $ move ! (7 ∷ 8 ∷ []) $ free1 ! $ move ! (5 ∷ 6 ∷ []) $ free1 ! $ move ! (3 ∷ 4 ∷ []) $ free1 ! $ free0 ! $
+        land ! (from ! (stop !)) (init ! 3 refl (uint-lawful 𝓤 H A W w64 .typed n _ is .0)) $
+        rewrite ! 3 (λ (z : Val). ‵ (fat fullShare (tyInt w64) l₂ 0 z)) (ap only (is .0)) refl $
+        assigns ! (agg ! (and-then ! (load ! (from ! (stop !)) (look ! 5 refl))
+        (and-then ! (load ! (from ! (stop !)) (look ! 3 refl)) (no-more !))))
+        (from ! (stop !))
+        (init ! 7 refl (
+          tt,
+          (
+            shr-slice-lawful 𝓤 H A W (named 0) κ u8 .typed s (v ∷ []) p .0 .1,
+            (record { fits = is .1 }, tt),
+          ),
+        )) $
+        returns ! (look ! 7 refl) $ forget ! 3 refl $ forget ! 5 refl $ forget ! 7 refl $ move ! (7 ∷ 8 ∷ []) $
+        free1 ! $ move ! (5 ∷ 6 ∷ []) $ free1 ! $ move ! (3 ∷ 4 ∷ []) $ free1 ! $ free0 ! $
         keep ! (1 ∷ 2 ∷ []) $ by ! (exits n e (is .1)))))))))
 
-module _ {M : Type 1} (𝓤 : URA M) (H : Heap 𝓤) (A : Atoms 𝓤) (W : Given 𝓤 H A) (mem : Memory → SProp 𝓤) (run : Routine → Fun 𝓤) where
-  open-walks : (C : Calls 𝓤 H) (Λ : Loops 𝓤 H) → FmC 𝓤 H (W .laws) C → Triple 𝓤 (C #view·count-of) (Count 𝓤 H A mem run) → Walks 𝓤 H A open′.ended stayed (WpFn 𝓤 H C Λ code.function) (open′.clauses 𝓤 H A mem run)
-  open-walks C Λ fm known = walked 𝓤 H A open′.ended stayed (open′.clauses 𝓤 H A mem run) (WpFn 𝓤 H C Λ code.function) (λ κs. (slice-vals, tt)) (λ κs. (shr-slice-tells (named 0) (κs .0) u8, tt))
-      (λ κs qs bounds a g are. via 𝓤 _ (fst∗ 𝓤 _ (emp 𝓤)) (walk 𝓤 H A W mem run (κs .0) (qs .0) (a .0) C Λ fm known (are .0)))
+module _ {M : Type 1} (𝓤 : URA M) (H : Heap 𝓤) (A : Atoms 𝓤) (W : Given 𝓤 H A) (mem : Memory → SProp 𝓤)
+    (run : Routine → Fun 𝓤) where
+  open-walks : (C : Calls 𝓤 H) (Λ : Loops 𝓤 H) → FmC 𝓤 H (W .laws) C → Triple 𝓤 (C #view·count-of) (Count 𝓤 H A mem run)
+      → Walks 𝓤 H A open′.ended stayed (WpFn 𝓤 H C Λ code.function) (open′.clauses 𝓤 H A mem run)
+  open-walks C Λ fm known =
+      walked 𝓤 H A open′.ended stayed (open′.clauses 𝓤 H A mem run) (WpFn 𝓤 H C Λ code.function)
+      (λ κs. (slice-vals, tt)) (λ κs. (shr-slice-tells (named 0) (κs .0) u8, tt))
+      (λ κs qs bounds a g are. via 𝓤 _ (fst∗ 𝓤 _ (emp 𝓤))
+      (walk 𝓤 H A W mem run (κs .0) (qs .0) (a .0) C Λ fm known (are .0)))
 
-open-meets : {M : Type 1} (𝓤 : URA M) (H : Heap 𝓤) (A : Atoms 𝓤) → Given 𝓤 H A → (mem : Memory → SProp 𝓤) (run : Routine → Fun 𝓤) (𝓣 : Tables 𝓤 H) → Triple 𝓤 (𝓣 .C #view·count-of) (Count 𝓤 H A mem run)
+open-meets : {M : Type 1} (𝓤 : URA M) (H : Heap 𝓤) (A : Atoms 𝓤) → Given 𝓤 H A
+    → (mem : Memory → SProp 𝓤) (run : Routine → Fun 𝓤) (𝓣 : Tables 𝓤 H)
+    → Triple 𝓤 (𝓣 .C #view·count-of) (Count 𝓤 H A mem run)
     → Meets 𝓤 H A open′.signature (WpFn 𝓤 H (𝓣 .C) (𝓣 .Λ) code.function) (open′.spec 𝓤 H A mem run)
-open-meets 𝓤 H A W mem run 𝓣 known = walk-meets 𝓤 H A open′.ended stayed W (goes-none-slice 𝓤 H A W 1 (0 ∷ []) tt (plain (λ _. u8)) yes, tt) (open′.clauses 𝓤 H A mem run) (WpFn 𝓤 H (𝓣 .C) (𝓣 .Λ) code.function) (WpFn-mono 𝓤 H (W .laws) 𝓣 code.function)
+open-meets 𝓤 H A W mem run 𝓣 known =
+    walk-meets 𝓤 H A open′.ended stayed W (goes-none-slice 𝓤 H A W 1 (0 ∷ []) tt (plain (λ _. u8)) yes, tt)
+    (open′.clauses 𝓤 H A mem run) (WpFn 𝓤 H (𝓣 .C) (𝓣 .Λ) code.function) (WpFn-mono 𝓤 H (W .laws) 𝓣 code.function)
     (open-walks 𝓤 H A W mem run (𝓣 .C) (𝓣 .Λ) (fmOf 𝓤 H (W .laws) 𝓣) known)
 
 pub open-spec : {M : Type 1} → stated.statement M
@@ -132,4 +185,5 @@ open-spec 𝓤 H 𝓜 𝓖 𝓡 =
     entered 𝓤 H (tripleOf 𝓤 H (𝓖 .A) open′.signature (open′.spec 𝓤 H (𝓖 .A) (𝓜 .mem) (𝓡 .run)))
     (tables 𝓤 H 𝓜 𝓡 code.env .C) (tables 𝓤 H 𝓜 𝓡 code.env .Λ) #view·open code.function (code.unfolded 𝓤 H 𝓜 𝓡)
     (open-meets 𝓤 H (𝓖 .A) (givenOf 𝓤 H 𝓜 𝓖) (𝓜 .mem) (𝓡 .run) (tablesOf 𝓤 H 𝓜 (tables 𝓤 H 𝓜 𝓡 code.env))
-    (cited 𝓤 H (Count 𝓤 H (𝓖 .A) (𝓜 .mem) (𝓡 .run)) 𝓜 𝓡 code.env #view·count-of count-def.routine code.calls-view·count-of (count-thm.met 𝓤 H 𝓜 𝓖 𝓡)))
+    (cited 𝓤 H (Count 𝓤 H (𝓖 .A) (𝓜 .mem) (𝓡 .run)) 𝓜 𝓡 code.env #view·count-of count-def.routine
+    code.calls-view·count-of (count-thm.met 𝓤 H 𝓜 𝓖 𝓡)))

@@ -5,7 +5,8 @@ use lib.ListN.{length}
 use borrow.Author.Needs.{needs}
 use borrow.Author.Tests.{not-true, not-false}
 use Rattle.walks.proofs.Runs.{few-part}
-use Rattle.walks.proofs.Application.{Fitting, element-inside, element-fits, entry-inside, run-fits, none-fitted, unfit-here, one-fitted, all-fitted}
+use Rattle.walks.proofs.Application.{Fitting, element-inside, element-fits, entry-inside, run-fits, none-fitted}
+use Rattle.walks.proofs.Application.{unfit-here, one-fitted, all-fitted}
 use Rattle.walks.proofs.find_unfit.Statement.{statement}
 use Rattle.walks.proofs.find_unfit.Tie as tie
 

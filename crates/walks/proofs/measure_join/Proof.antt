@@ -1,4 +1,5 @@
--- `walks::measure_join` meets its contract: what is counted and what the walk still gives make up the whole; the measure is the objects left.
+-- `walks::measure_join` meets its contract: what is counted and what the walk still gives make up the whole;
+-- the measure is the objects left.
 -- Assumes nothing.
 use Prim.Native.Nat.{_-_}
 use native.Mathlib.Omega.{arith}
@@ -13,7 +14,8 @@ use Rattle.walks.proofs.measure_join.Statement.{statement}
 use Rattle.walks.proofs.measure_join.Tie as tie
 
 abbrev Inv-loop : tie.InvT-loop
-Inv-loop kinds first second count₀ bytes₀ p₀ q₀ i₀ count bytes p q i = Sizing Walk.Join kinds first second count bytes p q i
+Inv-loop kinds first second count₀ bytes₀ p₀ q₀ i₀ count bytes p q i =
+    Sizing Walk.Join kinds first second count bytes p q i
 
 abbrev μ-loop : tie.MeasureT-loop
 μ-loop kinds first second count₀ bytes₀ p₀ q₀ i₀ count bytes p q i = length kinds - i
@@ -25,7 +27,8 @@ returns c =
     let one = other .before in
     let wide = one .before in
     let turn = wide .before in
-    join-until (turn .loop-test .taken) (wide .width-at .ensures .0) (one .names .ensures) (other .names2 .ensures) (turn .before .loop .inv) (met .meet-at .ensures) (not-true _ (c .if1 .taken))
+    join-until (turn .loop-test .taken) (wide .width-at .ensures .0) (one .names .ensures) (other .names2 .ensures)
+    (turn .before .loop .inv) (met .meet-at .ensures) (not-true _ (c .if1 .taken))
 
 loop-again : tie.Need-loop-again Inv-loop μ-loop
 loop-again c =
@@ -40,22 +43,30 @@ loop-again c =
     let one = other .before in
     let wide = one .before in
     let turn = wide .before in
-    join-sized (turn .loop-test .taken) (wide .width-at .ensures .0) (one .names .ensures) (other .names2 .ensures) (turn .before .loop .inv) (met .meet-at .ensures) (not-false _ (agreed .if1 .left))
-    (kept .join-names .ensures) (counted .count-if .ensures) (sized .size-if .ensures) (near .size-if2 .ensures) (far .size-if3 .ensures) (c .next .ensures)
+    join-sized (turn .loop-test .taken) (wide .width-at .ensures .0) (one .names .ensures) (other .names2 .ensures)
+    (turn .before .loop .inv) (met .meet-at .ensures) (not-false _ (agreed .if1 .left))
+    (kept .join-names .ensures) (counted .count-if .ensures) (sized .size-if .ensures) (near .size-if2 .ensures)
+    (far .size-if3 .ensures) (c .next .ensures)
 
 add-near : tie.Need-add-near Inv-loop μ-loop
 add-near c =
     let met = c .before .before .before .before .before in
     let one = met .before .before in
     let turn = one .before .before in
-    record { fits = cursor-fits _ _ _ _ (turn .before .loop .inv .seek .near) (one .names .ensures) (c .size-if2 .ensures) (omega (arith, turn)) }
+    record {
+      fits = cursor-fits _ _ _ _ (turn .before .loop .inv .seek .near) (one .names .ensures)
+          (c .size-if2 .ensures) (omega (arith, turn));
+    }
 
 add-far : tie.Need-add-far Inv-loop μ-loop
 add-far c =
     let met = c .before .before .before .before .before .before in
     let other = met .before in
     let turn = other .before .before .before in
-    record { fits = cursor-fits _ _ _ _ (turn .before .loop .inv .seek .far) (other .names2 .ensures) (c .size-if3 .ensures) (omega (arith, turn)) }
+    record {
+      fits = cursor-fits _ _ _ _ (turn .before .loop .inv .seek .far) (other .names2 .ensures)
+          (c .size-if3 .ensures) (omega (arith, turn));
+    }
 
 next-requires : tie.Need-next-requires Inv-loop μ-loop
 next-requires c κs =
@@ -64,8 +75,11 @@ next-requires c κs =
     let other = met .before in
     let one = other .before in
     let turn = one .before .before in
-    let inv = turn .before .loop .inv in
-    (cursor-inside _ _ _ _ (inv .seek .near) (one .names .ensures) (near .size-if2 .ensures), cursor-inside _ _ _ _ (inv .seek .far) (other .names2 .ensures) (c .size-if3 .ensures), omega (arith, turn))
+    let inv = turn .before .loop .inv in (
+      cursor-inside _ _ _ _ (inv .seek .near) (one .names .ensures) (near .size-if2 .ensures),
+      cursor-inside _ _ _ _ (inv .seek .far) (other .names2 .ensures) (c .size-if3 .ensures),
+      omega (arith, turn),
+    )
 
 pub measure-join-spec : {M : Type 1} → statement M
 measure-join-spec =

@@ -1,4 +1,5 @@
--- `walks::put_joined` meets its contract: the entries written and those that the walk still gives make up the whole; the measure is the objects left.
+-- `walks::put_joined` meets its contract: the entries written and those that the walk still gives make up the whole;
+-- the measure is the objects left.
 -- Assumes nothing.
 use Prim.Native.Nat.{_-_}
 use native.Mathlib.Omega.{arith}
@@ -24,7 +25,11 @@ add-end c =
     let one = other .before in
     let wide = one .before in
     let turn = wide .before in
-    record { fits = join-fits (turn .loop-test .taken) (wide .width-at .ensures .0) (one .names .ensures) (other .names2 .ensures) (turn .before .loop .inv) (made .join-change .ensures) (c .span .ensures .0) (omega (arith, turn)) }
+    record {
+      fits = join-fits (turn .loop-test .taken) (wide .width-at .ensures .0) (one .names .ensures)
+          (other .names2 .ensures) (turn .before .loop .inv) (made .join-change .ensures) (c .span .ensures .0)
+          (omega (arith, turn));
+    }
 
 put-change-end : tie.Need-part-put-change-end Inv-loop μ-loop
 put-change-end c =
@@ -33,7 +38,8 @@ put-change-end c =
     let one = other .before in
     let wide = one .before in
     let turn = wide .before in
-    join-inside (turn .loop-test .taken) (wide .width-at .ensures .0) (one .names .ensures) (other .names2 .ensures) (turn .before .loop .inv) (made .join-change .ensures) (c .span .ensures .0)
+    join-inside (turn .loop-test .taken) (wide .width-at .ensures .0) (one .names .ensures) (other .names2 .ensures)
+    (turn .before .loop .inv) (made .join-change .ensures) (c .span .ensures .0)
 
 put-change-requires : tie.Need-put-change-requires Inv-loop μ-loop
 put-change-requires c κs =
@@ -42,8 +48,11 @@ put-change-requires c κs =
     let other = made .before in
     let one = other .before in
     let wide = one .before in
-    let turn = wide .before in
-    (join-long (turn .loop-test .taken) (wide .width-at .ensures .0) (one .names .ensures) (other .names2 .ensures) (turn .before .loop .inv) (made .join-change .ensures) (spanned .span .ensures .0), wide .width-at .ensures .1)
+    let turn = wide .before in (
+      join-long (turn .loop-test .taken) (wide .width-at .ensures .0) (one .names .ensures) (other .names2 .ensures)
+          (turn .before .loop .inv) (made .join-change .ensures) (spanned .span .ensures .0),
+      wide .width-at .ensures .1,
+    )
 
 loop-again : tie.Need-loop-again Inv-loop μ-loop
 loop-again c =
@@ -56,7 +65,8 @@ loop-again c =
     let one = other .before in
     let wide = one .before in
     let turn = wide .before in
-    join-put (turn .loop-test .taken) (wide .width-at .ensures .0) (one .names .ensures) (other .names2 .ensures) (turn .before .loop .inv) (made .join-change .ensures) (spanned .span .ensures .0)
+    join-put (turn .loop-test .taken) (wide .width-at .ensures .0) (one .names .ensures) (other .names2 .ensures)
+    (turn .before .loop .inv) (made .join-change .ensures) (spanned .span .ensures .0)
     (put .put-change .ensures) (near .size-if .ensures) (far .size-if2 .ensures) (c .next .ensures)
 
 add-near : tie.Need-add-near Inv-loop μ-loop
@@ -65,14 +75,20 @@ add-near c =
     let other = put .before .before .before .before in
     let one = other .before in
     let turn = one .before .before in
-    record { fits = cursor-fits _ _ _ _ (turn .before .loop .inv .near) (one .names .ensures) (c .size-if .ensures) (omega (arith, turn)) }
+    record {
+      fits = cursor-fits _ _ _ _ (turn .before .loop .inv .near) (one .names .ensures) (c .size-if .ensures)
+          (omega (arith, turn));
+    }
 
 add-far : tie.Need-add-far Inv-loop μ-loop
 add-far c =
     let put = c .before .before .before .before in
     let other = put .before .before .before .before in
     let turn = other .before .before .before in
-    record { fits = cursor-fits _ _ _ _ (turn .before .loop .inv .far) (other .names2 .ensures) (c .size-if2 .ensures) (omega (arith, turn)) }
+    record {
+      fits = cursor-fits _ _ _ _ (turn .before .loop .inv .far) (other .names2 .ensures) (c .size-if2 .ensures)
+          (omega (arith, turn));
+    }
 
 next-requires : tie.Need-next-requires Inv-loop μ-loop
 next-requires c κs =
@@ -81,8 +97,11 @@ next-requires c κs =
     let other = put .before .before .before .before in
     let one = other .before in
     let turn = one .before .before in
-    let inv = turn .before .loop .inv in
-    (cursor-inside _ _ _ _ (inv .near) (one .names .ensures) (near .size-if .ensures), cursor-inside _ _ _ _ (inv .far) (other .names2 .ensures) (c .size-if2 .ensures), omega (arith, turn))
+    let inv = turn .before .loop .inv in (
+      cursor-inside _ _ _ _ (inv .near) (one .names .ensures) (near .size-if .ensures),
+      cursor-inside _ _ _ _ (inv .far) (other .names2 .ensures) (c .size-if2 .ensures),
+      omega (arith, turn),
+    )
 
 pub put-joined-spec : {M : Type 1} → statement M
 put-joined-spec =

@@ -1,10 +1,12 @@
--- `walks::renew` meets its contract: the elements renewed and those still to be renewed make up the whole; the measure is the objects left.
+-- `walks::renew` meets its contract: the elements renewed and those still to be renewed make up the whole;
+-- the measure is the objects left.
 -- Assumes nothing.
 use Prim.Native.Nat.{_-_}
 use lib.ListN.{length}
 use borrow.Author.Needs.{needs}
 use Rattle.walks.proofs.Runs.{few-part}
-use Rattle.walks.proofs.Application.{Renewing, element-fits, entry-inside, run-fits, none-renewed, renew-keeps, renew-inside, one-renewed, all-renewed}
+use Rattle.walks.proofs.Application.{Renewing, element-fits, entry-inside, run-fits, none-renewed, renew-keeps}
+use Rattle.walks.proofs.Application.{renew-inside, one-renewed, all-renewed}
 use Rattle.walks.proofs.renew.Statement.{statement}
 use Rattle.walks.proofs.renew.Tie as tie
 

@@ -11,4 +11,9 @@ unlisted : tie.Need-returns-8
 unlisted c = sym (List·getD-eq-default boundaryMovementCases _ (past _ 7 (c .match .rest)))
 
 pub of-spec : {M : Type 1} → statement M
-of-spec = tie.close (tie.spec (λ c. sym (ap boundaryMovementOf (c .match .keys1))) (λ c. sym (ap boundaryMovementOf (c .match .keys2))) (λ c. sym (ap boundaryMovementOf (c .match .keys3))) (λ c. sym (ap boundaryMovementOf (c .match .keys4))) (λ c. sym (ap boundaryMovementOf (c .match .keys5))) (λ c. sym (ap boundaryMovementOf (c .match .keys6))) (λ c. sym (ap boundaryMovementOf (c .match .keys7))) unlisted)
+of-spec =
+    tie.close (tie.spec (λ c. sym (ap boundaryMovementOf (c .match .keys1)))
+    (λ c. sym (ap boundaryMovementOf (c .match .keys2))) (λ c. sym (ap boundaryMovementOf (c .match .keys3)))
+    (λ c. sym (ap boundaryMovementOf (c .match .keys4))) (λ c. sym (ap boundaryMovementOf (c .match .keys5)))
+    (λ c. sym (ap boundaryMovementOf (c .match .keys6)))
+    (λ c. sym (ap boundaryMovementOf (c .match .keys7))) unlisted)

@@ -11,4 +11,7 @@ unlisted : tie.Need-returns-6
 unlisted c = sym (List·getD-eq-default gaugePresenceCases _ (past _ 5 (c .match .rest)))
 
 pub of-spec : {M : Type 1} → statement M
-of-spec = tie.close (tie.spec (λ c. sym (ap gaugePresenceOf (c .match .keys1))) (λ c. sym (ap gaugePresenceOf (c .match .keys2))) (λ c. sym (ap gaugePresenceOf (c .match .keys3))) (λ c. sym (ap gaugePresenceOf (c .match .keys4))) (λ c. sym (ap gaugePresenceOf (c .match .keys5))) unlisted)
+of-spec =
+    tie.close (tie.spec (λ c. sym (ap gaugePresenceOf (c .match .keys1)))
+    (λ c. sym (ap gaugePresenceOf (c .match .keys2))) (λ c. sym (ap gaugePresenceOf (c .match .keys3)))
+    (λ c. sym (ap gaugePresenceOf (c .match .keys4))) (λ c. sym (ap gaugePresenceOf (c .match .keys5))) unlisted)

@@ -11,4 +11,8 @@ unlisted : tie.Need-returns-6
 unlisted c = sym (List·getD-eq-default pointsDetectionCases _ (past _ 5 (c .match .rest)))
 
 pub of-spec : {M : Type 1} → statement M
-of-spec = tie.close (tie.spec (λ c. sym (ap pointsDetectionOf (c .match .keys1))) (λ c. sym (ap pointsDetectionOf (c .match .keys2))) (λ c. sym (ap pointsDetectionOf (c .match .keys3))) (λ c. sym (ap pointsDetectionOf (c .match .keys4))) (λ c. sym (ap pointsDetectionOf (c .match .keys5))) unlisted)
+of-spec =
+    tie.close (tie.spec (λ c. sym (ap pointsDetectionOf (c .match .keys1)))
+    (λ c. sym (ap pointsDetectionOf (c .match .keys2))) (λ c. sym (ap pointsDetectionOf (c .match .keys3)))
+    (λ c. sym (ap pointsDetectionOf (c .match .keys4)))
+    (λ c. sym (ap pointsDetectionOf (c .match .keys5))) unlisted)

@@ -11,4 +11,6 @@ unlisted : tie.Need-returns-3
 unlisted c = sym (List·getD-eq-default pointsSectionOccupancyCases _ (past _ 2 (c .match .rest)))
 
 pub of-spec : {M : Type 1} → statement M
-of-spec = tie.close (tie.spec (λ c. sym (ap pointsSectionOccupancyOf (c .match .keys1))) (λ c. sym (ap pointsSectionOccupancyOf (c .match .keys2))) unlisted)
+of-spec =
+    tie.close (tie.spec (λ c. sym (ap pointsSectionOccupancyOf (c .match .keys1)))
+    (λ c. sym (ap pointsSectionOccupancyOf (c .match .keys2))) unlisted)

@@ -1,4 +1,5 @@
--- `changes::accepted::write_difference` meets its contract: the walk over two accepted images' elements finds their difference.
+-- `changes::accepted::write_difference` meets its contract:
+-- the walk over two accepted images' elements finds their difference.
 -- Assumes nothing.
 use borrow.Author.Needs.{needs}
 use Rattle.history.proofs.OutputLaws.{leaves-as}
@@ -16,7 +17,8 @@ returns c =
     let from = to .before in
     let known = from .before .before .before .before .before in
     leaves-as _
-    (difference-is _ _ _ (known .pre .0) (known .pre .1 .0) (known .pre .1 .1) (from .position-of .ensures) (to .position-of2 .ensures) (old .elements-of .ensures) (new .elements-of2 .ensures))
+    (difference-is _ _ _ (known .pre .0) (known .pre .1 .0) (known .pre .1 .1) (from .position-of .ensures)
+    (to .position-of2 .ensures) (old .elements-of .ensures) (new .elements-of2 .ensures))
     (wrote .write-list .ensures)
 
 pub write-difference-spec : {M : Type 1} → statement M

@@ -1,4 +1,5 @@
--- `changes::accepted::write_joined` meets its contract: the positions, then the lowest object on which the lists do not agree, else the list is written.
+-- `changes::accepted::write_joined` meets its contract: the positions, then the lowest object
+-- on which the lists do not agree, else the list is written.
 -- Assumes nothing.
 use borrow.Author.Needs.{needs}
 use Rattle.history.proofs.OutputLaws.{leaves-as, refused-leaves}
@@ -27,7 +28,9 @@ returns-3 c =
     let end = start .before in
     let known = end .before .before .before .before .before in
     leaves-as _
-    (join-is _ _ _ (known .pre .0) (known .pre .1 .0) (known .pre .1 .1) (end .to-of .ensures) (start .from-of .ensures) (tested .if1 .left) (first .entries-of .ensures) (second .entries-of2 .ensures) (sized .measure-join .ensures .found) (agreed .if2 .left) (from .from-of2 .ensures) (to .to-of2 .ensures))
+    (join-is _ _ _ (known .pre .0) (known .pre .1 .0) (known .pre .1 .1) (end .to-of .ensures) (start .from-of .ensures)
+    (tested .if1 .left) (first .entries-of .ensures) (second .entries-of2 .ensures)
+    (sized .measure-join .ensures .found) (agreed .if2 .left) (from .from-of2 .ensures) (to .to-of2 .ensures))
     (wrote .write-list .ensures)
 
 pub write-joined-spec : {M : Type 1} → statement M

@@ -19,7 +19,8 @@ returns c = search stops
 loop-again : tie.Need-loop-again Inv-loop μ-loop
 loop-again c =
     let tested = c .before .before .before in
-    goes-on (tested .before .loop .inv) (omega arith) (omega arith) (omega arith) (c .before .highest .ensures) (omega arith)
+    goes-on (tested .before .loop .inv) (omega arith) (omega arith) (omega arith) (c .before .highest .ensures)
+    (omega arith)
 
 returns-2 : tie.Need-returns-2 Inv-loop μ-loop
 returns-2 c = search checked

@@ -16,7 +16,8 @@ abbrev μ-loop : tie.MeasureT-loop
 loop-again : tie.Need-loop-again Inv-loop μ-loop
 loop-again c =
     let tested = c .before .before .before in
-    takes-on (tested .before .loop .inv) (omega arith) (omega arith) (c .before .highest .ensures) (λ x. x .taken) (λ x. x .left) (c .if1 .came)
+    takes-on (tested .before .loop .inv) (omega arith) (omega arith) (c .before .highest .ensures) (λ x. x .taken)
+    (λ x. x .left) (c .if1 .came)
 
 returns : tie.Need-returns Inv-loop μ-loop
 returns c = search taken-all

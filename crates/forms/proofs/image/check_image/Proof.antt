@@ -1,4 +1,5 @@
--- `forms::image::check_image` meets its contract: a refused table's answer is the whole answer; under an accepted one the image decides.
+-- `forms::image::check_image` meets its contract: a refused table's answer is the whole answer;
+-- under an accepted one the image decides.
 -- Assumes nothing.
 use mathlib.Core.Path.{ap, _∙_}
 use borrow.Author.Needs.{needs}

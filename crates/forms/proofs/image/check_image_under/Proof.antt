@@ -23,13 +23,17 @@ returns-4 : tie.Need-returns-4
 returns-4 c =
     let measured = c .before .before in
     c .refused4 .ensures
-    ∙ other-size _ _ _ _ (search yes) (search yes) (search yes) _ (measured .before .elements-place .ensures .0) _ (measured .widths-of .ensures .0) (λ e. omega arith)
+    ∙ other-size _ _ _ _ (search yes) (search yes) (search yes) _ (measured .before .elements-place .ensures .0) _
+    (measured .widths-of .ensures .0) (λ e. omega arith)
 
 elements-of-requires : tie.Need-elements-of-requires
 elements-of-requires c κs = head-inside _ _ (c .before .before .elements-place .ensures .0) (omega arith)
 
 check-words-requires : tie.Need-check-words-requires
-check-words-requires c κs = (elements-fill _ _ (c .before .before .before .elements-place .ensures .0) (omega arith) (c .elements-of .ensures), search needs)
+check-words-requires c κs = (
+  elements-fill _ _ (c .before .before .before .elements-place .ensures .0) (omega arith) (c .elements-of .ensures),
+  search needs,
+)
 
 returns-5 : tie.Need-returns-5
 returns-5 c =

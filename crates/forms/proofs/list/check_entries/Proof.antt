@@ -17,7 +17,8 @@ returns : tie.Need-returns Inv-loop μ-loop
 returns c = search stops
 
 add-low : tie.Need-add-low Inv-loop μ-loop
-add-low c = omega (arith, number-inside _ _ _ _ (c .before .before .before .check-entry .ensures) (c .before .entry2 .given .1))
+add-low c =
+    omega (arith, number-inside _ _ _ _ (c .before .before .before .check-entry .ensures) (c .before .entry2 .given .1))
 
 loop-again : tie.Need-loop-again Inv-loop μ-loop
 loop-again c = search goes-on

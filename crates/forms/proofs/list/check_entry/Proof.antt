@@ -1,7 +1,8 @@
 -- `forms::list::check_entry` meets its contract: the number, 14, the elements, 15, in this order.
 -- Assumes nothing.
 use borrow.Author.Needs.{needs}
-use Rattle.forms.proofs.ListEntryLaws.{refuses, no-number, number-there, object-there, falling, bad-elements, unchanged, changed}
+use Rattle.forms.proofs.ListEntryLaws.{refuses, no-number, number-there, object-there, falling, bad-elements}
+use Rattle.forms.proofs.ListEntryLaws.{unchanged, changed}
 use Rattle.forms.proofs.list.check_entry.Statement.{statement}
 use Rattle.forms.proofs.list.check_entry.Tie as tie
 

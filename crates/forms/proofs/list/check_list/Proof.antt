@@ -1,4 +1,5 @@
--- `forms::list::check_list` meets its contract: a refused table's answer is the whole answer; under an accepted one the list decides.
+-- `forms::list::check_list` meets its contract: a refused table's answer is the whole answer;
+-- under an accepted one the list decides.
 -- Assumes nothing.
 use mathlib.Core.Path.{ap, _∙_}
 use borrow.Author.Needs.{needs}

@@ -11,4 +11,5 @@ returns c =
     (place-sum (s .args .kinds .now) (s .args .object) _ (c .widths-of .ensures .0), c .widths-of .ensures .1)
 
 pub place-of-spec : {M : Type 1} → statement M
-place-of-spec = tie.close (tie.spec (λ c. search needs) (λ c. search needs) (λ c. search needs) (λ c κs. search needs) returns)
+place-of-spec =
+    tie.close (tie.spec (λ c. search needs) (λ c. search needs) (λ c. search needs) (λ c κs. search needs) returns)

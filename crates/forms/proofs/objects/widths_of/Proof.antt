@@ -34,7 +34,9 @@ loop-less : tie.Need-loop-less Inv-loop μ-loop
 loop-less c = omega arith
 
 loop-again : tie.Need-loop-again Inv-loop μ-loop
-loop-again c = one-more (c .before .before .before .loop .inv) _ _ (omega arith) (c .before .kind-at .ensures) (c .width .ensures .0)
+loop-again c =
+    one-more (c .before .before .before .loop .inv) _ _ (omega arith) (c .before .kind-at .ensures)
+    (c .width .ensures .0)
 
 returns : tie.Need-returns Inv-loop μ-loop
 returns c = all-summed (c .before .loop .inv) (omega arith) (omega arith)

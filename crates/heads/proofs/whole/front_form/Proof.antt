@@ -1,4 +1,5 @@
--- `heads::whole::front_form` meets its contract: all of the bytes where they hold no form in full, else as many as the length says.
+-- `heads::whole::front_form` meets its contract: all of the bytes where they hold no form in
+-- full, else as many as the length says.
 -- Assumes nothing.
 use native.Mathlib.Omega.{arith}
 use mathlib.Core.Path.{sym}

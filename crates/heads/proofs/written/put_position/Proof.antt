@@ -8,4 +8,5 @@ use Rattle.heads.proofs.written.put_position.Tie as tie
 
 pub put-position-spec : {M : Type 1} → statement M
 put-position-spec =
-    tie.close (tie.spec (λ c. search needs) (λ c. search needs) (λ c. search (position-inside, needs)) (λ c κs. search needs) (λ c. search needs) (λ c. search position-put))
+    tie.close (tie.spec (λ c. search needs) (λ c. search needs) (λ c. search (position-inside, needs))
+    (λ c κs. search needs) (λ c. search needs) (λ c. search position-put))

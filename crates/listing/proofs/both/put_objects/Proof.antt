@@ -1,16 +1,19 @@
--- `listing::both::put_objects` meets its contract: the whole text is what is written, followed by the lines of the objects left.
+-- `listing::both::put_objects` meets its contract: the whole text is what is written, followed
+-- by the lines of the objects left.
 -- Assumes nothing.
 use Prim.Native.Nat.{_-_}
 use native.Mathlib.Omega.{arith}
 use lib.ListN.{length}
 use borrow.Author.Needs.{needs}
 use Rattle.listing.proofs.PanelLaws.{position-inside}
-use Rattle.listing.proofs.WalkLaws.{Walked, begin, ended, entries-left, label-inside, element-inside, has-room, goes-on}
+use Rattle.listing.proofs.WalkLaws.{Walked, begin, ended, entries-left, label-inside, element-inside, has-room}
+use Rattle.listing.proofs.WalkLaws.{goes-on}
 use Rattle.listing.proofs.both.put_objects.Statement.{statement}
 use Rattle.listing.proofs.both.put_objects.Tie as tie
 
 abbrev Inv-loop : tie.InvT-loop
-Inv-loop table image kinds out₀ at elements to₀ entry₀ place₀ i₀ out to entry place i = Walked table image kinds elements out₀ at out to entry place i
+Inv-loop table image kinds out₀ at elements to₀ entry₀ place₀ i₀ out to entry place i =
+    Walked table image kinds elements out₀ at out to entry place i
 
 abbrev μ-loop : tie.MeasureT-loop
 μ-loop table image kinds out₀ at elements to₀ entry₀ place₀ i₀ out to entry place i = length kinds - i

@@ -14,7 +14,8 @@ returns c =
     let label = space .before .before .before .before in
     let type = label .before .before .before .before in
     let number = type .before .before .before .before in
-    object-line _ (number .put-number .ensures) (type .put-number2 .ensures) (label .put-bytes .ensures) (space .put-byte .ensures) (element .put-hex .ensures) (newline .put-byte2 .ensures)
+    object-line _ (number .put-number .ensures) (type .put-number2 .ensures) (label .put-bytes .ensures)
+    (space .put-byte .ensures) (element .put-hex .ensures) (newline .put-byte2 .ensures)
 
 pub put-object-line-spec : {M : Type 1} → statement M
 put-object-line-spec =

@@ -1,4 +1,5 @@
--- `outputs::image::put_element` meets its contract: the element is put through a part of the image, then the position is set.
+-- `outputs::image::put_element` meets its contract: the element is put through a part of the
+-- image, then the position is set.
 -- Assumes nothing.
 use borrow.Author.Needs.{needs}
 use Rattle.outputs.proofs.Images.{put-inside, put-head, put-done}
@@ -13,7 +14,8 @@ finish-requires c κs =
     let place = kind .before in
     let head = place .before in
     let known = head .before .before .before .before in
-    put-head _ _ (known .pre .1) _ (search) (known .pre .0 .0) (known .pre .0 .1) (place .place-of .ensures .0) (kind .kind-at .ensures) (width .width .ensures .0) 0 _ (put .put .ensures)
+    put-head _ _ (known .pre .1) _ (search) (known .pre .0 .0) (known .pre .0 .1) (place .place-of .ensures .0)
+    (kind .kind-at .ensures) (width .width .ensures .0) 0 _ (put .put .ensures)
 
 returns : tie.Need-returns
 returns c = search put-done

@@ -15,7 +15,8 @@ returns-2 : tie.Need-returns-2
 returns-2 c =
     let changed = c .before .before .before in
     let copied = changed .before .before .before .before in
-    copied-leaves _ _ (omega arith) (copied .copy .ensures) (imageWith _ _ _ _) (search length-with) (c .written .ensures) (changed .put-element .ensures)
+    copied-leaves _ _ (omega arith) (copied .copy .ensures) (imageWith _ _ _ _) (search length-with)
+    (c .written .ensures) (changed .put-element .ensures)
 
 pub write-element-spec : {M : Type 1} → statement M
 write-element-spec =

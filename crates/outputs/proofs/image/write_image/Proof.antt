@@ -15,7 +15,8 @@ returns-2 : tie.Need-returns-2
 returns-2 c =
     let changed = c .before .before .before in
     let copied = changed .before .before .before .before in
-    copied-leaves _ _ (omega arith) (copied .copy .ensures) (imageAfter _ _ _) (search length-after) (c .written .ensures) (changed .take-entries .ensures)
+    copied-leaves _ _ (omega arith) (copied .copy .ensures) (imageAfter _ _ _) (search length-after)
+    (c .written .ensures) (changed .take-entries .ensures)
 
 pub write-image-spec : {M : Type 1} → statement M
 write-image-spec =

@@ -12,4 +12,5 @@ returns c = c .get-at .ensures .0 ∙ search number-at
 pub word-at-spec : {M : Type 1} → statement M
 word-at-spec =
     tie.close
-    (tie.spec (λ c κs. search needs) (λ c κs. search needs) (λ c κs. search needs) (λ c κs. search (element-inside, needs)) returns)
+    (tie.spec (λ c κs. search needs) (λ c κs. search needs) (λ c κs. search needs)
+    (λ c κs. search (element-inside, needs)) returns)

@@ -1,4 +1,5 @@
--- `panel::read::read_state` meets its contract: a refused table's answer is the reading's; under an accepted one the image and the object decide.
+-- `panel::read::read_state` meets its contract: a refused table's answer is the reading's;
+-- under an accepted one the image and the object decide.
 -- Assumes nothing.
 use mathlib.Core.Path.{_∙_}
 use Rattle.forms.proofs.UnderPlan.{kinds-inside, few-kinds}

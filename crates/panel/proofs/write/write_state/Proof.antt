@@ -1,4 +1,5 @@
--- `panel::write::write_state` meets its contract: a refused table's answer is the answer and the output stays; under an accepted one the image and the state decide.
+-- `panel::write::write_state` meets its contract: a refused table's answer is the answer and the output stays;
+-- under an accepted one the image and the state decide.
 -- Assumes nothing.
 use Rattle.forms.proofs.UnderPlan.{table-leaves, kinds-inside, few-kinds}
 use Rattle.history.proofs.OutputLaws.{leaves-as}

@@ -1,4 +1,5 @@
--- `panel::write::write_under` meets its contract: the image's refusal, then the state's, then the image with its new element.
+-- `panel::write::write_under` meets its contract: the image's refusal, then the state's, then
+-- the image with its new element.
 -- Assumes nothing.
 use native.Mathlib.Omega.{arith}
 use Rattle.history.proofs.OutputLaws.{leaves-as, told-leaves}
@@ -20,7 +21,8 @@ write-element-requires c κs =
     let checked = found .before .before .before in
     let known = checked .before .before in (
       (state-object _ _ _ (found .check-state .ensures) (omega arith), omega arith),
-      image-sized _ _ _ _ _ _ 0 (checked .check-image-under .ensures) (known .shared-slice-known2 .given) (omega arith) (found .check-state .ensures),
+      image-sized _ _ _ _ _ _ 0 (checked .check-image-under .ensures) (known .shared-slice-known2 .given) (omega arith)
+          (found .check-state .ensures),
     )
 
 returns-3 : tie.Need-returns-3
@@ -30,7 +32,9 @@ returns-3 c =
     let found = word .before .before .before in
     let checked = found .before .before .before in
     let known = checked .before .before in
-    leaves-as _ (write-is _ _ _ _ _ _ _ (checked .check-image-under .ensures) (known .shared-slice-known2 .given) (omega arith) (found .check-state .ensures) (omega arith) (word .word-of .ensures)) (put .write-element .ensures)
+    leaves-as _ (write-is _ _ _ _ _ _ _ (checked .check-image-under .ensures) (known .shared-slice-known2 .given)
+    (omega arith) (found .check-state .ensures) (omega arith) (word .word-of .ensures))
+    (put .write-element .ensures)
 
 pub write-under-spec : {M : Type 1} → statement M
 write-under-spec =

@@ -1,4 +1,5 @@
--- `tables::labels::check_label` meets its contract: without a colon that has a byte before and after it, it is bad; else its bytes decide.
+-- `tables::labels::check_label` meets its contract: without a colon that has a byte before and after it, it is bad;
+-- else its bytes decide.
 -- Assumes nothing.
 use native.Mathlib.Omega.{arith}
 use borrow.Author.Needs.{needs}

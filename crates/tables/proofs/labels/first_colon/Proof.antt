@@ -1,4 +1,5 @@
--- `tables::labels::first_colon` meets its contract. The invariant: no colon is passed, so the first colon is the first in what is left.
+-- `tables::labels::first_colon` meets its contract. The invariant:
+-- no colon is passed, so the first colon is the first in what is left.
 -- Assumes nothing.
 use Prim.Native.Nat.{_+_, _≤_, _-_}
 use native.Mathlib.Omega.{arith}

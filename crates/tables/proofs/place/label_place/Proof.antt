@@ -11,7 +11,9 @@ returns : tie.Need-returns
 returns c = label-table _ _ _ (search needs) (search needs) _ (c .no-label .ensures)
 
 returns-2 : tie.Need-returns-2
-returns-2 c = label-none _ _ (search (needs, code-given)) (omega arith) _ (c .before .refused-at .ensures) _ (c .no-label2 .ensures)
+returns-2 c =
+    label-none _ _ (search (needs, code-given)) (omega arith) _ (c .before .refused-at .ensures) _
+    (c .no-label2 .ensures)
 
 add-offset : tie.Need-add-offset
 add-offset c = omega (arith, entry-at _ (search (needs, code-given)) _ _ (c .entry-place .ensures) (omega arith))
@@ -20,10 +22,13 @@ add-byte-at : tie.Need-add-byte-at
 add-byte-at c = omega (arith, entry-at _ (search (needs, code-given)) _ _ (c .entry-place .ensures) (omega arith))
 
 byte-at-requires : tie.Need-byte-at-requires
-byte-at-requires c κs = omega (arith, entry-at _ (search (needs, code-given)) _ _ (c .entry-place .ensures) (omega arith))
+byte-at-requires c κs =
+    omega (arith, entry-at _ (search (needs, code-given)) _ _ (c .entry-place .ensures) (omega arith))
 
 returns-3 : tie.Need-returns-3
-returns-3 c = label-found _ _ (search (needs, code-given)) (omega arith) _ (search needs) _ (search needs) _ (c .accepted .ensures)
+returns-3 c =
+    label-found _ _ (search (needs, code-given)) (omega arith) _ (search needs) _ (search needs) _
+    (c .accepted .ensures)
 
 pub label-place-spec : {M : Type 1} → statement M
 label-place-spec =

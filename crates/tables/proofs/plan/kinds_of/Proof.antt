@@ -1,4 +1,5 @@
--- `tables::plan::kinds_of` meets its contract. The invariant: the numbers of the objects passed are in the first places.
+-- `tables::plan::kinds_of` meets its contract. The invariant:
+-- the numbers of the objects passed are in the first places.
 -- Assumes nothing.
 use Prim.Native.Nat.{_-_}
 use native.Mathlib.Omega.{arith}

@@ -52,13 +52,18 @@ refused-requires-4 : tie.Need-refused-requires-4
 refused-requires-4 c κs = search needs
 
 returns-4 : tie.Need-returns-4
-returns-4 c = c .refused4 .ensures ∙ table-4 _ (search (needs, yes)) (search (needs, yes)) (search (needs, yes)) _ (c .before .before .object-count .ensures) (omega arith)
+returns-4 c =
+    c .refused4 .ensures
+    ∙ table-4 _ (search (needs, yes)) (search (needs, yes)) (search (needs, yes)) _
+    (c .before .before .object-count .ensures) (omega arith)
 
 check-objects-requires : tie.Need-check-objects-requires
 check-objects-requires c κs = search (table-room, needs)
 
 returns-5 : tie.Need-returns-5
-returns-5 c = table-rest _ (search (needs, yes)) (search (needs, yes)) (search (needs, yes)) _ (c .before .before .object-count .ensures) (omega arith) _ (c .check-objects .ensures)
+returns-5 c =
+    table-rest _ (search (needs, yes)) (search (needs, yes)) (search (needs, yes)) _
+    (c .before .before .object-count .ensures) (omega arith) _ (c .check-objects .ensures)
 
 pub check-table-spec : {M : Type 1} → statement M
 check-table-spec =

@@ -12,4 +12,6 @@ returns-3 c = catalogue-other _ _ (c .match .rest .0 .1) (c .match .rest .1)
 
 pub is-catalogue-spec : {M : Type 1} → statement M
 unfolding catalogueGood
-is-catalogue-spec = tie.close (tie.spec (λ c. sym (ap (λ (x : ℕ). catalogueGood x (c .before .args .y)) (c .match .keys1))) (λ c. sym (ap (λ (x : ℕ). catalogueGood x (c .before .args .y)) (c .match .keys2))) returns-3)
+is-catalogue-spec =
+    tie.close (tie.spec (λ c. sym (ap (λ (x : ℕ). catalogueGood x (c .before .args .y)) (c .match .keys1)))
+    (λ c. sym (ap (λ (x : ℕ). catalogueGood x (c .before .args .y)) (c .match .keys2))) returns-3)

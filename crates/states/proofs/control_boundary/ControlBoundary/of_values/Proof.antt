@@ -14,7 +14,8 @@ returns c =
     record {
       current = bits .b0;
       «entry_active» = bits .b1;
-      «entry_movement» = (at-entry-movement .of .ensures ∙ ap boundaryMovementOf (at-entry-movement .before .value .ensures)) i;
+      «entry_movement» =
+          (at-entry-movement .of .ensures ∙ ap boundaryMovementOf (at-entry-movement .before .value .ensures)) i;
       «exit_active» = bits .b3;
       «exit_movement» = (c .of2 .ensures ∙ ap boundaryMovementOf (c .before .value2 .ensures)) i;
       «inc_inwards» = bits .b5;

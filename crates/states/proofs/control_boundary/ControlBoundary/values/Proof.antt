@@ -17,8 +17,11 @@ returns c =
     let s = at-current .before .args .self in
     λ i.
     padded
-    (bitNo (s .current) ∷ bitNo (s .«entry_active») ∷ (at-entry-movement .number .ensures) i ∷ bitNo (s .«exit_active») ∷ (at-exit-movement .number2 .ensures) i ∷ bitNo (s .«inc_inwards») ∷ bitNo (s .«inc_shown») ∷ bitNo (s .«neighbour_object_alarm») ∷ 0 ∷
+    (bitNo (s .current) ∷ bitNo (s .«entry_active») ∷ (at-entry-movement .number .ensures) i ∷
+    bitNo (s .«exit_active») ∷ (at-exit-movement .number2 .ensures) i ∷ bitNo (s .«inc_inwards») ∷
+    bitNo (s .«inc_shown») ∷ bitNo (s .«neighbour_object_alarm») ∷ 0 ∷
     [])
 
 pub values-spec : {M : Type 1} → statement M
-values-spec = tie.close (tie.spec (λ c. tt) (λ c. tt) (λ c κs. tt) (λ c. tt) (λ c κs. tt) (λ c. tt) (λ c. tt) (λ c. tt) returns)
+values-spec =
+    tie.close (tie.spec (λ c. tt) (λ c. tt) (λ c κs. tt) (λ c. tt) (λ c κs. tt) (λ c. tt) (λ c. tt) (λ c. tt) returns)

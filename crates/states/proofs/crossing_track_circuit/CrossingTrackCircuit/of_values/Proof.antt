@@ -20,7 +20,8 @@ returns c =
       «unexpected_occupancy» = bits .b3;
       occupancy = (at-occupancy .of .ensures ∙ ap legOccupancyOf (at-occupancy .before .value .ensures)) i;
       «leg_shown» = (at-leg-shown .of2 .ensures ∙ ap legShownOf (at-leg-shown .before .value2 .ensures)) i;
-      «overlap_normal» = (at-overlap-normal .of3 .ensures ∙ ap overlapOf (at-overlap-normal .before .value3 .ensures)) i;
+      «overlap_normal» =
+          (at-overlap-normal .of3 .ensures ∙ ap overlapOf (at-overlap-normal .before .value3 .ensures)) i;
       «overlap_reverse» = (c .of4 .ensures ∙ ap overlapOf (c .before .value4 .ensures)) i;
       «clearance_lost» = bits .b8;
       «axle_counter_fault» = bits .b9;
@@ -28,4 +29,6 @@ returns c =
     }
 
 pub of-values-spec : {M : Type 1} → statement M
-of-values-spec = tie.close (tie.spec (λ c κs. tt) (λ c κs. lit< tt) (λ c κs. tt) (λ c κs. lit< tt) (λ c κs. tt) (λ c κs. lit< tt) (λ c κs. tt) (λ c κs. lit< tt) (λ c κs. tt) returns)
+of-values-spec =
+    tie.close (tie.spec (λ c κs. tt) (λ c κs. lit< tt) (λ c κs. tt) (λ c κs. lit< tt) (λ c κs. tt) (λ c κs. lit< tt)
+    (λ c κs. tt) (λ c κs. lit< tt) (λ c κs. tt) returns)

@@ -15,7 +15,8 @@ returns c =
     let s = at-current .before .args .self in
     λ i.
     padded
-    (bitNo (s .current) ∷ bitNo (s .«special_command_pending») ∷ bitNo (s .«rearm_pending») ∷ bitNo (s .«axle_counters_active») ∷ bitNo (s .«track_circuit_failed») ∷ bitNo (s .«axle_counters_failed») ∷ 0 ∷
+    (bitNo (s .current) ∷ bitNo (s .«special_command_pending») ∷ bitNo (s .«rearm_pending») ∷
+    bitNo (s .«axle_counters_active») ∷ bitNo (s .«track_circuit_failed») ∷ bitNo (s .«axle_counters_failed») ∷ 0 ∷
     [])
 
 pub values-spec : {M : Type 1} → statement M

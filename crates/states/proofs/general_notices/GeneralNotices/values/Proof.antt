@@ -16,7 +16,9 @@ returns c =
     let s = at-power-in-order .before .args .self in
     λ i.
     padded
-    (bitNo (s .«power_in_order») ∷ bitNo (s .«points_moving») ∷ bitNo (s .«auto_routes_set») ∷ bitNo (s .«points_group_blocked») ∷ (at-heaters .number .ensures) i ∷ bitNo (s .«station_closed») ∷ (c .number2 .ensures) i ∷ 0 ∷
+    (bitNo (s .«power_in_order») ∷ bitNo (s .«points_moving») ∷ bitNo (s .«auto_routes_set») ∷
+    bitNo (s .«points_group_blocked») ∷ (at-heaters .number .ensures) i ∷ bitNo (s .«station_closed») ∷
+    (c .number2 .ensures) i ∷ 0 ∷
     [])
 
 pub values-spec : {M : Type 1} → statement M

@@ -22,8 +22,10 @@ returns c =
       «unexpected_occupancy» = bits .b3;
       occupancy = (at-occupancy .of .ensures ∙ ap legOccupancyOf (at-occupancy .before .value .ensures)) i;
       «leg_shown» = (at-leg-shown .of2 .ensures ∙ ap legShownOf (at-leg-shown .before .value2 .ensures)) i;
-      «overlap_normal» = (at-overlap-normal .of3 .ensures ∙ ap overlapOf (at-overlap-normal .before .value3 .ensures)) i;
-      «overlap_reverse» = (at-overlap-reverse .of4 .ensures ∙ ap overlapOf (at-overlap-reverse .before .value4 .ensures)) i;
+      «overlap_normal» =
+          (at-overlap-normal .of3 .ensures ∙ ap overlapOf (at-overlap-normal .before .value3 .ensures)) i;
+      «overlap_reverse» =
+          (at-overlap-reverse .of4 .ensures ∙ ap overlapOf (at-overlap-reverse .before .value4 .ensures)) i;
       detection = (at-detection .of5 .ensures ∙ ap pointsDetectionOf (at-detection .before .value5 .ensures)) i;
       «command_blocked» = bits .b9;
       locking = (c .of6 .ensures ∙ ap pointsLockingOf (c .before .value6 .ensures)) i;
@@ -31,4 +33,7 @@ returns c =
     }
 
 pub of-values-spec : {M : Type 1} → statement M
-of-values-spec = tie.close (tie.spec (λ c κs. tt) (λ c κs. lit< tt) (λ c κs. tt) (λ c κs. lit< tt) (λ c κs. tt) (λ c κs. lit< tt) (λ c κs. tt) (λ c κs. lit< tt) (λ c κs. tt) (λ c κs. lit< tt) (λ c κs. tt) (λ c κs. lit< tt) (λ c κs. tt) returns)
+of-values-spec =
+    tie.close (tie.spec (λ c κs. tt) (λ c κs. lit< tt) (λ c κs. tt) (λ c κs. lit< tt) (λ c κs. tt) (λ c κs. lit< tt)
+    (λ c κs. tt) (λ c κs. lit< tt) (λ c κs. tt) (λ c κs. lit< tt) (λ c κs. tt) (λ c κs. lit< tt)
+    (λ c κs. tt) returns)

@@ -33,11 +33,14 @@ returns c =
       «green_blown» = bits .b16;
       «special_command_pending» = bits .b17;
       «command_blocked» = bits .b18;
-      «mixed_gauge» = (at-mixed-gauge .of3 .ensures ∙ ap mixedGaugeIndicationOf (at-mixed-gauge .before .value3 .ensures)) i;
+      «mixed_gauge» =
+          (at-mixed-gauge .of3 .ensures ∙ ap mixedGaugeIndicationOf (at-mixed-gauge .before .value3 .ensures)) i;
       «automatic_succession» = bits .b20;
       «auto_route_set» = bits .b21;
       «auto_route_indication» = (c .of4 .ensures ∙ ap autoRouteIndicationOf (c .before .value4 .ensures)) i;
     }
 
 pub of-values-spec : {M : Type 1} → statement M
-of-values-spec = tie.close (tie.spec (λ c κs. tt) (λ c κs. lit< tt) (λ c κs. tt) (λ c κs. lit< tt) (λ c κs. tt) (λ c κs. lit< tt) (λ c κs. tt) (λ c κs. lit< tt) (λ c κs. tt) returns)
+of-values-spec =
+    tie.close (tie.spec (λ c κs. tt) (λ c κs. lit< tt) (λ c κs. tt) (λ c κs. lit< tt) (λ c κs. tt) (λ c κs. lit< tt)
+    (λ c κs. tt) (λ c κs. lit< tt) (λ c κs. tt) returns)

@@ -35,11 +35,14 @@ returns c =
       «green_blown» = bits .b17;
       «special_command_pending» = bits .b18;
       «command_blocked» = bits .b19;
-      «mixed_gauge» = (at-mixed-gauge .of3 .ensures ∙ ap mixedGaugeIndicationOf (at-mixed-gauge .before .value3 .ensures)) i;
+      «mixed_gauge» =
+          (at-mixed-gauge .of3 .ensures ∙ ap mixedGaugeIndicationOf (at-mixed-gauge .before .value3 .ensures)) i;
       «automatic_succession» = bits .b21;
       «auto_route» = (at-auto-route .of4 .ensures ∙ ap autoRouteOf (at-auto-route .before .value4 .ensures)) i;
       router = (c .of5 .ensures ∙ ap routerIndicationOf (c .before .value5 .ensures)) i;
     }
 
 pub of-values-spec : {M : Type 1} → statement M
-of-values-spec = tie.close (tie.spec (λ c κs. tt) (λ c κs. lit< tt) (λ c κs. tt) (λ c κs. lit< tt) (λ c κs. tt) (λ c κs. lit< tt) (λ c κs. tt) (λ c κs. lit< tt) (λ c κs. tt) (λ c κs. lit< tt) (λ c κs. tt) returns)
+of-values-spec =
+    tie.close (tie.spec (λ c κs. tt) (λ c κs. lit< tt) (λ c κs. tt) (λ c κs. lit< tt) (λ c κs. tt) (λ c κs. lit< tt)
+    (λ c κs. tt) (λ c κs. lit< tt) (λ c κs. tt) (λ c κs. lit< tt) (λ c κs. tt) returns)

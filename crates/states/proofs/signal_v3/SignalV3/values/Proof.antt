@@ -33,8 +33,18 @@ returns c =
     let s = at-current .before .args .self in
     λ i.
     padded
-    (bitNo (s .current) ∷ (at-kind .number .ensures) i ∷ bitNo (s .«high_speed_auto_route») ∷ (at-aspect .number2 .ensures) i ∷ bitNo (s .«red_fitted») ∷ bitNo (s .«red_blown») ∷ bitNo (s .«white_fitted») ∷ bitNo (s .«white_blown») ∷ bitNo (s .«vertical_white_fitted») ∷ bitNo (s .«vertical_white_blown») ∷ bitNo (s .«horizontal_white_fitted») ∷ bitNo (s .«horizontal_white_blown») ∷ bitNo (s .«blue_fitted») ∷ bitNo (s .«blue_blown») ∷ bitNo (s .«yellow_fitted») ∷ bitNo (s .«yellow_blown») ∷ bitNo (s .«green_fitted») ∷ bitNo (s .«green_blown») ∷ bitNo (s .«special_command_pending») ∷ bitNo (s .«command_blocked») ∷ (at-mixed-gauge .number3 .ensures) i ∷ bitNo (s .«automatic_succession») ∷ (at-auto-route .number4 .ensures) i ∷ (c .number5 .ensures) i ∷
+    (bitNo (s .current) ∷ (at-kind .number .ensures) i ∷ bitNo (s .«high_speed_auto_route») ∷
+    (at-aspect .number2 .ensures) i ∷ bitNo (s .«red_fitted») ∷ bitNo (s .«red_blown») ∷ bitNo (s .«white_fitted») ∷
+    bitNo (s .«white_blown») ∷ bitNo (s .«vertical_white_fitted») ∷ bitNo (s .«vertical_white_blown») ∷
+    bitNo (s .«horizontal_white_fitted») ∷ bitNo (s .«horizontal_white_blown») ∷ bitNo (s .«blue_fitted») ∷
+    bitNo (s .«blue_blown») ∷ bitNo (s .«yellow_fitted») ∷ bitNo (s .«yellow_blown») ∷ bitNo (s .«green_fitted») ∷
+    bitNo (s .«green_blown») ∷ bitNo (s .«special_command_pending») ∷ bitNo (s .«command_blocked») ∷
+    (at-mixed-gauge .number3 .ensures) i ∷ bitNo (s .«automatic_succession») ∷ (at-auto-route .number4 .ensures) i ∷
+    (c .number5 .ensures) i ∷
     [])
 
 pub values-spec : {M : Type 1} → statement M
-values-spec = tie.close (tie.spec (λ c. tt) (λ c κs. tt) (λ c. tt) (λ c κs. tt) (λ c. tt) (λ c. tt) (λ c. tt) (λ c. tt) (λ c. tt) (λ c. tt) (λ c. tt) (λ c. tt) (λ c. tt) (λ c. tt) (λ c. tt) (λ c. tt) (λ c. tt) (λ c. tt) (λ c. tt) (λ c. tt) (λ c κs. tt) (λ c. tt) (λ c κs. tt) (λ c κs. tt) returns)
+values-spec =
+    tie.close (tie.spec (λ c. tt) (λ c κs. tt) (λ c. tt) (λ c κs. tt) (λ c. tt) (λ c. tt) (λ c. tt) (λ c. tt) (λ c. tt)
+    (λ c. tt) (λ c. tt) (λ c. tt) (λ c. tt) (λ c. tt) (λ c. tt) (λ c. tt) (λ c. tt) (λ c. tt) (λ c. tt) (λ c. tt)
+    (λ c κs. tt) (λ c. tt) (λ c κs. tt) (λ c κs. tt) returns)
