@@ -34,13 +34,18 @@ def width(line):
     return len(line) if comment(line) else len(re.sub(r'\s+(//|--) .*$', '', line))
 
 
-def break_comment(line, following):
-    """The comment up to a blank, and the rest with the line that goes on with it, or alone."""
+def break_comment(line, before, following):
+    """The comment up to a blank, and the rest with the line that goes on with it, or alone.
+
+    A comment that is one line is broken after a sentence or a clause if it has one, or else not just before its end."""
     lead = comment(line)
     goes_on = comment(following) == lead and not following.startswith(lead + '--') and line[-1] != '.'
+    alone = not goes_on and (comment(before) != lead or before[-1] == '.')
     ends = [found.end() - 1 for found in re.finditer('[.;:] ', line) if WIDTH // 2 < found.end() <= WIDTH]
-    room = WIDTH if goes_on or len(line) > WIDTH + 3 * SHORT else WIDTH - 2 * SHORT
-    cut = ends[-1] if ends and not goes_on else line.rindex(' ', 0, room + 1)
+    room = WIDTH - 2 * SHORT if alone and len(line) < WIDTH + 2 * SHORT else WIDTH
+    cut = ends[-1] if ends and alone else line.rindex(' ', 0, room + 1)
+    if cut < len(lead):
+        return None
     rest = lead + line[cut + 1:]
     return [line[:cut]] + ([f'{rest} {following[len(lead):]}'] if goes_on else [rest, following])
 
@@ -70,18 +75,23 @@ def looseness(before, after):
 
 
 def break_code(line):
-    """An equation after its sign; other code where it binds loosest, each line as full as may be."""
-    more = ' ' * (len(line) - len(line.lstrip()) + 4)
-    depth, ranked = 0, {}
+    """A `let` after its `in`, an equation after its sign; other code where it binds loosest, each line full."""
+    indent = ' ' * (len(line) - len(line.lstrip()))
+    more = indent + ' ' * 4
+    depth, sign, ranked = 0, None, {}
     for place, letter in enumerate(line):
         depth += (letter in OPEN) - (letter in CLOSE)
         if letter == ' ' and line[:place].strip():
             before, after = line[:place].split()[-1], line[place + 1:].split(' ')[0]
+            if depth == 0 and before == 'in' and line.lstrip().startswith('let '):
+                return [line[:place], indent + line[place + 1:]]
             if depth == 0 and before == '=':
-                return [line[:place], more + line[place + 1:]]
+                sign = sign or place
             rank = looseness(before, after)
             if rank is not None:
                 ranked.setdefault((depth, rank), []).append(place)
+    if sign:
+        return [line[:sign], more + line[sign + 1:]]
     for _, places in sorted(ranked.items()):
         # the first and the last piece are long enough to be lines
         places = [place for place in places if len(line[:place].strip()) >= SHORT and len(line) - place > SHORT]
@@ -97,20 +107,20 @@ def break_code(line):
 
 def broken(text):
     """The text with each line broken as often as it takes."""
-    done, lines = [], text.split('\n')
-    while lines:
-        line = lines.pop(0)
-        new = None
+    done, lines = [''], text.split('\n') + ['']
+    while len(lines) > 1:
+        line, following, new = lines[0], lines[1], None
         if width(line) > WIDTH:
             if comment(line):
-                new = break_comment(line, lines.pop(0))
+                new = break_comment(line, done[-1], following)
             elif width(line) == len(line):
                 new = break_import(line) or break_code(line)
+                new = new and new + [following]
         if new:
-            lines[:0] = new
+            lines[:2] = new
         else:
-            done.append(line)
-    return '\n'.join(done)
+            done.append(lines.pop(0))
+    return '\n'.join(done[1:])
 
 
 def wide(root):

@@ -1,6 +1,6 @@
 -- By computation: what is found of each of the paper's known elements, and the two states that the paper names;
--- elements with two faults, of which the lower is named, and 12 last; words of the signal of catalogue 3.0;
--- and which kinds lack DAT.
+-- elements with two faults, of which the lower is named, and 12 last; words of the signal of catalogue 3.0; and which
+-- kinds lack DAT.
 -- Assumes nothing.
 use mathlib.Core.Path.{_≡_, refl}
 use mathlib.Core.Bool.{true, false, cond}

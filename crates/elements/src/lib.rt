@@ -1,6 +1,6 @@
 // The floor of elements: which types are carried, the check of an element, and a state as a number and back. It reads
-// the rows of a kind's layout, or only takes a glance where that is enough, and names no kind
-// but the one it gives where there is none.
+// the rows of a kind's layout, or only takes a glance where that is enough, and names no kind but the one it gives
+// where there is none.
 // It knows no image and writes nothing.
 mod types;
 

@@ -79,8 +79,8 @@ shown-spread (r ∷ rs) fs xs h = at (eqb (r .top) 0) refl fs h (λ gs. shown-sp
     at true e fs h g = rw (e, e) (g fs (rw e at h))
     at false e [] h g = let n : suc (own rs) ≤ 0 = rw e at h in absurd (omega arith)
     at false e (f ∷ fs) h g =
-        let n : suc (own rs) ≤ suc (length fs) =
-        rw e at h in rw (e, e) (ap (λ (vs : List ℕ). f ∷ vs) (g fs (omega arith)))
+        let n : suc (own rs) ≤ suc (length fs) = rw e at h in
+        rw (e, e) (ap (λ (vs : List ℕ). f ∷ vs) (g fs (omega arith)))
 
 -- values that are not refused are values that their rows admit
 named-within : (n i : ℕ) (vs xs : List ℕ) → length vs ≡ n → isAccepted (checkNamed (rowsFrom i n) (vs ++ xs)) ≡ true

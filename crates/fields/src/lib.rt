@@ -1,6 +1,6 @@
 // A state as plain numbers: its kind's number, and the values of its fields that are not reserved, from bit 0 up, then
-// zeros. It is for callers that can't hold a state, such as C.
-// It reads and writes through `panel`, and checks only the numbers itself.
+// zeros. It is for callers that can't hold a state, such as C. It reads and writes through `panel`, and checks only the
+// numbers itself.
 mod by_rows;
 
 use by_rows::check_named;

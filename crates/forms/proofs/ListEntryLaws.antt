@@ -88,8 +88,8 @@ module _ (ns s : List ℕ) (at : ℕ) where
     pub of-object : i < length ns → Numbered.Object i ≡ numbered (readNumber (kindsOf ns) (drop at s))
     unfolding numbered
     of-object h =
-        let e : readNumber (kindsOf ns) (drop at s) ≡ done i =
-        number-here ∙ rw (lt-ltb i (length ns) h) in sym (ap numbered e)
+        let e : readNumber (kindsOf ns) (drop at s) ≡ done i = number-here ∙ rw (lt-ltb i (length ns) h) in
+        sym (ap numbered e)
 
 -- ---- the elements
 

@@ -19,8 +19,8 @@ unfolding answerSlots readSlots labelSlots
 places = search
 
 -- IC 03, AVG 01 00, SIG 00 00 01 D5; a type that is not carried, whatever the length; a length that is not the type's,
--- whatever the bits; a catalogue that is not carried, whatever the type;
--- the same under 3.0, whose signal has EAR in bit 3 and GRP_ARS in bits 30 and 31
+-- whatever the bits; a catalogue that is not carried, whatever the type; the same under 3.0, whose signal has EAR in
+-- bit 3 and GRP_ARS in bits 30 and 31
 pub elements : (elementCall 1 0 2 (0x03 ∷ []) ≡ done 0x03)
     × (elementCall 1 0 22 (0x01 ∷ 0x00 ∷ []) ≡ done 0x0100)
     × (elementCall 1 0 1 (0x00 ∷ 0x00 ∷ 0x01 ∷ 0xD5 ∷ []) ≡ refused (naming 11 65535 4))

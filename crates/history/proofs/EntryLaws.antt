@@ -1,6 +1,6 @@
 -- A table whose entry k is refused with 5, 6 or 7 begins with k legal objects, no two of them the same. 5 is given
--- exactly where an entry follows whose type its catalogue doesn't carry, 7 exactly where one of
--- these objects follows again.
+-- exactly where an entry follows whose type its catalogue doesn't carry, 7 exactly where one of these objects follows
+-- again.
 -- Assumes nothing.
 use Prim.Native.Nat.{ℕ, zero, suc, _+_, _-_, _^_, _≤_, _<_}
 use native.Mathlib.Omega.{arith}

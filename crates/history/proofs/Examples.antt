@@ -1,6 +1,6 @@
 -- The paper's table, images and lists, as bytes. The calls give what it prints; each code is given where it should be
--- and names what it should; of two faults the first is named; the limits of the forms; the trap about joins;
--- and the calls under catalogue 3.0.
+-- and names what it should; of two faults the first is named; the limits of the forms; the trap about joins; and the
+-- calls under catalogue 3.0.
 -- Assumes nothing.
 use Prim.Native.Nat.{ℕ}
 use mathlib.Core.Path.{_≡_, refl}
@@ -462,8 +462,8 @@ unfolding computed
 new-catalogue = search
 
 -- 3: neither 1.0 nor 3.0; 5: types 8, 9, 22 and 23, naming the object; 9: an image or a list of another catalogue; 11:
--- GRP_ARS 3; 10 and 11: bits 31 and 3 of a 3.0 signal, under 1.0; 12: no data, and EAR active; 22, before 12:
--- a signal of one catalogue under the other
+-- GRP_ARS 3; 10 and 11: bits 31 and 3 of a 3.0 signal, under 1.0; 12: no data, and EAR active; 22, before 12: a signal
+-- of one catalogue under the other
 pub new-refusals : (tableCall (set T3 5 2) ≡ refused (naming 3 65535 255))
     × (tableCall (set T3 5 0) ≡ refused (naming 3 65535 255))
     × (tableCall (set T3 6 1) ≡ refused (naming 3 65535 255))

@@ -1,6 +1,6 @@
 -- "Outcomes allowed by one statement are shown equal": what a call ensures is an equation with its definition. For a
--- call that only answers, and for one that also writes (`Leaves` of specs/Verdict).
--- Each floor above shows this for its calls, in its `OneOutcome`.
+-- call that only answers, and for one that also writes (`Leaves` of specs/Verdict). Each floor above shows this for its
+-- calls, in its `OneOutcome`.
 -- Assumes nothing.
 use mathlib.Core.Path.{_≡_, sym, _∙_}
 use Rattle.history.specs.declared.Answer.{Answer}

@@ -1,6 +1,6 @@
 -- The calls, over raw bytes. "Order: table, then the other forms as given, then object number, 22, positions, values
--- (12 of a state handed in, 18, 20), 21 last." (21 is `settled`'s.) T, A, B, L, M are bytes;
--- t, a, b, l, m what they are read as.
+-- (12 of a state handed in, 18, 20), 21 last." (21 is `settled`'s.) T, A, B, L, M are bytes; t, a, b, l, m what they
+-- are read as.
 use Prim.Native.Nat.{ℕ, _+_}
 use mathlib.Core.List.{List}
 use lib.Dec.{ltb}

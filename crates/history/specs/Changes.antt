@@ -1,6 +1,6 @@
 -- "Change list: 4-byte from position, 4-byte to position, 2-byte entry count; per entry a 2-byte object number, the old
--- element, the new element. Numbers ascend strictly; old differs from new." Its bytes, what it
--- may hold, and the four operations.
+-- element, the new element. Numbers ascend strictly; old differs from new." Its bytes, what it may hold, and the four
+-- operations.
 use Prim.Native.Nat.{ℕ, zero, suc, _+_, _-_, _^_, _<_}
 use mathlib.Core.Bool.{not, Bool, true, cond, _&&_}
 use mathlib.Core.List.{List, [], _∷_, _++_, map, zipWith}
@@ -133,8 +133,8 @@ pub record AcceptedList (p : Plan) (L : List ℕ) : Type 0 where
   pub same : L ≡ listBytes p list
 
 -- "Meaning of a list: it applies to an image whose position is its from position and whose named elements are the old
--- ones. The result has the to position and the new elements, all else equal." (Joins and
--- turning back are quoted at their definitions.)
+-- ones. The result has the to position and the new elements, all else equal." (Joins and turning back are quoted at
+-- their definitions.)
 
 -- ---- one object
 

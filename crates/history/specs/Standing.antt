@@ -49,8 +49,7 @@ pub record Received : Type 0 where
 
 unfoldable pub receiveCall : List ℕ → List ℕ → List ℕ → List ℕ → Standing → Received
 receiveCall T A L out s =
-    let o : Outcome =
-    settled (applyCall T A L) out in
+    let o : Outcome = settled (applyCall T A L) out in
     record { answer = o .answer; output = o .output; standing = counted (o .answer .code) s }
 
 -- ---- "While none has reached it, the four sum to the receive calls since fresh."

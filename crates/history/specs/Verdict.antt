@@ -1,6 +1,6 @@
 -- "Every call gives code, object, bit, length. Success: 0, 65535, 255, bytes written (0 where none). Refusal: the code;
--- object and bit as named, else 65535 and 255; length 0 except code 21." "Success writes the front of the output;
--- the rest stays. Refusal writes no output."
+-- object and bit as named, else 65535 and 255; length 0 except code 21." "Success writes the front of the output; the
+-- rest stays. Refusal writes no output."
 use Prim.Native.Nat.{ℕ}
 use mathlib.Core.Bool.{Bool, true, false, cond}
 use mathlib.Core.Path.{_≡_}

@@ -111,8 +111,7 @@ module _ (input buffer : List ℕ) {r : Answer} {m : List ℕ} (left : Leaves (l
 
   pub text-inside : r .length ≤ length m
   text-inside =
-      let w =
-      front input buffer (left .0) (left .1) z in
+      let w = front input buffer (left .0) (left .1) z in
       omega (arith, w .size, ap length (w .output), length-append (w .text) (drop (r .length) buffer))
 
 -- the buffer of zeros is long enough

@@ -157,8 +157,8 @@ module _ {b : List ℕ} {r : Outline} (o : Outlined b r) (z : r .answer .code �
   module _ (a : List ℕ) {c : Answer} (f : c ≡ told (readImage (planAs (r .x) (r .y) numbers) a)) where
     pub image-told : c ≡ told (textOf (readBoth b a))
     image-told =
-        let e : r .count - 0 ≡ r .count =
-        omega arith in f ∙ ap told (image-under b a o z (ap (λ (n : ℕ). take n (r .kinds)) e)) ∙ both-told b a
+        let e : r .count - 0 ≡ r .count = omega arith in
+        f ∙ ap told (image-under b a o z (ap (λ (n : ℕ). take n (r .kinds)) e)) ∙ both-told b a
 
     pub ready : c .code ≡ 0 → Ready b a numbers
     ready e = record { x = r .x; y = r .y; plan = plan-known; image = ap (λ (c : Answer). c .code) (sym f) ∙ e }

@@ -1,6 +1,6 @@
 // The receiver: applies a list, and counts the answer in a standing of four tallies that is lent to the call and
-// updated there. The work is done by value in `received`; `receive` only stores the standing that it gives.
-// It uses changes and keeps nothing itself.
+// updated there. The work is done by value in `received`; `receive` only stores the standing that it gives. It uses
+// changes and keeps nothing itself.
 use history::Answer;
 use history::Standing;
 ghost use mathlib.Core.Path.{_≡_};

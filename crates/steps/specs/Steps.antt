@@ -81,8 +81,8 @@ pub record Silent (i j n : ℕ) (b : List ℕ) : Type 0 where
   pub within : j ≤ n
   pub says : (k w : ℕ) → i ≤ k → k < j → changeAt k w b ≡ keep
 
--- the step where there is nothing to do; and that it is the step at each object from i to below
--- j, where f and s are what remains of the two forms
+-- the step where there is nothing to do; and that it is the step at each object from i to below j, where f and s are
+-- what remains of the two forms
 abbrev pub idle : Step
 idle = record { change = keep; agrees = true; first = 0; second = 0 }
 

@@ -1,7 +1,7 @@
 // One object's part in the four operations on change lists: its change is found and written, and the next object is
 // found. A difference compares the elements of two images; a join, the entries of two lists. Turning back takes the
-// entry of one list; application, an entry and an element. It takes any bytes, refuses nothing
-// and knows no form's head.
+// entry of one list; application, an entry and an element. It takes any bytes, refuses nothing and knows no form's
+// head.
 use forms::kind_at;
 use history::Change;
 ghost use mathlib.Core.Path.{_≡_};

@@ -27,7 +27,8 @@ module _ (l : List ℕ) (i : ℕ) where
       → firstColon l ≡ i + 1 + firstColon (drop (i + 1) l)
   colon-next h n inv =
       let z : firstColon (drop i l) ≡ suc (firstColon (drop (i + 1) l)) =
-      ap firstColon (at-place l i h) ∙ simp (ne-eqb _ _ n) in omega arith
+      ap firstColon (at-place l i h) ∙ simp (ne-eqb _ _ n) in
+      omega arith
 
   pub colon-end : length l ≤ i → firstColon l ≡ i + firstColon (drop i l) → i ≡ firstColon l
   colon-end h inv =

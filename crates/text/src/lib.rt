@@ -1,6 +1,6 @@
 // The floor of text: decimal numbers, upper-case hex and bytes, written into a lent buffer. Each writer takes the
-// buffer and a place in it, and returns the place after what it wrote (`Wrote`).
-// It knows no form and touches nothing but those bytes.
+// buffer and a place in it, and returns the place after what it wrote (`Wrote`). It knows no form and touches nothing
+// but those bytes.
 ghost use mathlib.Core.Path.{_≡_};
 ghost use Prim.Native.Nat.{_+_, _*_, _≤_, _<_};
 ghost use mathlib.Core.List.{[], _∷_};

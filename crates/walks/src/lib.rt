@@ -1,7 +1,7 @@
 // The loops over the objects, for each operation on change lists: from object to object, with a cursor into each of two
 // forms. Loops over lists jump over objects that no list names. A difference and an application require an image's
-// elements to be exactly as long as the objects need; entries may be any bytes.
-// It refuses nothing and knows no form's head; the caller has checked the forms.
+// elements to be exactly as long as the objects need; entries may be any bytes. It refuses nothing and knows no form's
+// head; the caller has checked the forms.
 use steps::Walk;
 ghost use mathlib.Core.Path.{_≡_};
 ghost use Prim.Native.Nat.{_≤_};

@@ -1,7 +1,7 @@
 -- `view::label` meets its contract: a walk of its MIR, by hand.
 -- The view is taken apart, and `label_part` is called on the slice and the number;
--- the part that it returns is returned as it is, at the same place.
--- All that the proof knows of `label_part` is that it meets its contract.
+-- the part that it returns is returned as it is, at the same place. All that the proof knows of `label_part` is that it
+-- meets its contract.
 -- The struct is Copy, so what it owns can be had twice. One copy is kept whole for the exit.
 -- From the other, what table owns goes to the callee, with the lifetime's token, which comes back.
 -- Assumes nothing.

@@ -1,5 +1,5 @@
--- `walks::put_difference` meets its contract: the entries written and those that the walk still
--- gives make up the whole; the measure is the objects left.
+-- `walks::put_difference` meets its contract: the entries written and those that the walk still gives make up the
+-- whole; the measure is the objects left.
 -- Assumes nothing.
 use Prim.Native.Nat.{_-_}
 use lib.ListN.{length}

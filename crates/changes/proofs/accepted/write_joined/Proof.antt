@@ -1,5 +1,5 @@
--- `changes::accepted::write_joined` meets its contract: the positions, then the lowest object
--- on which the lists do not agree, else the list is written.
+-- `changes::accepted::write_joined` meets its contract: the positions, then the lowest object on which the lists do not
+-- agree, else the list is written.
 -- Assumes nothing.
 use borrow.Author.Needs.{needs}
 use Rattle.history.proofs.OutputLaws.{leaves-as, refused-leaves}

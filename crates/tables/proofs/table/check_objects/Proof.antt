@@ -1,6 +1,6 @@
 -- `tables::table::check_objects` meets its contract. The invariants: the verdict for the whole is that for what is
--- left, and the entries passed are chained by their hashes; no earlier entry searched so far is the same;
--- the label bytes compared so far are, from the last down.
+-- left, and the entries passed are chained by their hashes; no earlier entry searched so far is the same; the label
+-- bytes compared so far are, from the last down.
 -- Assumes nothing.
 use Prim.Native.Nat.{_+_, _-_, _≤_, _<_}
 use native.Mathlib.Omega.{arith}
