@@ -1,5 +1,5 @@
-/* The difference of two images taken, applied and received, and a state read from the result.
-   Table and images are the paper's. */
+/* The difference of two images taken, applied and received, a state read from the result, and the result listed.
+   The table and the images A and B are those of README.md, under "A join". */
 #include "shefumbari.h"
 
 #include <inttypes.h>

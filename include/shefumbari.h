@@ -1,13 +1,14 @@
-/* Shefumbari: tables, images and change lists of an interlocking's indications, under catalogue 1.0 (types 1 to 9, 22 and
-   23) or 3.0 (types 1 to 7) of NAS 831.
+/* Shefumbari: tables, images and change lists of an interlocking's indications, under catalogue 1.0 (types 1 to 9, 22
+   and 23) or 3.0 (types 1 to 7) of NAS 831.
 
    Every call fills answer with eight numbers: code, object, bit, length, a place kept for later (0), and three that are
-   0 unless the call says otherwise. Success is 0, 65535, 255 and the number of bytes written. A refusal is a code from 1
-   to 22, the object and bit it names (65535 and 255 if it names none), and length 0; 21 (output too short) gives the
+   0 unless the call says otherwise. Success is 0, 65535, 255 and the number of bytes written. A refusal is a code from
+   1 to 22, the object and bit it names (65535 and 255 if it names none), and length 0; 21 (output too short) gives the
    length needed.
 
    Success writes the front of out and leaves the rest; a refusal writes nothing but answer and a tally. No call keeps
-   a pointer or changes an input. Buffers lent to one call must not overlap, and no pointer may be null, even if its length is 0. */
+   a pointer or changes an input. Buffers lent to one call must not overlap, and no pointer may be null, even if its
+   length is 0. */
 #ifndef SHEFUMBARI_H
 #define SHEFUMBARI_H
 
@@ -34,9 +35,9 @@ void shefumbari_check_image(const uint8_t *table, size_t table_len, const uint8_
 void shefumbari_check_list(const uint8_t *table, size_t table_len, const uint8_t *list, size_t list_len,
                            uint32_t answer[8]);
 
-/* Reads an object's state: answer[5] is its kind (the type, except 31 for type 1 under catalogue 3.0), and fields are the
-   values of its fields that aren't reserved, from bit 0 up, then zeros. If refused, the kind is 0 and fields stays as it
-   was. */
+/* Reads an object's state: answer[5] is its kind (the type, except 31 for type 1 under catalogue 3.0), and fields are
+   the values of its fields that aren't reserved, from bit 0 up, then zeros. If refused, the kind is 0 and fields stays
+   as it was. */
 void shefumbari_read_state(const uint8_t *table, size_t table_len, const uint8_t *image, size_t image_len,
                            uint16_t object, uint32_t fields[32], uint32_t answer[8]);
 
@@ -62,7 +63,7 @@ void shefumbari_apply(const uint8_t *table, size_t table_len, const uint8_t *ima
 void shefumbari_join(const uint8_t *table, size_t table_len, const uint8_t *first, size_t first_len,
                      const uint8_t *second, size_t second_len, uint8_t *out, size_t out_len, uint32_t answer[8]);
 
-/* Writes to out the list that leads back: positions swapped, old with new. */
+/* Writes to out the list that leads back: its positions are swapped, and each old element with the new one. */
 void shefumbari_turn_back(const uint8_t *table, size_t table_len, const uint8_t *list, size_t list_len, uint8_t *out,
                           size_t out_len, uint32_t answer[8]);
 
