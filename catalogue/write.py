@@ -579,7 +579,7 @@ ghost use lib.Dec.{{T}};
 ghost use lib.ListN.{{length}};
 ghost use Rattle.rows.specs.Values.{{padded}};
 ghost use Rattle.rows.specs.Marks.{{marked, Shows}};
-ghost use Rattle.kinds.specs.Kinds.{{layoutOf, widthOf, rowsOf, findNumbered, kindIn, elementOf, elementValues}};
+ghost use Rattle.kinds.specs.Kinds.{{layoutOf, widthOf, rowsOf, findByNumber, kindIn, elementOf, elementValues}};
 ghost use Rattle.kinds.specs.Glances.{{Glanced}};
 
 // The kinds of element that are carried.
@@ -644,8 +644,8 @@ fn glance_by(s: &[u8], at: usize, kind: Kind, width: usize) -> Glance
 }
 
 // The kind whose layout has this number, if there is one.
-pub fn find_numbered(number: u8) -> OptionalKind
-    ensures { λ r. ⌜ r ≡ findNumbered number ⌝ }
+pub fn find_by_number(number: u8) -> OptionalKind
+    ensures { λ r. ⌜ r ≡ findByNumber number ⌝ }
 {
     match number {
 ''' + ''.join(f'        {l.number} => return OptionalKind::Some(Kind::{l.struct}),\n' for l in LAYOUTS) + '''        _ => return OptionalKind::None,
@@ -706,24 +706,24 @@ abbrev pub rowsOf : Kind → List Row
 rowsOf k = layoutRows (layoutOf k)
 
 -- a number, and the kind that it stands for
-pub record Line : Type 0 where
+pub record KindLine : Type 0 where
   pub number : ℕ
   pub kind : Kind
 
-abbrev pub line : ℕ → Kind → Line
-line number kind = record {{ number = number; kind = kind }}
+abbrev pub kindLine : ℕ → Kind → KindLine
+kindLine number kind = record {{ number = number; kind = kind }}
 
 -- the kind that a number stands for, by the first line that has it
-abbrev pub findIn : ℕ → List Line → OptionalKind
+abbrev pub findIn : ℕ → List KindLine → OptionalKind
 findIn n [] = OptionalKind.None
 findIn n (l ∷ ls) = cond (eqb n (l .number)) (OptionalKind.Some (l .kind)) (findIn n ls)
 
 -- a line for each kind, with the number of its layout
-abbrev pub numbered : List Line
-numbered = map (λ (k : Kind). line (layoutNo k) k) kinds
+abbrev pub kindLines : List KindLine
+kindLines = map (λ (k : Kind). kindLine (layoutNo k) k) kinds
 
-abbrev pub findNumbered : ℕ → OptionalKind
-findNumbered n = findIn n numbered
+abbrev pub findByNumber : ℕ → OptionalKind
+findByNumber n = findIn n kindLines
 
 abbrev pub elementOf : Kind → List ℕ → Element
 {''.join(f"elementOf Kind.{l.struct} vs = Element.{l.struct} ({l.key}Of vs){chr(10)}" for l in LAYOUTS)}
@@ -765,23 +765,23 @@ use native.Mathlib.Omega.{arith}
 use lib.Dec.{T, eqb}
 use borrow.Author.Tests.{ne-eqb, eqb-true}
 use Rattle.rows.proofs.Tests.{both-left, both-right}
-use Rattle.kinds.specs.Kinds.{Line, findIn}
+use Rattle.kinds.specs.Kinds.{KindLine, findIn}
 use Rattle.kinds.specs.declared.Kind.{Kind}
 use Rattle.kinds.specs.declared.OptionalKind.{OptionalKind}
 
-abbrev pub Apart : ℕ → List Line → Type 0
+abbrev pub Apart : ℕ → List KindLine → Type 0
 Apart n [] = Unit
 Apart n (l ∷ ls) = (n ≡ l .number → ⊥) × Apart n ls
 
-pub vain : (n : ℕ) (ls : List Line) → Apart n ls → OptionalKind.None ≡ findIn n ls
-vain n [] a = refl
-vain n (l ∷ ls) a = vain n ls (a .1) ∙ sym (ap (λ (b : Bool). cond b (OptionalKind.Some (l .kind)) (findIn n ls)) (ne-eqb n (l .number) (a .0)))
+pub not-found : (n : ℕ) (ls : List KindLine) → Apart n ls → OptionalKind.None ≡ findIn n ls
+not-found n [] a = refl
+not-found n (l ∷ ls) a = not-found n ls (a .1) ∙ sym (ap (λ (b : Bool). cond b (OptionalKind.Some (l .kind)) (findIn n ls)) (ne-eqb n (l .number) (a .0)))
 
-abbrev pub allLines : (ℕ → Kind → Bool) → List Line → Bool
+abbrev pub allLines : (ℕ → Kind → Bool) → List KindLine → Bool
 allLines test [] = true
 allLines test (l ∷ ls) = test (l .number) (l .kind) && allLines test ls
 
-pub every-line : (test : ℕ → Kind → Bool) (n : ℕ) (ls : List Line) → T (allLines test ls) → {k : Kind} → findIn n ls ≡ OptionalKind.Some k → T (test n k)
+pub every-line : (test : ℕ → Kind → Bool) (n : ℕ) (ls : List KindLine) → T (allLines test ls) → {k : Kind} → findIn n ls ≡ OptionalKind.Some k → T (test n k)
 every-line test n [] t e = absurd (let z : _≡_ {A = ℕ} 0 1 = cc in omega arith)
 every-line test n (l ∷ ls) t {k} e = at (eqb n (l .number)) refl (every-line test n ls (both-right (test (l .number) (l .kind)) (allLines test ls) t)) e
   where
@@ -808,7 +808,7 @@ use Rattle.rows.specs.Values.{padded, valuesOf}
 use Rattle.rows.proofs.Listed.{listedFrom}
 '''
     text += f'use Rattle.states.proofs.StateLaws.{{{names(l.key + x for l in LAYOUTS for x in ("-listed", "-back"))}}}\n'
-    text += f'''use Rattle.kinds.specs.Kinds.{{kinds, place, layoutNo, rowsOf, findNumbered, elementOf, elementValues, kindIn}}
+    text += f'''use Rattle.kinds.specs.Kinds.{{kinds, place, layoutNo, rowsOf, findByNumber, elementOf, elementValues, kindIn}}
 use Rattle.kinds.specs.declared.Kind.{{Kind}}
 use Rattle.kinds.specs.declared.Element.{{Element}}
 use Rattle.kinds.specs.declared.OptionalKind.{{OptionalKind}}
@@ -819,7 +819,7 @@ pub every-kind : {{A : Type 0}} (f g : Kind → A) → map f kinds ≡ map g kin
 pub placed : (k : Kind) → place k < length layouts
 unfolding layouts
 {''.join(f"placed Kind.{s} = lit< tt{chr(10)}" for s in STRUCTS)}
-pub kind-found : (k : Kind) → findNumbered (layoutNo k) ≡ OptionalKind.Some k
+pub kind-found : (k : Kind) → findByNumber (layoutNo k) ≡ OptionalKind.Some k
 unfolding layouts
 {''.join(f"kind-found Kind.{s} = refl{chr(10)}" for s in STRUCTS)}
 pub element-listed : (k : Kind) (vs : List ℕ) → elementValues (elementOf k vs) ≡ listedFrom 0 (rowsOf k) vs
@@ -868,16 +868,16 @@ use mathlib.Core.Path.{{sym, ap}}
 use Prim.Native.Nat.{{ℕ}}
 {uses}{ties(crate, fn)}
 other : tie.Need-{returns(n + 1)}
-{opened}other c = vain (c .before .args .{number}) {lines} {refuted(n)}
+{opened}other c = not-found (c .before .args .{number}) {lines} {refuted(n)}
 
 {spec_end(name, answers + ['other']).replace('statement M' + chr(10), 'statement M' + chr(10) + opened)}'''
 
 
-def find_numbered_proof():
+def find_by_number_proof():
     return lookup_proof(
-        'kinds', 'find_numbered', "a number that no layout has finds no kind",
-        'use Rattle.rows.specs.Rows.{layouts}\nuse Rattle.kinds.specs.Kinds.{findIn, numbered}\nuse Rattle.kinds.proofs.Lookup.{vain}\n',
-        'numbered', len(LAYOUTS), 'layouts', 'number')
+        'kinds', 'find_by_number', "a number that no layout has finds no kind",
+        'use Rattle.rows.specs.Rows.{layouts}\nuse Rattle.kinds.specs.Kinds.{findIn, kindLines}\nuse Rattle.kinds.proofs.Lookup.{not-found}\n',
+        'kindLines', len(LAYOUTS), 'layouts', 'number')
 
 
 def per_kind_proof(fn, uses, answer):
@@ -979,11 +979,11 @@ use kinds::Kind;
 use kinds::OptionalKind;
 ghost use mathlib.Core.Path.{{_≡_}};
 ghost use Rattle.kinds.specs.Kinds.{{findIn}};
-ghost use Rattle.elements.specs.Types.{{{names([f"typesUnder{x}" for x in CATALOGUES] + ["findType"])}}};
+ghost use Rattle.elements.specs.Types.{{{names([f"typesUnder{x}" for x in CATALOGUES] + ["findByType"])}}};
 
 // The kind of a type under a catalogue's X, if it is carried.
-pub fn find_type(x: u8, ty: u8) -> OptionalKind
-    ensures {{ λ r. ⌜ r ≡ findType x ty ⌝ }}
+pub fn find_by_type(x: u8, ty: u8) -> OptionalKind
+    ensures {{ λ r. ⌜ r ≡ findByType x ty ⌝ }}
 {{
     match x {{
 {''.join(f"        {x} => return under_{x}(ty),{chr(10)}" for x in CATALOGUES)}        _ => return OptionalKind::None,
@@ -1010,20 +1010,20 @@ use mathlib.Core.Bool.{cond}
 use mathlib.Core.List.{List, [], _∷_}
 use Prim.Native.Nat.{ℕ}
 use lib.Dec.{eqb}
-use Rattle.kinds.specs.Kinds.{Line, line, findIn}
+use Rattle.kinds.specs.Kinds.{KindLine, kindLine, findIn}
 use Rattle.kinds.specs.declared.Kind.{Kind}
 use Rattle.kinds.specs.declared.OptionalKind.{OptionalKind}
 '''
     for x, types in CATALOGUES.items():
-        text += f'\n-- the types carried under X = {x}, each with its kind\nabbrev pub typesUnder{x} : List Line\ntypesUnder{x} =\n'
-        text += ''.join(f'    line {t} Kind.{l.struct} ∷\n' for t, l in types.items()) + '    []\n'
+        text += f'\n-- the types carried under X = {x}, each with its kind\nabbrev pub typesUnder{x} : List KindLine\ntypesUnder{x} =\n'
+        text += ''.join(f'    kindLine {t} Kind.{l.struct} ∷\n' for t, l in types.items()) + '    []\n'
     text += f'''
 -- a catalogue: its X and the types carried under it
 pub record Catalogue : Type 0 where
   pub x : ℕ
-  pub types : List Line
+  pub types : List KindLine
 
-abbrev catalogue : ℕ → List Line → Catalogue
+abbrev catalogue : ℕ → List KindLine → Catalogue
 catalogue x types = record {{ x = x; types = types }}
 
 abbrev pub catalogues : List Catalogue
@@ -1034,8 +1034,8 @@ abbrev pub findUnder : ℕ → ℕ → List Catalogue → OptionalKind
 findUnder x type [] = OptionalKind.None
 findUnder x type (c ∷ cs) = cond (eqb x (c .x)) (findIn type (c .types)) (findUnder x type cs)
 
-abbrev pub findType : ℕ → ℕ → OptionalKind
-findType x type = findUnder x type catalogues
+abbrev pub findByType : ℕ → ℕ → OptionalKind
+findByType x type = findUnder x type catalogues
 '''
     return text
 
@@ -1043,24 +1043,24 @@ findType x type = findUnder x type catalogues
 def under_proof(x):
     return lookup_proof(
         'elements', f'types.under_{x}', 'a type that is not carried finds no kind',
-        f'use Rattle.kinds.specs.Kinds.{{findIn}}\nuse Rattle.kinds.proofs.Lookup.{{vain}}\nuse Rattle.elements.specs.Types.{{typesUnder{x}}}\n',
+        f'use Rattle.kinds.specs.Kinds.{{findIn}}\nuse Rattle.kinds.proofs.Lookup.{{not-found}}\nuse Rattle.elements.specs.Types.{{typesUnder{x}}}\n',
         f'typesUnder{x}', len(CATALOGUES[x]), '', 'ty')
 
 
-def find_type_proof():
+def find_by_type_proof():
     n = len(CATALOGUES)
-    text = f'''-- `elements::types::find_type` meets its contract: each catalogue by its own function, and an X that no catalogue has finds no kind.
+    text = f'''-- `elements::types::find_by_type` meets its contract: each catalogue by its own function, and an X that no catalogue has finds no kind.
 -- Written by catalogue/write.py. Assumes nothing.
 use mathlib.Core.Path.{{_∙_, sym, ap}}
 use Prim.Native.Nat.{{ℕ}}
-use Rattle.elements.specs.Types.{{catalogues, findType}}
+use Rattle.elements.specs.Types.{{catalogues, findByType}}
 use Rattle.elements.proofs.TypeLaws.{{not-carried}}
-{ties('elements', 'types.find_type')}'''
+{ties('elements', 'types.find_by_type')}'''
     for i, x in enumerate(CATALOGUES, 1):
         text += (f'\n{returns(i)} : tie.Need-{returns(i)}\n'
-                 f'{returns(i)} c = c .under-{x} .ensures ∙ sym (ap (λ (x : ℕ). findType x (c .before .before .args .ty)) (c .before .match .keys{i}))\n')
+                 f'{returns(i)} c = c .under-{x} .ensures ∙ sym (ap (λ (x : ℕ). findByType x (c .before .before .args .ty)) (c .before .match .keys{i}))\n')
     text += f'\nother : tie.Need-{returns(n + 1)}\nother c = not-carried (c .before .args .x) (c .before .args .ty) catalogues {refuted(n)}\n\n'
-    return text + spec_end('find-type', each([CALL] * n, [returns(i) for i in range(1, n + 1)]) + ['other'])
+    return text + spec_end('find-by-type', each([CALL] * n, [returns(i) for i in range(1, n + 1)]) + ['other'])
 
 
 # ---- files
@@ -1093,7 +1093,7 @@ def files():
         'kinds/proofs/shows_listed/Proof.antt': shows_listed_proof(),
         'kinds/proofs/glance_at/Proof.antt': glance_at_proof(),
         'kinds/proofs/glance_by/Proof.antt': glance_by_proof(),
-        'kinds/proofs/find_numbered/Proof.antt': find_numbered_proof(),
+        'kinds/proofs/find_by_number/Proof.antt': find_by_number_proof(),
         'kinds/proofs/element_of/Proof.antt': per_kind_proof(
             'element_of',
             'use Rattle.kinds.specs.Kinds.{elementOf}\nuse Rattle.kinds.specs.declared.Kind.{Kind}\n', element_of_answer),
@@ -1102,7 +1102,7 @@ def files():
             'use Rattle.rows.specs.Values.{padded}\nuse Rattle.kinds.specs.Kinds.{elementValues}\n', values_of_answer),
         'elements/src/types.rt': types_source(),
         'elements/specs/Types.antt': types_specs(),
-        'elements/proofs/types/find_type/Proof.antt': find_type_proof(),
+        'elements/proofs/types/find_by_type/Proof.antt': find_by_type_proof(),
     }
     out['states/proofs/bits_of/Proof.antt'] = bits_of_proof()
     for e in ENUMS:

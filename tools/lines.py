@@ -4,7 +4,7 @@
     tools/lines.py            break what is wider, and lay the files out by rt fmt
     tools/lines.py --check    say which lines are wider (exit status 1), and write nothing
 
-A comment at the end of a line of code doesn't count: it may quote the annex.
+A comment at the end of a line of code doesn't count: it may quote the annex. A line with a string is left as it is.
 """
 import os
 import re
@@ -26,12 +26,13 @@ HOLDS += sum(BEFORE, [])
 
 def comment(line):
     """What a line begins with if it is a comment."""
-    found = re.match(r'\s*(//|--) ', line)
+    found = re.match(r'\s*(//[/!]?|--) ', line)
     return found and found.group()
 
 
 def width(line):
-    return len(line) if comment(line) else len(re.sub(r'\s+(//|--) .*$', '', line))
+    found = re.search(r'\s+(//|--) ', line)
+    return found.start() if found and not comment(line) and '"' not in line[:found.start()] else len(line)
 
 
 def break_comment(line, before, following):
@@ -39,7 +40,7 @@ def break_comment(line, before, following):
 
     A comment that is one line is broken after a sentence or a clause if it has one, or else not just before its end."""
     lead = comment(line)
-    goes_on = comment(following) == lead and not following.startswith(lead + '--') and line[-1] != '.'
+    goes_on = comment(following) == lead and line[-1] != '.' and not re.match(r'-|\s|\d+\. ', following[len(lead):])
     alone = not goes_on and (comment(before) != lead or before[-1] == '.')
     ends = [found.end() - 1 for found in re.finditer('[.;:] ', line) if WIDTH // 2 < found.end() <= WIDTH]
     room = WIDTH - 2 * SHORT if alone and len(line) < WIDTH + 2 * SHORT else WIDTH
@@ -58,10 +59,10 @@ def break_import(line):
     lead, names, end = found.groups()
     lines = [[]]
     for name in names.split(', '):
-        if len(lead + ', '.join(lines[-1] + [name]) + end) > WIDTH:
+        if lines[-1] and len(lead + ', '.join(lines[-1] + [name]) + end) > WIDTH:
             lines.append([])
         lines[-1].append(name)
-    return [lead + ', '.join(some) + end for some in lines]
+    return [lead + ', '.join(some) + end for some in lines] if len(lines) > 1 else None
 
 
 def looseness(before, after):
@@ -113,7 +114,7 @@ def broken(text):
         if width(line) > WIDTH:
             if comment(line):
                 new = break_comment(line, done[-1], following)
-            elif width(line) == len(line):
+            elif width(line) == len(line) and '"' not in line:
                 new = break_import(line) or break_code(line)
                 new = new and new + [following]
         if new:
@@ -158,7 +159,7 @@ def main():
         for path, number, size in found:
             print(f'{os.path.relpath(path, ROOT)}:{number}: {size} characters')
         if found:
-            sys.exit('lines: tools/lines.py breaks those above')
+            sys.exit('lines: those above are wider than 120 characters; tools/lines.py breaks what it can')
         print('lines: none is wider than 120 characters')
     elif sys.argv[1:]:
         sys.exit(__doc__)

@@ -17,11 +17,11 @@ use Rattle.states.proofs.Annex.{points-track-circuit-bits, crossingTrackCircuit
 use Rattle.states.proofs.Annex.{dualDetectionIn, dual-detection-bits, pointsIn, points-bits, electricLockIn}
 use Rattle.states.proofs.Annex.{electric-lock-bits, generalNoticesIn, general-notices-bits, controlBoundaryIn}
 use Rattle.states.proofs.Annex.{control-boundary-bits, signalV3In, signal-v3-bits}
-use Rattle.kinds.specs.Kinds.{Line, findIn, kindIn, kinds, layoutNo, rowsOf}
+use Rattle.kinds.specs.Kinds.{KindLine, findIn, kindIn, kinds, layoutNo, rowsOf}
 use Rattle.kinds.specs.declared.Kind.{Kind}
 use Rattle.kinds.specs.declared.Element.{Element}
 use Rattle.kinds.specs.declared.OptionalKind.{OptionalKind}
-use Rattle.elements.specs.Types.{Catalogue, catalogues, findUnder, findType}
+use Rattle.elements.specs.Types.{Catalogue, catalogues, findUnder, findByType}
 use Rattle.elements.specs.Elements.{isCarried, carried, kindOf, sameKind, stateOf}
 use Rattle.elements.proofs.TypeLaws.{allTypes, every-carried}
 
@@ -36,8 +36,8 @@ abbrev pub carriedBy : List (ℕ × List ℕ) → ℕ → ℕ → Bool
 carriedBy [] x type = false
 carriedBy (c ∷ cs) x type = cond (eqb x (c .0)) (oneOf (c .1) type) (carriedBy cs x type)
 
-abbrev numbers : List Line → List ℕ
-numbers ls = map (λ (l : Line). l .number) ls
+abbrev numbers : List KindLine → List ℕ
+numbers ls = map (λ (l : KindLine). l .number) ls
 
 abbrev numbersIn : List Catalogue → List (ℕ × List ℕ)
 numbersIn cs = map (λ (c : Catalogue). (c .x, numbers (c .types))) cs
@@ -47,7 +47,7 @@ either : (b : Bool) (s t : OptionalKind) {p q : Bool} → isCarried s ≡ p → 
 either true s t e f = e
 either false s t e f = f
 
-carried-in : (type : ℕ) (ls : List Line) → isCarried (findIn type ls) ≡ oneOf (numbers ls) type
+carried-in : (type : ℕ) (ls : List KindLine) → isCarried (findIn type ls) ≡ oneOf (numbers ls) type
 carried-in type [] = refl
 carried-in type (l ∷ ls) =
     either (eqb type (l .number)) (OptionalKind.Some (l .kind)) (findIn type ls) refl (carried-in type ls)
@@ -69,7 +69,7 @@ carried-exactly x type = carried-under x type catalogues
 
 -- under X the type is carried as the state's kind, and the word is read as the state
 abbrev pub Reads : ℕ → ℕ → ℕ → Element → Type 0
-Reads x type w e = (findType x type ≡ OptionalKind.Some (kindIn e)) × (stateOf (kindIn e) w ≡ e)
+Reads x type w e = (findByType x type ≡ OptionalKind.Some (kindIn e)) × (stateOf (kindIn e) w ≡ e)
 
 pub by-type : (w : ℕ) →
     Reads 1 1 w (Element.Signal (signalIn w))  -- 1 Señal luminosa SIG

@@ -17,7 +17,7 @@ use Rattle.cases.specs.declared.MixedGaugeIndication.{MixedGaugeIndication}
 use Rattle.cases.specs.declared.AutoRouteIndication.{AutoRouteIndication}
 use Rattle.states.specs.declared.signal.Signal.{Signal}
 use Rattle.elements.specs.Elements.{kindOf, datRule, elementCheck, stateOf}
-use Rattle.elements.specs.Known.{known, found, said, wide, printed}
+use Rattle.elements.specs.Known.{known, findings, said, wide, printedWidths}
 use Rattle.kinds.specs.declared.Kind.{Kind}
 use Rattle.kinds.specs.declared.Element.{Element}
 
@@ -51,8 +51,8 @@ green =
     }
 
 -- IC (type 2) 03 is fixed T, SIG (type 1) 00 00 01 B5 is green
-pub all-known : (found known ≡ said known)
-    × (wide known ≡ printed known)
+pub all-known : (findings known ≡ said known)
+    × (wide known ≡ printedWidths known)
     × (stateOf (kindOf 1 2) (number (0x03 ∷ []))
     ≡ Element.ChangerSignal (record { current = true; aspect = ChangerAspect.FixedT }))
     × (stateOf (kindOf 1 1) (number (0x00 ∷ 0x00 ∷ 0x01 ∷ 0xB5 ∷ [])) ≡ Element.Signal green)

@@ -13,7 +13,7 @@ use Rattle.kinds.specs.Kinds.{findIn}
 use Rattle.kinds.specs.declared.Kind.{Kind}
 use Rattle.kinds.specs.declared.OptionalKind.{OptionalKind}
 use Rattle.kinds.proofs.Lookup.{allLines, every-line}
-use Rattle.elements.specs.Types.{Catalogue, catalogues, findUnder, findType}
+use Rattle.elements.specs.Types.{Catalogue, catalogues, findUnder, findByType}
 use Rattle.elements.specs.Elements.{isCarried, carriedKind, carried, kindOf}
 
 abbrev pub Unknown : ℕ → List Catalogue → Type 0
@@ -54,4 +54,4 @@ its-kind OptionalKind.None e = absurd (let z : _≡_ {A = ℕ} 0 1 = cc in omega
 pub every-carried : (test : ℕ → ℕ → Kind → Bool) → T (allTypes test catalogues) → (x type : ℕ) → carried x type ≡ true
     → T (test x type (kindOf x type))
 unfolding carried kindOf
-every-carried test t x type e = every-found test catalogues t x type (its-kind (findType x type) e)
+every-carried test t x type e = every-found test catalogues t x type (its-kind (findByType x type) e)

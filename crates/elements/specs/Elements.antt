@@ -4,11 +4,11 @@ use Prim.Native.Nat.{ℕ, _%_}
 use lib.Dec.{eqb}
 use Rattle.rows.specs.Values.{codeAt, checkRows, valuesOf, composeOf, padded, onFinding, valuesRead}
 use Rattle.rows.specs.declared.Finding.{Finding}
-use Rattle.kinds.specs.Kinds.{layoutOf, layoutNo, rowsOf, findNumbered, elementOf, elementValues, kindIn}
+use Rattle.kinds.specs.Kinds.{layoutOf, layoutNo, rowsOf, findByNumber, elementOf, elementValues, kindIn}
 use Rattle.kinds.specs.declared.Kind.{Kind}
 use Rattle.kinds.specs.declared.Element.{Element}
 use Rattle.kinds.specs.declared.OptionalKind.{OptionalKind}
-use Rattle.elements.specs.Types.{findType}
+use Rattle.elements.specs.Types.{findByType}
 
 -- ---- what is carried
 
@@ -23,14 +23,14 @@ carriedKind OptionalKind.None = Kind.Signal
 
 -- whether a type is carried under a catalogue's X, and its kind
 unfoldable pub carried : ℕ → ℕ → Bool
-carried x type = isCarried (findType x type)
+carried x type = isCarried (findByType x type)
 
 unfoldable pub kindOf : ℕ → ℕ → Kind
-kindOf x type = carriedKind (findType x type)
+kindOf x type = carriedKind (findByType x type)
 
 -- the kind whose layout has a number
 unfoldable pub kindNumbered : ℕ → Kind
-kindNumbered n = carriedKind (findNumbered n)
+kindNumbered n = carriedKind (findByNumber n)
 
 abbrev pub sameKind : Kind → Kind → Bool
 sameKind j k = eqb (layoutNo j) (layoutNo k)

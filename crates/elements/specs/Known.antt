@@ -43,8 +43,8 @@ abbrev pub kindIs : Known → Kind
 kindIs e = kindOf 1 (e .type)
 
 -- what the element check finds of each, and what the paper says
-abbrev pub found : List Known → List Finding
-found = map (λ (e : Known). elementCheck (kindIs e) (number (e .element)))
+abbrev pub findings : List Known → List Finding
+findings = map (λ (e : Known). elementCheck (kindIs e) (number (e .element)))
 
 abbrev pub said : List Known → List Finding
 said = map (λ (e : Known). e .finding)
@@ -53,5 +53,5 @@ said = map (λ (e : Known). e .finding)
 abbrev pub wide : List Known → List ℕ
 wide = map (λ (e : Known). widthOf (kindIs e))
 
-abbrev pub printed : List Known → List ℕ
-printed = map (λ (e : Known). length (e .element))
+abbrev pub printedWidths : List Known → List ℕ
+printedWidths = map (λ (e : Known). length (e .element))

@@ -4,44 +4,44 @@ use mathlib.Core.Bool.{cond}
 use mathlib.Core.List.{List, [], _∷_}
 use Prim.Native.Nat.{ℕ}
 use lib.Dec.{eqb}
-use Rattle.kinds.specs.Kinds.{Line, line, findIn}
+use Rattle.kinds.specs.Kinds.{KindLine, kindLine, findIn}
 use Rattle.kinds.specs.declared.Kind.{Kind}
 use Rattle.kinds.specs.declared.OptionalKind.{OptionalKind}
 
 -- the types carried under X = 1, each with its kind
-abbrev pub typesUnder1 : List Line
+abbrev pub typesUnder1 : List KindLine
 typesUnder1 =
-    line 1 Kind.Signal ∷
-    line 2 Kind.ChangerSignal ∷
-    line 3 Kind.VirtualBoard ∷
-    line 4 Kind.LineTrackCircuit ∷
-    line 5 Kind.PointsTrackCircuit ∷
-    line 6 Kind.CrossingTrackCircuit ∷
-    line 7 Kind.DualDetection ∷
-    line 8 Kind.Points ∷
-    line 9 Kind.ElectricLock ∷
-    line 22 Kind.GeneralNotices ∷
-    line 23 Kind.ControlBoundary ∷
+    kindLine 1 Kind.Signal ∷
+    kindLine 2 Kind.ChangerSignal ∷
+    kindLine 3 Kind.VirtualBoard ∷
+    kindLine 4 Kind.LineTrackCircuit ∷
+    kindLine 5 Kind.PointsTrackCircuit ∷
+    kindLine 6 Kind.CrossingTrackCircuit ∷
+    kindLine 7 Kind.DualDetection ∷
+    kindLine 8 Kind.Points ∷
+    kindLine 9 Kind.ElectricLock ∷
+    kindLine 22 Kind.GeneralNotices ∷
+    kindLine 23 Kind.ControlBoundary ∷
     []
 
 -- the types carried under X = 3, each with its kind
-abbrev pub typesUnder3 : List Line
+abbrev pub typesUnder3 : List KindLine
 typesUnder3 =
-    line 1 Kind.SignalV3 ∷
-    line 2 Kind.ChangerSignal ∷
-    line 3 Kind.VirtualBoard ∷
-    line 4 Kind.LineTrackCircuit ∷
-    line 5 Kind.PointsTrackCircuit ∷
-    line 6 Kind.CrossingTrackCircuit ∷
-    line 7 Kind.DualDetection ∷
+    kindLine 1 Kind.SignalV3 ∷
+    kindLine 2 Kind.ChangerSignal ∷
+    kindLine 3 Kind.VirtualBoard ∷
+    kindLine 4 Kind.LineTrackCircuit ∷
+    kindLine 5 Kind.PointsTrackCircuit ∷
+    kindLine 6 Kind.CrossingTrackCircuit ∷
+    kindLine 7 Kind.DualDetection ∷
     []
 
 -- a catalogue: its X and the types carried under it
 pub record Catalogue : Type 0 where
   pub x : ℕ
-  pub types : List Line
+  pub types : List KindLine
 
-abbrev catalogue : ℕ → List Line → Catalogue
+abbrev catalogue : ℕ → List KindLine → Catalogue
 catalogue x types = record { x = x; types = types }
 
 abbrev pub catalogues : List Catalogue
@@ -52,5 +52,5 @@ abbrev pub findUnder : ℕ → ℕ → List Catalogue → OptionalKind
 findUnder x type [] = OptionalKind.None
 findUnder x type (c ∷ cs) = cond (eqb x (c .x)) (findIn type (c .types)) (findUnder x type cs)
 
-abbrev pub findType : ℕ → ℕ → OptionalKind
-findType x type = findUnder x type catalogues
+abbrev pub findByType : ℕ → ℕ → OptionalKind
+findByType x type = findUnder x type catalogues

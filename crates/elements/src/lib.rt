@@ -9,7 +9,7 @@ use kinds::Kind;
 use kinds::OptionalKind;
 use rows::Finding;
 use rows::Refusal;
-use types::find_type;
+use types::find_by_type;
 ghost use mathlib.Core.Path.{_≡_};
 ghost use mathlib.Core.Bool.{cond};
 ghost use Prim.Native.Nat.{_+_, _≤_};
@@ -67,7 +67,7 @@ pub fn word_of(element: Element) -> u32
 pub fn is_carried(x: u8, ty: u8) -> bool
     ensures { λ r. ⌜ r ≡ carried x ty ⌝ }
 {
-    let found = find_type(x, ty);
+    let found = find_by_type(x, ty);
     if let OptionalKind::Some(_) = found {
         true
     } else {
@@ -79,7 +79,7 @@ pub fn is_carried(x: u8, ty: u8) -> bool
 pub fn kind_of(x: u8, ty: u8) -> Kind
     ensures { λ r. ⌜ r ≡ kindOf x ty ⌝ }
 {
-    let found = find_type(x, ty);
+    let found = find_by_type(x, ty);
     let OptionalKind::Some(kind) = found else {
         return Kind::Signal;
     };
@@ -97,7 +97,7 @@ pub fn layout_number(kind: Kind) -> u8
 pub fn kind_numbered(number: u8) -> Kind
     ensures { λ r. ⌜ r ≡ kindNumbered number ⌝ }
 {
-    let found = kinds::find_numbered(number);
+    let found = kinds::find_by_number(number);
     let OptionalKind::Some(kind) = found else {
         return Kind::Signal;
     };
@@ -137,7 +137,7 @@ fn check_fields(word: u32, kind: Kind) -> Finding
     rows::check_rows(word, layout.number, layout.first)
 }
 
-// The values of an element's number; zeros where a field is refused.
+// The values of an element's number; all zeros if a field is refused.
 fn read_values(word: u32, kind: Kind) -> [u32; 24]
     ensures { λ r. ⌜ r ≡ valuesRead word (rowsOf kind) ⌝ }
 {

@@ -4,11 +4,11 @@ use kinds::Kind;
 use kinds::OptionalKind;
 ghost use mathlib.Core.Path.{_≡_};
 ghost use Rattle.kinds.specs.Kinds.{findIn};
-ghost use Rattle.elements.specs.Types.{typesUnder1, typesUnder3, findType};
+ghost use Rattle.elements.specs.Types.{typesUnder1, typesUnder3, findByType};
 
 // The kind of a type under a catalogue's X, if it is carried.
-pub fn find_type(x: u8, ty: u8) -> OptionalKind
-    ensures { λ r. ⌜ r ≡ findType x ty ⌝ }
+pub fn find_by_type(x: u8, ty: u8) -> OptionalKind
+    ensures { λ r. ⌜ r ≡ findByType x ty ⌝ }
 {
     match x {
         1 => return under_1(ty),

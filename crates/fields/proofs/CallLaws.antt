@@ -12,7 +12,7 @@ use Rattle.rows.specs.Rows.{layouts}
 use Rattle.rows.specs.Values.{codeAt}
 use Rattle.rows.specs.declared.Finding.{Finding}
 use Rattle.rows.specs.declared.Refusal.{Refusal}
-use Rattle.kinds.specs.Kinds.{layoutNo, rowsOf, kindIn, numbered, findNumbered, elementOf}
+use Rattle.kinds.specs.Kinds.{layoutNo, rowsOf, kindIn, kindLines, findByNumber, elementOf}
 use Rattle.kinds.specs.declared.Kind.{Kind}
 use Rattle.kinds.specs.declared.Element.{Element}
 use Rattle.kinds.specs.declared.OptionalKind.{OptionalKind}
@@ -31,7 +31,7 @@ use Rattle.history.proofs.OutputLaws.{leaves-as, refused-leaves}
 use Rattle.history.proofs.StateLaws.{stateAt}
 use Rattle.panel.specs.Readings.{readingOf}
 use Rattle.fields.specs.declared.Plain.{Plain}
-use Rattle.fields.specs.Plain.{shownPlain, plainOf, valuesIn, checkNamed}
+use Rattle.fields.specs.PlainFields.{shownPlain, plainOf, valuesIn, checkNamed}
 use Rattle.fields.specs.Calls.{writeFieldsCall, stateRefused}
 
 -- ---- a call that refuses: its answer is told, and the output stays
@@ -51,20 +51,20 @@ all-refuse f (done s) h = h s
 -- ---- numbers of kinds
 
 -- a carried number is its kind's, and no other kind has it
-its-number : {n : ℕ} {k : Kind} → findNumbered n ≡ OptionalKind.Some k → n ≡ layoutNo k
+its-number : {n : ℕ} {k : Kind} → findByNumber n ≡ OptionalKind.Some k → n ≡ layoutNo k
 unfolding layouts
-its-number {n} e = eqb→eq _ _ (every-line (λ n k. eqb n (layoutNo k)) n numbered tt e)
+its-number {n} e = eqb→eq _ _ (every-line (λ n k. eqb n (layoutNo k)) n kindLines tt e)
 
-its-kind : {n : ℕ} {k : Kind} (j : Kind) → findNumbered n ≡ OptionalKind.Some k → n ≡ layoutNo j → j ≡ k
+its-kind : {n : ℕ} {k : Kind} (j : Kind) → findByNumber n ≡ OptionalKind.Some k → n ≡ layoutNo j → j ≡ k
 its-kind j e q =
-    let s : OptionalKind.Some j ≡ OptionalKind.Some _ = sym (kind-found j) ∙ ap findNumbered (sym q) ∙ e in
+    let s : OptionalKind.Some j ≡ OptionalKind.Some _ = sym (kind-found j) ∙ ap findByNumber (sym q) ∙ e in
     cc
 
 -- a number that no kind has is not kind j's
-not-its : (n : ℕ) (j : Kind) → findNumbered n ≡ OptionalKind.None → eqb n (layoutNo j) ≡ false
+not-its : (n : ℕ) (j : Kind) → findByNumber n ≡ OptionalKind.None → eqb n (layoutNo j) ≡ false
 not-its n j e =
     ne-eqb n (layoutNo j)
-    (λ q. let s : OptionalKind.Some j ≡ OptionalKind.None = sym (kind-found j) ∙ ap findNumbered (sym q) ∙ e in
+    (λ q. let s : OptionalKind.Some j ≡ OptionalKind.None = sym (kind-found j) ∙ ap findByNumber (sym q) ∙ e in
     absurd (let z : _≡_ {A = ℕ} 0 1 = cc in omega arith))
 
 -- no kind has the number 0, nor one above 255
@@ -72,14 +72,14 @@ number-some : (k : Kind) → 0 < layoutNo k
 unfolding layouts
 number-some k = ltb-true 0 (layoutNo k) (every-kind (λ k. ltb 0 (layoutNo k)) (λ k. true) refl k)
 
-pub none-numbered : (n : ℕ) → 255 < n → OptionalKind.None ≡ findNumbered n
+pub none-numbered : (n : ℕ) → 255 < n → OptionalKind.None ≡ findByNumber n
 unfolding layouts
-none-numbered n h = at (findNumbered n) refl
+none-numbered n h = at (findByNumber n) refl
   where
-    small : {k : Kind} → findNumbered n ≡ OptionalKind.Some k → n < 256
-    small e = ltb→lt _ _ (every-line (λ n k. ltb n 256) n numbered tt e)
+    small : {k : Kind} → findByNumber n ≡ OptionalKind.Some k → n < 256
+    small e = ltb→lt _ _ (every-line (λ n k. ltb n 256) n kindLines tt e)
 
-    at : (s : OptionalKind) → findNumbered n ≡ s → OptionalKind.None ≡ s
+    at : (s : OptionalKind) → findByNumber n ≡ s → OptionalKind.None ≡ s
     at (OptionalKind.Some k) e = absurd (omega (arith, small e))
     at OptionalKind.None e = refl
 
@@ -144,7 +144,7 @@ module _ (t a : List ℕ) (i number : ℕ) (fields : List ℕ) (position : ℕ) 
   of-kinds f g (done s) h = h (kindIn s)
 
   -- only the kind with the number counts
-  only : (f g : Kind → Verdict (List ℕ)) {k : Kind} → findNumbered number ≡ OptionalKind.Some k → f k ≡ g k → (j : Kind)
+  only : (f g : Kind → Verdict (List ℕ)) {k : Kind} → findByNumber number ≡ OptionalKind.Some k → f k ≡ g k → (j : Kind)
       → (refusalAt 22 i unless eqb number (layoutNo j) ⨾ f j) ≡ (refusalAt 22 i unless eqb number (layoutNo j) ⨾ g j)
   only f g {k} e h j = at (eqb number (layoutNo j)) refl
     where
@@ -175,13 +175,13 @@ module _ (t a : List ℕ) (i number : ℕ) (fields : List ℕ) (position : ℕ) 
   unfolding readStateCall readStateUnder writeStateCall writeStateUnder checkState
   after-reading e = planned (readPlan t)
     where
-      numbered : (s : Element) (k : Kind) (f : ℕ → Verdict (List ℕ)) (b : Bool) → kindIn s ≡ k
+      by-number : (s : Element) (k : Kind) (f : ℕ → Verdict (List ℕ)) (b : Bool) → kindIn s ≡ k
           → then (refusalAt 13 i unless b ⨾ done s)
           (λ was. refusalAt 22 i unless sameKind (kindIn e) (kindIn was) ⨾
           then (refusalAt 13 i unless b ⨾ checked e k) f)
           ≡ then (refusalAt 13 i unless b ⨾ checked e k) f
-      numbered s k f false q = refl
-      numbered s k f true q =
+      by-number s k f false q = refl
+      by-number s k f true q =
           ap (λ (j : Kind). refusalAt 22 i unless sameKind (kindIn e) j ⨾ then (checked e k) f) q
           ∙ twice (element k (wordOf e) of i ⨾ done (wordOf e)) f (sameKind (kindIn e) k)
 
@@ -192,7 +192,7 @@ module _ (t a : List ℕ) (i number : ℕ) (fields : List ℕ) (position : ℕ) 
           ≡ (then v λ m. then (checkState (p .kinds) i e) λ w. done (imageBytes p (placed m i w position)))
       imaged p (refused r) = refl
       imaged p (done m) =
-          numbered (stateAt p m i) (kindAt (p .kinds) i) _ (ltb i (length (p .kinds)))
+          by-number (stateAt p m i) (kindAt (p .kinds) i) _ (ltb i (length (p .kinds)))
           (state-kind (kindAt (p .kinds) i) (getD (m .words) i 0))
 
       planned : (v : Verdict Plan)
@@ -203,7 +203,7 @@ module _ (t a : List ℕ) (i number : ℕ) (fields : List ℕ) (position : ℕ) 
       planned (refused r) = refl
       planned (done p) = imaged p (readImage p a)
 
-  pub writes : {k : Kind} → findNumbered number ≡ OptionalKind.Some k
+  pub writes : {k : Kind} → findByNumber number ≡ OptionalKind.Some k
       → checkNamed (rowsOf k) (valuesIn k fields) ≡ Finding.Accepted
       → writeFieldsCall t a i number fields position ≡ writeStateCall t a i (elementOf k (valuesIn k fields)) position
   unfolding writeFieldsCall
@@ -218,7 +218,7 @@ module _ (t a : List ℕ) (i number : ℕ) (fields : List ℕ) (position : ℕ) 
       ∙ after-reading s
 
   -- from what the code has: the kind of the number, if there is one, the values, what is found of them, the state
-  module _ {s : OptionalKind} (s-is : s ≡ findNumbered number) where
+  module _ {s : OptionalKind} (s-is : s ≡ findByNumber number) where
     pub no-kind : s ≡ OptionalKind.None
         → writeFieldsCall t a i number fields position ≡ stateRefused t a i number (codeAt 22 255)
     unfolding writeFieldsCall stateRefused

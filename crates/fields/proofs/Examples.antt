@@ -11,7 +11,7 @@ use Rattle.history.proofs.Examples.{computed}
 use Rattle.history.specs.Verdict.{naming, refused, done, numbers, unnamed}
 use Rattle.history.proofs.Examples.{T, A, C, T3, A3}
 use Rattle.panel.specs.declared.read.Reading.{Reading}
-use Rattle.fields.specs.Plain.{shownPlain, plainOf}
+use Rattle.fields.specs.PlainFields.{shownPlain, plainOf}
 use Rattle.fields.specs.Calls.{writeFieldsCall}
 
 -- a green high signal; a signal of catalogue 3.0, whose kind is 31;

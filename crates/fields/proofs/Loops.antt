@@ -24,7 +24,7 @@ use Rattle.kinds.specs.declared.Element.{Element}
 use Rattle.history.specs.declared.Answer.{Answer}
 use Rattle.history.specs.Verdict.{unnamed}
 use Rattle.rows.proofs.Loops.{fill-store, rows-next}
-use Rattle.fields.specs.Plain.{shown, shownIn, shownPlain, spread, checkNamed}
+use Rattle.fields.specs.PlainFields.{shown, shownIn, shownPlain, spread, checkNamed}
 use Rattle.fields.specs.declared.Plain.{Plain}
 use Rattle.fields.specs.declared.by_rows.Shown.{Shown}
 use Rattle.fields.proofs.OwnFields.{own, spread-length}

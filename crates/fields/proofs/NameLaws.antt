@@ -20,7 +20,7 @@ use Rattle.history.specs.Calls.{readStateCall}
 use Rattle.history.proofs.NameLaws.{its-number, its-field, Named, refuses, named-unless, named-of, named-then, NamesIn}
 use Rattle.history.proofs.NameLaws.{TheNumber, read-call-named, write-call-named, read-object}
 use Rattle.history.proofs.CodeLaws.{Coded, coded}
-use Rattle.fields.specs.Plain.{spread, valuesIn, checkNamed}
+use Rattle.fields.specs.PlainFields.{spread, valuesIn, checkNamed}
 use Rattle.fields.specs.Calls.{writeFieldsCall}
 
 -- what a value with no named case, among the last rows rs of a kind, is refused with

@@ -9,7 +9,7 @@ use Rattle.history.specs.Calls.{readStateCall}
 use Rattle.history.proofs.OneOutcome.{one-outcome, one-pair}
 use Rattle.panel.specs.Readings.{readingOf}
 use Rattle.fields.specs.declared.Plain.{Plain}
-use Rattle.fields.specs.Plain.{plainOf}
+use Rattle.fields.specs.PlainFields.{plainOf}
 use Rattle.fields.specs.Calls.{writeFieldsCall}
 
 module _ (T A : List ℕ) (i : ℕ) where

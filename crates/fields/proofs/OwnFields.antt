@@ -29,7 +29,7 @@ use Rattle.history.proofs.ElementLaws.{was-accepted}
 use Rattle.history.proofs.Demands.{write-then-read}
 use Rattle.panel.specs.Readings.{readingOf}
 use Rattle.fields.specs.declared.Plain.{Plain}
-use Rattle.fields.specs.Plain.{shown, shownPlain, plainOf, spread, valuesIn, checkNamed}
+use Rattle.fields.specs.PlainFields.{shown, shownPlain, plainOf, spread, valuesIn, checkNamed}
 use Rattle.fields.specs.Calls.{writeFieldsCall}
 use Rattle.fields.proofs.CallLaws.{of-kinds, valued}
 

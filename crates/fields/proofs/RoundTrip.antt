@@ -22,7 +22,7 @@ use Rattle.history.specs.Calls.{imageCall, readStateCall, writeStateCall}
 use Rattle.history.proofs.Demands.{read-then-write}
 use Rattle.panel.specs.Readings.{readingOf}
 use Rattle.fields.specs.declared.Plain.{Plain}
-use Rattle.fields.specs.Plain.{shown, fieldsOf, shownPlain, plainOf, spread, valuesIn, checkNamed}
+use Rattle.fields.specs.PlainFields.{shown, fieldsOf, shownPlain, plainOf, spread, valuesIn, checkNamed}
 use Rattle.fields.specs.Calls.{writeFieldsCall}
 use Rattle.fields.proofs.CallLaws.{writes}
 

@@ -8,7 +8,7 @@ use Rattle.kinds.specs.declared.Kind.{Kind}
 use Rattle.history.specs.Verdict.{Verdict, refused, then, refusalAt, _unless_⨾_}
 use Rattle.history.specs.Image.{foundIn, _of_⨾_}
 use Rattle.history.specs.Calls.{readStateCall, writeStateCall}
-use Rattle.fields.specs.Plain.{valuesIn, checkNamed}
+use Rattle.fields.specs.PlainFields.{valuesIn, checkNamed}
 
 -- what is tested before a state's values: table, image and 13 as in reading, then 22 if the
 -- object's kind has another number

@@ -6,7 +6,7 @@ ghost use mathlib.Core.Path.{_≡_};
 ghost use Prim.Native.Nat.{_+_, _≤_, _<_};
 ghost use Rattle.rows.specs.Rows.{cells, rowTotal, rowAt, rowsFrom};
 ghost use Rattle.rows.specs.Values.{padded};
-ghost use Rattle.fields.specs.Plain.{shownIn, spread, checkNamed};
+ghost use Rattle.fields.specs.PlainFields.{shownIn, spread, checkNamed};
 
 // The values of rows that are not reserved, and how many there are.
 pub struct Shown {

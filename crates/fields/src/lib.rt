@@ -19,11 +19,11 @@ use tables::accepted;
 use tables::refused_at;
 use tables::refused_by;
 ghost use mathlib.Core.Path.{_≡_};
-ghost use Rattle.kinds.specs.Kinds.{rowsOf, findNumbered};
+ghost use Rattle.kinds.specs.Kinds.{rowsOf, findByNumber};
 ghost use Rattle.history.specs.Verdict.{told, Leaves};
 ghost use Rattle.history.specs.Calls.{readStateCall};
 ghost use Rattle.panel.specs.Readings.{readingOf};
-ghost use Rattle.fields.specs.Plain.{shownPlain, plainOf, valuesIn, checkNamed};
+ghost use Rattle.fields.specs.PlainFields.{shownPlain, plainOf, valuesIn, checkNamed};
 ghost use Rattle.fields.specs.Calls.{writeFieldsCall, stateRefused};
 
 // What reading gives: the answer, and for a state its kind's number, how many fields are not
@@ -126,12 +126,12 @@ fn check_values(values: [u32; 24], kind: Kind) -> Finding
 
 // The kind with a number, if there is one.
 fn find_kind(number: u32) -> OptionalKind
-    ensures { λ r. ⌜ r ≡ findNumbered number ⌝ }
+    ensures { λ r. ⌜ r ≡ findByNumber number ⌝ }
 {
     if 255 < number {
         return OptionalKind::None;
     }
-    kinds::find_numbered(number as u8)
+    kinds::find_by_number(number as u8)
 }
 
 // The answer where something is refused of a state handed in: table, image, 13 and 22 come before it.

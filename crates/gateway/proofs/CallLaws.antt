@@ -31,7 +31,7 @@ use Rattle.tables.specs.declared.place.LabelAt.{LabelAt}
 use Rattle.tables.proofs.AnswerLaws.{yes, no}
 use Rattle.panel.specs.Readings.{readingOf}
 use Rattle.fields.specs.declared.Plain.{Plain}
-use Rattle.fields.specs.Plain.{shownPlain, plainOf}
+use Rattle.fields.specs.PlainFields.{shownPlain, plainOf}
 use Rattle.receiver.specs.declared.Taken.{Taken}
 use Rattle.receiver.specs.Receive.{answerOf, standingOf, takenOf}
 use Rattle.history.specs.Standing.{talliesOf}

@@ -11,7 +11,7 @@ use Rattle.tables.specs.LabelPlaces.{labelTold}
 use Rattle.panel.specs.Readings.{readingOf}
 use Rattle.receiver.specs.Receive.{answerOf, outputOf, standingOf}
 use Rattle.listing.specs.Listing.{listingCall}
-use Rattle.fields.specs.Plain.{plainOf}
+use Rattle.fields.specs.PlainFields.{plainOf}
 use Rattle.fields.specs.Calls.{writeFieldsCall}
 use Rattle.history.specs.Standing.{talliesOf}
 use Rattle.gateway.specs.Slots.{answerSlots, LeavesSlots, readSlots, fieldsAfter, labelSlots, standingIn}

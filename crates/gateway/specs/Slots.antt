@@ -10,7 +10,7 @@ use Rattle.history.specs.declared.Answer.{Answer}
 use Rattle.history.specs.declared.Standing.{Standing}
 use Rattle.tables.specs.declared.place.LabelAt.{LabelAt}
 use Rattle.fields.specs.declared.Plain.{Plain}
-use Rattle.fields.specs.Plain.{fieldsOf}
+use Rattle.fields.specs.PlainFields.{fieldsOf}
 
 abbrev pub slots : Answer → ℕ → ℕ → List ℕ
 slots a sixth seventh = a .code ∷ a .object ∷ a .bit ∷ a .length ∷ 0 ∷ sixth ∷ seventh ∷ 0 ∷ []

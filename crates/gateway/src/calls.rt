@@ -10,7 +10,7 @@ ghost use Rattle.history.specs.Verdict.{told};
 ghost use Rattle.gateway.specs.Calls.{elementCall};
 
 // Checks an element of a type under a catalogue. It names no object.
-pub fn check_alone(x: u8, y: u8, ty: u8, element: &[u8]) -> Answer
+pub fn check_element_alone(x: u8, y: u8, ty: u8, element: &[u8]) -> Answer
     ensures { λ r. ⌜ r ≡ told (elementCall x y ty (now (element .entry))) ⌝ }
 {
     if !is_catalogue(x, y) {

@@ -3,7 +3,7 @@
 mod calls;
 mod slots;
 
-use calls::check_alone;
+use calls::check_element_alone;
 use fields::read_fields;
 use fields::write_fields;
 use forms::check_image;
@@ -21,7 +21,7 @@ ghost use Rattle.history.specs.Calls.{tableCall, imageCall, listCall, readState
 ghost use Rattle.history.specs.Calls.{applyCall, joinCall, turnCall};
 ghost use Rattle.tables.specs.LabelPlaces.{labelTold};
 ghost use Rattle.panel.specs.Readings.{readingOf};
-ghost use Rattle.fields.specs.Plain.{plainOf};
+ghost use Rattle.fields.specs.PlainFields.{plainOf};
 ghost use Rattle.fields.specs.Calls.{writeFieldsCall};
 ghost use Rattle.receiver.specs.Receive.{answerOf, outputOf, standingOf};
 ghost use Rattle.listing.specs.Listing.{listingCall};
@@ -41,7 +41,7 @@ pub extern "C" fn shefumbari_check_element(
 )
     ensures { λ _. ⌜ now (answer .exit) ≡ answerSlots (told (elementCall x y ty (now (element .entry)))) ⌝ }
 {
-    *answer = answer_slots(check_alone(x, y, ty, element));
+    *answer = answer_slots(check_element_alone(x, y, ty, element));
 }
 
 #[no_mangle]

@@ -196,7 +196,7 @@ unfolding computed
 eights = search
 
 -- of two faults the first in the paper's order is named
-pub first-named : (tableCall (set (set T 4 2) 6 1) ≡ refused (naming 2 65535 255))
+pub first-fault : (tableCall (set (set T 4 2) 6 1) ≡ refused (naming 2 65535 255))
     × (tableCall (set (set T 6 1) 7 4) ≡ refused (naming 3 65535 255))
     × (tableCall (set (set T 9 10) 10 33) ≡ refused (naming 5 0 255))
     × (tableCall (set (set T 10 33) 8 9) ≡ refused (naming 6 0 255))
@@ -217,7 +217,7 @@ pub first-named : (tableCall (set (set T 4 2) 6 1) ≡ refused (naming 2 65535 2
     ≡ refused (naming 22 0 255))
     × (settled (writeStateCall T A 7 fixedT 9) [] .answer ≡ numbers (naming 13 7 255) 0)
 unfolding computed
-first-named = search
+first-fault = search
 
 -- two faults at once in a form: each test before the one that follows it, each entry before the
 -- next and before bytes that are left over

@@ -16,7 +16,7 @@ use Rattle.states.proofs.StateLaws.{crossingTrackCircuit-listed, crossingTrackC
 use Rattle.states.proofs.StateLaws.{dualDetection-back, points-listed, points-back, electricLock-listed}
 use Rattle.states.proofs.StateLaws.{electricLock-back, generalNotices-listed, generalNotices-back}
 use Rattle.states.proofs.StateLaws.{controlBoundary-listed, controlBoundary-back, signalV3-listed, signalV3-back}
-use Rattle.kinds.specs.Kinds.{kinds, place, layoutNo, rowsOf, findNumbered, elementOf, elementValues, kindIn}
+use Rattle.kinds.specs.Kinds.{kinds, place, layoutNo, rowsOf, findByNumber, elementOf, elementValues, kindIn}
 use Rattle.kinds.specs.declared.Kind.{Kind}
 use Rattle.kinds.specs.declared.Element.{Element}
 use Rattle.kinds.specs.declared.OptionalKind.{OptionalKind}
@@ -52,7 +52,7 @@ placed Kind.GeneralNotices = lit< tt
 placed Kind.ControlBoundary = lit< tt
 placed Kind.SignalV3 = lit< tt
 
-pub kind-found : (k : Kind) → findNumbered (layoutNo k) ≡ OptionalKind.Some k
+pub kind-found : (k : Kind) → findByNumber (layoutNo k) ≡ OptionalKind.Some k
 unfolding layouts
 kind-found Kind.Signal = refl
 kind-found Kind.ChangerSignal = refl

@@ -9,25 +9,25 @@ use native.Mathlib.Omega.{arith}
 use lib.Dec.{T, eqb}
 use borrow.Author.Tests.{ne-eqb, eqb-true}
 use Rattle.rows.proofs.Tests.{both-left, both-right}
-use Rattle.kinds.specs.Kinds.{Line, findIn}
+use Rattle.kinds.specs.Kinds.{KindLine, findIn}
 use Rattle.kinds.specs.declared.Kind.{Kind}
 use Rattle.kinds.specs.declared.OptionalKind.{OptionalKind}
 
-abbrev pub Apart : ℕ → List Line → Type 0
+abbrev pub Apart : ℕ → List KindLine → Type 0
 Apart n [] = Unit
 Apart n (l ∷ ls) = (n ≡ l .number → ⊥) × Apart n ls
 
-pub vain : (n : ℕ) (ls : List Line) → Apart n ls → OptionalKind.None ≡ findIn n ls
-vain n [] a = refl
-vain n (l ∷ ls) a =
-    vain n ls (a .1)
+pub not-found : (n : ℕ) (ls : List KindLine) → Apart n ls → OptionalKind.None ≡ findIn n ls
+not-found n [] a = refl
+not-found n (l ∷ ls) a =
+    not-found n ls (a .1)
     ∙ sym (ap (λ (b : Bool). cond b (OptionalKind.Some (l .kind)) (findIn n ls)) (ne-eqb n (l .number) (a .0)))
 
-abbrev pub allLines : (ℕ → Kind → Bool) → List Line → Bool
+abbrev pub allLines : (ℕ → Kind → Bool) → List KindLine → Bool
 allLines test [] = true
 allLines test (l ∷ ls) = test (l .number) (l .kind) && allLines test ls
 
-pub every-line : (test : ℕ → Kind → Bool) (n : ℕ) (ls : List Line) → T (allLines test ls) → {k : Kind}
+pub every-line : (test : ℕ → Kind → Bool) (n : ℕ) (ls : List KindLine) → T (allLines test ls) → {k : Kind}
     → findIn n ls ≡ OptionalKind.Some k → T (test n k)
 every-line test n [] t e = absurd (let z : _≡_ {A = ℕ} 0 1 = cc in omega arith)
 every-line test n (l ∷ ls) t {k} e =

@@ -52,24 +52,24 @@ abbrev pub rowsOf : Kind → List Row
 rowsOf k = layoutRows (layoutOf k)
 
 -- a number, and the kind that it stands for
-pub record Line : Type 0 where
+pub record KindLine : Type 0 where
   pub number : ℕ
   pub kind : Kind
 
-abbrev pub line : ℕ → Kind → Line
-line number kind = record { number = number; kind = kind }
+abbrev pub kindLine : ℕ → Kind → KindLine
+kindLine number kind = record { number = number; kind = kind }
 
 -- the kind that a number stands for, by the first line that has it
-abbrev pub findIn : ℕ → List Line → OptionalKind
+abbrev pub findIn : ℕ → List KindLine → OptionalKind
 findIn n [] = OptionalKind.None
 findIn n (l ∷ ls) = cond (eqb n (l .number)) (OptionalKind.Some (l .kind)) (findIn n ls)
 
 -- a line for each kind, with the number of its layout
-abbrev pub numbered : List Line
-numbered = map (λ (k : Kind). line (layoutNo k) k) kinds
+abbrev pub kindLines : List KindLine
+kindLines = map (λ (k : Kind). kindLine (layoutNo k) k) kinds
 
-abbrev pub findNumbered : ℕ → OptionalKind
-findNumbered n = findIn n numbered
+abbrev pub findByNumber : ℕ → OptionalKind
+findByNumber n = findIn n kindLines
 
 abbrev pub elementOf : Kind → List ℕ → Element
 elementOf Kind.Signal vs = Element.Signal (signalOf vs)

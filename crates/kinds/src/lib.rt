@@ -21,7 +21,7 @@ ghost use lib.Dec.{T};
 ghost use lib.ListN.{length};
 ghost use Rattle.rows.specs.Values.{padded};
 ghost use Rattle.rows.specs.Marks.{marked, Shows};
-ghost use Rattle.kinds.specs.Kinds.{layoutOf, widthOf, rowsOf, findNumbered, kindIn, elementOf, elementValues};
+ghost use Rattle.kinds.specs.Kinds.{layoutOf, widthOf, rowsOf, findByNumber, kindIn, elementOf, elementValues};
 ghost use Rattle.kinds.specs.Glances.{Glanced};
 
 // The kinds of element that are carried.
@@ -256,8 +256,8 @@ fn glance_by(s: &[u8], at: usize, kind: Kind, width: usize) -> Glance
 }
 
 // The kind whose layout has this number, if there is one.
-pub fn find_numbered(number: u8) -> OptionalKind
-    ensures { λ r. ⌜ r ≡ findNumbered number ⌝ }
+pub fn find_by_number(number: u8) -> OptionalKind
+    ensures { λ r. ⌜ r ≡ findByNumber number ⌝ }
 {
     match number {
         1 => return OptionalKind::Some(Kind::Signal),

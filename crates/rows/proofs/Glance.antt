@@ -12,7 +12,7 @@ use lib.Dec.{T, leb, eqb, eqb→eq}
 use lib.Pow.{pow-pos, pow-add, shl-shr, split, high, mod-pow-add}
 use Rattle.rows.specs.Rows.{Row}
 use Rattle.rows.specs.Values.{fieldOf, valuesOf}
-use Rattle.rows.specs.Marks.{full, marks, marked, carriesNone, Shows}
+use Rattle.rows.specs.Marks.{admitsAll, marks, marked, carriesNone, Shows}
 use Rattle.rows.proofs.Tests.{both-left, both-right}
 use Rattle.rows.proofs.Words.{Within}
 use Rattle.rows.proofs.Listed.{within-accepted}
@@ -68,20 +68,22 @@ module _ (w add carry : ℕ) (none : carriesNone add carry w ≡ true) where
       let fits = field-fits w add (r .low) (r .width) (no-carry w add (r .width + r .low) clear) in
       omega arith
 
-  wide : (r : Row) → full r ≡ true → fieldOf w r ≤ r .top
+  wide : (r : Row) → admitsAll r ≡ true → fieldOf w r ≤ r .top
   wide r e =
       let m : fieldOf w r < 2 ^ r .width = mod-lt (w / 2 ^ r .low) (pow-pos (r .width)) in
       omega (arith, eqb-true (suc (r .top)) (2 ^ r .width) e)
 
-  here : (r : Row) (b : Bool) → full r ≡ b → T (b || marks add carry r) → fieldOf w r ≤ r .top
+  here : (r : Row) (b : Bool) → admitsAll r ≡ b → T (b || marks add carry r) → fieldOf w r ≤ r .top
   here r true e t = wide r e
   here r false e t = narrow r t
 
   within : (rs : List Row) → T (marked add carry rs) → Within rs (valuesOf w rs)
   within [] t = tt
   within (r ∷ rs) t =
-      let own = full r || marks add carry r in
-      (here r (full r) refl (both-left own (marked add carry rs) t), within rs (both-right own (marked add carry rs) t))
+      let own = admitsAll r || marks add carry r in (
+        here r (admitsAll r) refl (both-left own (marked add carry rs) t),
+        within rs (both-right own (marked add carry rs) t),
+      )
 
 pub shows : (add carry : ℕ) {rs : List Row} {w : ℕ} {listed : Bool} → T (marked add carry rs)
     → listed ≡ carriesNone add carry w → Shows rs w listed

@@ -12,8 +12,8 @@ use Rattle.rows.specs.Values.{checkRows}
 use Rattle.rows.specs.declared.Finding.{Finding}
 
 -- the row admits every value that its field can hold
-abbrev pub full : Row → Bool
-full r = eqb (suc (r .top)) (2 ^ r .width)
+abbrev pub admitsAll : Row → Bool
+admitsAll r = eqb (suc (r .top)) (2 ^ r .width)
 
 -- a row's marks: the highest listed value plus what is added fills the field, and the bit above the field is marked
 abbrev pub marks : ℕ → ℕ → Row → Bool
@@ -22,7 +22,7 @@ marks add carry r =
 
 abbrev pub marked : ℕ → ℕ → List Row → Bool
 marked add carry [] = true
-marked add carry (r ∷ rs) = (full r || marks add carry r) && marked add carry rs
+marked add carry (r ∷ rs) = (admitsAll r || marks add carry r) && marked add carry rs
 
 -- nothing is carried into a marked bit
 unfoldable pub carriesNone : ℕ → ℕ → ℕ → Bool

@@ -60,7 +60,7 @@ abbrev pub onFinding : {A : Type 0} → Finding → A → (Refusal → A) → A
 onFinding Finding.Accepted good bad = good
 onFinding (Finding.Refused r) good bad = bad r
 
--- the values as they are read: zeros where a field is refused
+-- the values as they are read: all zeros if a field is refused
 abbrev pub valuesRead : ℕ → List Row → List ℕ
 valuesRead w rs = onFinding (checkRows w rs) (padded (valuesOf w rs)) (λ r. replicate 24 0)
 

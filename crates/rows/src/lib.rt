@@ -90,7 +90,7 @@ fn finding_of(field: Field) -> Finding
     }
 }
 
-// The values by the rows first, first + 1, .. of an element's number, in their order; zeros where a field is refused.
+// The values by the rows first, first + 1, .. of an element's number, in their order; all zeros if a field is refused.
 pub fn read_rows(word: u32, first: usize, count: usize) -> [u32; 24]
     requires { ⌜ (first + count ≤ rowTotal) × (count ≤ 24) ⌝ }
     ensures { λ r. ⌜ r ≡ valuesRead word (rowsFrom first count) ⌝ }

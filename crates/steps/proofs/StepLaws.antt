@@ -17,7 +17,7 @@ use Rattle.history.specs.declared.Change.the-variants.{Keep as keep, Swap as sw
 use Rattle.history.specs.Changes.{entries, differ, meets, joined, back}
 use Rattle.steps.specs.declared.Walk.{Walk}
 use Rattle.steps.specs.Steps.{span, entryBytes, names, countIf, sizeIf, saidIf, changeAt, isSwap, stepOf, Stepped}
-use Rattle.steps.specs.Steps.{Silent, Idle, renewed}
+use Rattle.steps.specs.Steps.{Silent, AllIdle, renewed}
 
 -- ---- an entry at a cursor
 
@@ -272,10 +272,10 @@ module _ (l : List ℕ) (at i n : ℕ) (h : i ≤ n) where
         record { on = c; within = d; says = λ k w a b. says-nothing (drop at l) k w e (λ q. omega arith) }
 
 -- where nothing is said, there is nothing to do
-pub idle-none : (walk : Walk) (i n : ℕ) (f s : List ℕ) → i ≤ n → Idle walk i i n f s
+pub idle-none : (walk : Walk) (i n : ℕ) (f s : List ℕ) → i ≤ n → AllIdle walk i i n f s
 idle-none walk i n f s h = record { on = omega arith; within = h; is = λ k w a b. absurd (omega arith) }
 
-pub idle-join : {i m n j : ℕ} {f s : List ℕ} → Silent i m n f → Silent i j m s → Idle Walk.Join i j n f s
+pub idle-join : {i m n j : ℕ} {f s : List ℕ} → Silent i m n f → Silent i j m s → AllIdle Walk.Join i j n f s
 unfolding stepOf
 idle-join a b = record {
   on = b .on;
@@ -283,6 +283,6 @@ idle-join a b = record {
   is = λ k w g h. rw (a .says k w g (omega (arith, b .within)), b .says k w g h);
 }
 
-pub idle-turn : {i j n : ℕ} {f : List ℕ} (s : List ℕ) → Silent i j n f → Idle Walk.Turn i j n f s
+pub idle-turn : {i j n : ℕ} {f : List ℕ} (s : List ℕ) → Silent i j n f → AllIdle Walk.Turn i j n f s
 unfolding stepOf
 idle-turn s a = record { on = a .on; within = a .within; is = λ k w g h. rw (a .says k w g h) }

@@ -86,7 +86,7 @@ pub record Silent (i j n : ℕ) (b : List ℕ) : Type 0 where
 abbrev pub idle : Step
 idle = record { change = keep; agrees = true; first = 0; second = 0 }
 
-pub record Idle (walk : Walk) (i j n : ℕ) (f s : List ℕ) : Type 0 where
+pub record AllIdle (walk : Walk) (i j n : ℕ) (f s : List ℕ) : Type 0 where
   pub on : i ≤ j
   pub within : j ≤ n
   pub is : (k w : ℕ) → i ≤ k → k < j → stepOf walk k w f s ≡ idle

@@ -12,7 +12,7 @@ ghost use Rattle.history.specs.Table.{kindAt};
 ghost use Rattle.history.specs.Changes.{differ, fits, meets, joined, back};
 ghost use Rattle.tables.specs.Outlines.{kindsOf};
 ghost use Rattle.steps.specs.Steps.{span, entryBytes, names, countIf, sizeIf, saidIf, changeAt, isSwap, Silent};
-ghost use Rattle.steps.specs.Steps.{Idle, renewed};
+ghost use Rattle.steps.specs.Steps.{AllIdle, renewed};
 
 // The operations that make a list; each is a walk over the objects.
 pub enum Walk {
@@ -33,7 +33,8 @@ pub fn next(
     far: usize,
 ) -> usize
     requires { ⌜ (near ≤ length (now first)) × (far ≤ length (now second)) × (object ≤ end) ⌝ }
-    ensures { λ r. ⌜ Idle Walk.Join object r end (drop near (now (first .entry))) (drop far (now (second .entry))) ⌝ }
+    ensures { λ r.
+        ⌜ AllIdle Walk.Join object r end (drop near (now (first .entry))) (drop far (now (second .entry))) ⌝ }
 {
     let one = first_named(first, near, object, end);
     first_named(second, far, object, one)

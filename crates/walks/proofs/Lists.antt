@@ -20,7 +20,7 @@ use Rattle.tables.specs.Outlines.{kindsOf}
 use Rattle.forms.proofs.KindLaws.{kinds-next}
 use Rattle.steps.specs.declared.Walk.{Walk}
 use Rattle.steps.specs.Steps.{span, entryBytes, names, countIf, sizeIf, saidIf, changeAt, isSwap, stepOf, Stepped}
-use Rattle.steps.specs.Steps.{Silent, Idle}
+use Rattle.steps.specs.Steps.{Silent, AllIdle}
 use Rattle.steps.proofs.StepLaws.{difference-step, join-step, turn-step, differ-swap, names-inside, said-inside}
 use Rattle.steps.proofs.StepLaws.{idle-none, idle-turn}
 use Rattle.walks.specs.Walks.{walked, walkBytes, ElementsLong, Asked, Surveyed}
@@ -71,7 +71,7 @@ module _ {ns f s : List ℕ} {p i : ℕ} (z : Comparing ns f s p i) (h : i < len
         → Stepped Walk.Difference i w f p s p (record { change = c; agrees = true; first = w; second = w })
     step ec = difference-step old-inside new-inside ea eb ec
 
-    onward : Idle Walk.Difference (i + 1) (i + 1) (length ns) (drop (p + w) f) (drop (p + w) s)
+    onward : AllIdle Walk.Difference (i + 1) (i + 1) (length ns) (drop (p + w) f) (drop (p + w) s)
     onward = idle-none Walk.Difference (i + 1) (length ns) (drop (p + w) f) (drop (p + w) s) (omega arith)
 
     pub difference-sized : {count size m n : ℕ} → Sizing Walk.Difference ns f s count size p p i
@@ -117,7 +117,7 @@ module _ {ns f s : List ℕ} {p q i w : ℕ} {one other : Bool} (h : i < length 
         → kept ≡ isSwap (joined (saidIf one w (drop p f)) (saidIf other w (drop q s)))
         → {m n k l : ℕ} → (m ≡ countIf kept) × (m ≤ 1) → (n ≡ sizeIf kept w) × (n ≤ 10) → (k ≡ sizeIf one w) × (k ≤ 10)
         → (l ≡ sizeIf other w) × (l ≤ 10)
-        → {j : ℕ} → Idle Walk.Join (i + 1) j (length ns) (drop (p + k) f) (drop (q + l) s)
+        → {j : ℕ} → AllIdle Walk.Join (i + 1) j (length ns) (drop (p + k) f) (drop (q + l) s)
         → Sizing Walk.Join ns f s (count + m) (size + n) (p + k) (q + l) j
     join-sized b e em en ek el d =
         one-sized z h ew (join-step (z .seek .near) (z .seek .far) eo es refl et (ek .0) (el .0)) b e em en d
@@ -144,7 +144,7 @@ module _ {ns f s : List ℕ} {p q i w : ℕ} {one other : Bool} (h : i < length 
 
     pub join-put : {ys : List ℕ} → ys ≡ entryBytes i w c → {k l : ℕ} → (k ≡ sizeIf one w) × (k ≤ 10)
         → (l ≡ sizeIf other w) × (l ≤ 10)
-        → {j : ℕ} → Idle Walk.Join (i + 1) j (length ns) (drop (p + k) f) (drop (q + l) s)
+        → {j : ℕ} → AllIdle Walk.Join (i + 1) j (length ns) (drop (p + k) f) (drop (q + l) s)
         → Putting Walk.Join ns f s part₀ (putMid at (at + n - at) part ys) (at + n) (p + k) (q + l) j
     join-put y ek el d = one-put z h ew (join-step (z .near) (z .far) eo es ec refl (ek .0) (el .0)) en y d
 

@@ -20,7 +20,7 @@ use Rattle.history.specs.Changes.{entriesBytes, entries}
 use Rattle.octets.proofs.Writing.{Filling, begin, along, keeps, has-room, write, ended}
 use Rattle.steps.specs.declared.Walk.{Walk}
 use Rattle.tables.specs.Outlines.{kindsOf}
-use Rattle.steps.specs.Steps.{span, entryBytes, countIf, sizeIf, isSwap, Step, Stepped, idle, Idle}
+use Rattle.steps.specs.Steps.{span, entryBytes, countIf, sizeIf, isSwap, Step, Stepped, idle, AllIdle}
 use Rattle.steps.proofs.StepLaws.{count-swap, size-swap}
 use Rattle.walks.specs.declared.Survey.{Survey}
 use Rattle.walks.specs.Walks.{walked, walkBytes, Measured, Surveyed, misfit}
@@ -83,7 +83,7 @@ module _ (walk : Walk) (ns f s : List ℕ) where
 
   -- ---- a run of objects at which there is nothing to do
 
-  module _ {i p q j n : ℕ} (near : p ≤ length f) (far : q ≤ length s) (d : Idle walk i j n (drop p f) (drop q s))
+  module _ {i p q j n : ℕ} (near : p ≤ length f) (far : q ≤ length s) (d : AllIdle walk i j n (drop p f) (drop q s))
       (h : n ≤ length ns) where
     still : (k : ℕ) → i ≤ k → k < j → Stepped walk k (widthOf (kindAt (kindsOf ns) k)) f p s q idle
     still k a b =
@@ -138,7 +138,7 @@ module _ {walk : Walk} {ns f s : List ℕ} {p q i : ℕ} (z : Seeking walk ns f 
 
 -- on to the next object at which there is something to do
 run-sought : {walk : Walk} {ns f s : List ℕ} {p q i j : ℕ} → Seeking walk ns f s p q i
-    → Idle walk i j (length ns) (drop p f) (drop q s) → Seeking walk ns f s p q j
+    → AllIdle walk i j (length ns) (drop p f) (drop q s) → Seeking walk ns f s p q j
 run-sought {walk} {ns} {f} {s} z d = record {
   inside = d .within;
   near = z .near;
@@ -167,7 +167,7 @@ none-sized walk ns f s = record {
 
 -- on to the next object at which there is something to do
 run-sized : {walk : Walk} {ns f s : List ℕ} {count size p q i j : ℕ} → Sizing walk ns f s count size p q i
-    → Idle walk i j (length ns) (drop p f) (drop q s)
+    → AllIdle walk i j (length ns) (drop p f) (drop q s)
     → Sizing walk ns f s count size p q j
 run-sized {walk} {ns} {f} {s} z d = record {
   seek = run-sought (z .seek) d;
@@ -181,7 +181,7 @@ module _ {walk : Walk} {ns f s : List ℕ} {count size p q i : ℕ} (z : Sizing 
   pub one-sized : i < length ns → {w m n : ℕ} {r : Step} → w ≡ widthOf (kindAt (kindsOf ns) i)
       → Stepped walk i w f p s q r → r .agrees ≡ true
       → {kept : Bool} → kept ≡ isSwap (r .change) → (m ≡ countIf kept) × (m ≤ 1) → (n ≡ sizeIf kept w) × (n ≤ 10)
-      → {j : ℕ} → Idle walk (i + 1) j (length ns) (drop (p + r .first) f) (drop (q + r .second) s)
+      → {j : ℕ} → AllIdle walk (i + 1) j (length ns) (drop (p + r .first) f) (drop (q + r .second) s)
       → Sizing walk ns f s (count + m) (size + n) (p + r .first) (q + r .second) j
   one-sized h {w} {m} {n} {r} e t b ek em en d =
       let counted : m ≡ entries (r .change ∷ []) = em .0 ∙ ap countIf ek ∙ count-swap (r .change) in
@@ -262,7 +262,7 @@ module _ {walk : Walk} {ns f s part₀ part : List ℕ} {at p q i : ℕ} (z : Pu
     put-long = mid-len at (at + n) part put-inside ∙ omega arith
 
     pub one-put : {ys : List ℕ} → ys ≡ entryBytes i w (r .change) → {j : ℕ}
-        → Idle walk (i + 1) j (length ns) (drop (p + r .first) f) (drop (q + r .second) s)
+        → AllIdle walk (i + 1) j (length ns) (drop (p + r .first) f) (drop (q + r .second) s)
         → Putting walk ns f s part₀ (putMid at (at + n - at) part ys) (at + n) (p + r .first) (q + r .second) j
     one-put q d = record {
       inside = d .within;

@@ -8,11 +8,11 @@ use Rattle.elements.proofs.kind_numbered.Tie as tie
 
 returns : tie.Need-returns
 unfolding kindNumbered
-returns c = ap carriedKind (sym (c .enum-told .given .1) ∙ c .before .before .find-numbered .ensures)
+returns c = ap carriedKind (sym (c .enum-told .given .1) ∙ c .before .before .find-by-number .ensures)
 
 returns-2 : tie.Need-returns-2
 unfolding kindNumbered
-returns-2 c = ap carriedKind (sym (c .before .found .given .1) ∙ c .before .before .before .find-numbered .ensures)
+returns-2 c = ap carriedKind (sym (c .before .found .given .1) ∙ c .before .before .before .find-by-number .ensures)
 
 pub kind-numbered-spec : {M : Type 1} → statement M
 kind-numbered-spec =

@@ -8,11 +8,11 @@ use Rattle.elements.proofs.kind_of.Tie as tie
 
 returns : tie.Need-returns
 unfolding kindOf
-returns c = ap carriedKind (sym (c .enum-told .given .1) ∙ c .before .before .find-type .ensures)
+returns c = ap carriedKind (sym (c .enum-told .given .1) ∙ c .before .before .find-by-type .ensures)
 
 returns-2 : tie.Need-returns-2
 unfolding kindOf
-returns-2 c = ap carriedKind (sym (c .before .found .given .1) ∙ c .before .before .before .find-type .ensures)
+returns-2 c = ap carriedKind (sym (c .before .found .given .1) ∙ c .before .before .before .find-by-type .ensures)
 
 pub kind-of-spec : {M : Type 1} → statement M
 kind-of-spec = tie.close (tie.spec (λ c κs. search needs) (λ c. search needs) (λ c. search needs) returns returns-2)

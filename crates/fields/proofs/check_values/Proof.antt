@@ -5,7 +5,7 @@ use borrow.Author.Needs.{needs}
 use Rattle.rows.specs.declared.Layout.{Layout}
 use Rattle.rows.specs.Covering.{layoutRows}
 use Rattle.elements.proofs.Answers.{in-rows}
-use Rattle.fields.specs.Plain.{checkNamed}
+use Rattle.fields.specs.PlainFields.{checkNamed}
 use Rattle.fields.proofs.check_values.Statement.{statement}
 use Rattle.fields.proofs.check_values.Tie as tie
 

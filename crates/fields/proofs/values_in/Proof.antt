@@ -6,7 +6,7 @@ use Rattle.rows.specs.declared.Layout.{Layout}
 use Rattle.rows.specs.Covering.{layoutRows}
 use Rattle.rows.specs.Values.{padded}
 use Rattle.elements.proofs.Answers.{in-rows}
-use Rattle.fields.specs.Plain.{spread}
+use Rattle.fields.specs.PlainFields.{spread}
 use Rattle.fields.proofs.values_in.Statement.{statement}
 use Rattle.fields.proofs.values_in.Tie as tie
 

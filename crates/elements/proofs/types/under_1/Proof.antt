@@ -3,14 +3,14 @@
 use mathlib.Core.Path.{sym, ap}
 use Prim.Native.Nat.{ℕ}
 use Rattle.kinds.specs.Kinds.{findIn}
-use Rattle.kinds.proofs.Lookup.{vain}
+use Rattle.kinds.proofs.Lookup.{not-found}
 use Rattle.elements.specs.Types.{typesUnder1}
 use Rattle.elements.proofs.types.under_1.Statement.{statement}
 use Rattle.elements.proofs.types.under_1.Tie as tie
 
 other : tie.Need-returns-12
 other c =
-    vain (c .before .args .ty) typesUnder1 (
+    not-found (c .before .args .ty) typesUnder1 (
       c .match .rest .0 .0 .0 .0 .0 .0 .0 .0 .0 .0 .1,
       (
         c .match .rest .0 .0 .0 .0 .0 .0 .0 .0 .0 .1,

@@ -3,14 +3,14 @@
 use mathlib.Core.Path.{sym, ap}
 use Prim.Native.Nat.{ℕ}
 use Rattle.kinds.specs.Kinds.{findIn}
-use Rattle.kinds.proofs.Lookup.{vain}
+use Rattle.kinds.proofs.Lookup.{not-found}
 use Rattle.elements.specs.Types.{typesUnder3}
 use Rattle.elements.proofs.types.under_3.Statement.{statement}
 use Rattle.elements.proofs.types.under_3.Tie as tie
 
 other : tie.Need-returns-8
 other c =
-    vain (c .before .args .ty) typesUnder3 (
+    not-found (c .before .args .ty) typesUnder3 (
       c .match .rest .0 .0 .0 .0 .0 .0 .1,
       (
         c .match .rest .0 .0 .0 .0 .0 .1,

@@ -1,10 +1,10 @@
--- `gateway::calls::check_alone` meets its contract, test by test.
+-- `gateway::calls::check_element_alone` meets its contract, test by test.
 -- Assumes nothing.
 use native.Mathlib.Omega.{arith}
 use borrow.Author.Needs.{needs}
 use Rattle.gateway.proofs.CallLaws.{element-3, element-5, element-8, element-refused, element-good}
-use Rattle.gateway.proofs.calls.check_alone.Statement.{statement}
-use Rattle.gateway.proofs.calls.check_alone.Tie as tie
+use Rattle.gateway.proofs.calls.check_element_alone.Statement.{statement}
+use Rattle.gateway.proofs.calls.check_element_alone.Tie as tie
 
 returns : tie.Need-returns
 returns c = search element-3
@@ -21,8 +21,8 @@ returns-4 c = search element-refused
 returns-5 : tie.Need-returns-5
 returns-5 c = search element-good
 
-pub check-alone-spec : {M : Type 1} → statement M
-check-alone-spec =
+pub check-element-alone-spec : {M : Type 1} → statement M
+check-element-alone-spec =
     tie.close
     (tie.spec
     (λ c κs. search needs)
