@@ -4,27 +4,30 @@
 use Prim.Native.Nat.{ℕ, suc, _+_, _*_, _^_, _≤_, _<_}
 use native.Mathlib.Nat.{zero-add}
 use mathlib.Core.Path.{_≡_, refl, sym, ap, _∙_}
+use mathlib.Core.Bool.{true}
 use mathlib.Core.List.{List, [], _∷_, _++_, map, zipWith}
 use mathlib.Core.Logic.{_↔_, Iff·trans}
-use lib.ListN.{length, getD}
+use lib.ListN.{length, drop, getD}
 use Rattle.kinds.specs.Kinds.{kindIn}
 use Rattle.elements.specs.Elements.{stateOf, wordOf}
 use Rattle.elements.proofs.DatLaws.{Stale}
 use Rattle.kinds.specs.declared.Element.{Element}
 use Rattle.octets.specs.Octets.{Bytes}
 use Rattle.history.specs.Verdict.{Refused, naming, refused, done, refusal}
-use Rattle.history.specs.Table.{Table, tableBytes, Plan, kindAt, LegalTable}
-use Rattle.history.specs.Image.{Image, imageBytes, LegalImage}
+use Rattle.history.specs.Form.{Form, readForm}
+use Rattle.history.specs.Table.{Table, tableBytes, Plan, kindAt, sameCatalogue, LegalTable}
+use Rattle.history.specs.Image.{Image, imageVersionGood, imageBytes, widths, elementsFrom, LegalImage}
 use Rattle.history.specs.declared.Change.the-variants.{Keep as keep}
 use Rattle.history.specs.Changes.{Changes, listBytes, LegalList, fits, meets, applied, join}
 use Rattle.history.specs.Calls.{readPlan, tableCall, imageCall, listCall, differenceCall, applyUnder, applyCall}
 use Rattle.history.specs.Calls.{joinUnder, joinCall, turnCall, placed, readStateCall, writeStateCall}
 use Rattle.history.proofs.VerdictLaws.{Lowest, passed-up}
 use Rattle.history.proofs.OperationLaws.{one-version, keeps-version, late-exactly as late, gap-exactly as gap}
-use Rattle.history.proofs.OperationLaws.{apart-exactly as apart, names-old, names-meeting}
+use Rattle.history.proofs.OperationLaws.{apart-exactly as apart, old-exactly as old, meeting-exactly as meeting}
 use Rattle.history.proofs.TableLaws.{table-form, plan-fair}
 use Rattle.history.proofs.EntryLaws.{FirstNotCarried, FirstRepeat, table-others, table-repeats}
 use Rattle.history.proofs.ImageLaws.{image-form}
+use Rattle.history.proofs.LowestLaws.{RefusedFirst, image-refused}
 use Rattle.history.proofs.ListLaws.{list-form}
 use Rattle.history.proofs.CallLaws.{accepted-image, accepted-list, turn-is, image-accepted, list-accepted}
 use Rattle.history.proofs.CallLaws.{difference-is, difference-list, difference-applies, only-difference-applies}
@@ -60,6 +63,13 @@ module _ (T : List ℕ) {p : Plan} (t : readPlan T ≡ done p) where
       → (imageCall T A ≡ done a) ↔ (LegalImage p a × (A ≡ imageBytes p a))
   unfolding imageCall
   image-exactly A h a = rw t (image-form p (plan-fair T t) A h a)
+
+  -- 10, 11, 12: an image with a good head and the right length is refused exactly where an element is, as the first is
+  pub lowest-element : (A : List ℕ) {f : Form} → readForm 7 imageVersionGood A ≡ done f → sameCatalogue f p ≡ true
+      → length (f .contents) ≡ elementsFrom (f .version) + widths (p .kinds) → (r : Refused)
+      → (imageCall T A ≡ refused r) ↔ RefusedFirst 0 (p .kinds) (drop (elementsFrom (f .version)) (f .contents)) r
+  unfolding imageCall
+  lowest-element A e c long r = rw t (image-refused p A e c long r)
 
   pub list-exactly : (L : List ℕ) → Bytes L → (l : Changes)
       → (listCall T L ≡ done l) ↔ (LegalList p l × (L ≡ listBytes p l))
@@ -217,16 +227,18 @@ pub apart-exactly : (T L M : List ℕ) {l m : Changes} → listCall T L ≡ done
     → (joinCall T L M ≡ refusal 19) ↔ (l .to ≡ m .from → ⊥)
 apart-exactly T L M {l} {m} el em = Iff·trans (join-refused T L M el em) (apart l m)
 
--- 18: the lowest object whose old element is not the image's
-pub names-lowest-old : (T A L : List ℕ) {a : Image} {l : Changes} {j bit : ℕ} → imageCall T A ≡ done a
-    → listCall T L ≡ done l
-    → applyCall T A L ≡ refused (naming 18 j bit) → Lowest fits keep 0 (l .each) (a .words) j × (bit ≡ 255)
-names-lowest-old T A L {a} {l} ea el e = names-old l a (apply-refused T A L ea el .0 e)
+-- 18 exactly where the list starts at the image's position and some old element is not the image's; the lowest is named
+pub old-exactly : (T A L : List ℕ) {a : Image} {l : Changes} → imageCall T A ≡ done a → listCall T L ≡ done l
+    → (j bit : ℕ)
+    → (applyCall T A L ≡ refused (naming 18 j bit))
+    ↔ ((l .from ≡ a .position) × Lowest fits keep 0 (l .each) (a .words) j × (bit ≡ 255))
+old-exactly T A L {a} {l} ea el j bit = Iff·trans (apply-refused T A L ea el) (old l a j bit)
 
--- 20: the lowest object whose new element in the first is not its old one in the second
-pub names-lowest-meeting : (T L M : List ℕ) {l m : Changes} {j bit : ℕ} → listCall T L ≡ done l → listCall T M ≡ done m
-    → joinCall T L M ≡ refused (naming 20 j bit) → Lowest meets keep keep (l .each) (m .each) j × (bit ≡ 255)
-names-lowest-meeting T L M {l} {m} el em e = names-meeting l m (join-refused T L M el em .0 e)
+-- 20 exactly where the positions meet and some new element in the first is not its old one in the second; likewise
+pub meeting-exactly : (T L M : List ℕ) {l m : Changes} → listCall T L ≡ done l → listCall T M ≡ done m → (j bit : ℕ)
+    → (joinCall T L M ≡ refused (naming 20 j bit))
+    ↔ ((l .to ≡ m .from) × Lowest meets keep keep (l .each) (m .each) j × (bit ≡ 255))
+meeting-exactly T L M {l} {m} el em j bit = Iff·trans (join-refused T L M el em) (meeting l m j bit)
 
 -- ---- demand 2, on images
 

@@ -4,6 +4,7 @@ pub mod OperationLaws
 pub mod FormLaws
 pub mod ElementLaws
 pub mod ImageLaws
+pub mod LowestLaws
 pub mod ListLaws
 pub mod TableLaws
 pub mod EntryLaws

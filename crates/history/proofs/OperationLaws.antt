@@ -9,7 +9,7 @@ use lib.Dec.{eqb, leb}
 use borrow.Author.Tests.{eq-eqb, ne-eqb, eqb-true, eqb-false, le-leb, lt-leb, leb-true, leb-false}
 use native.Mathlib.Nat.{le-antisymm, zero-add}
 use Rattle.kinds.specs.declared.Kind.{Kind}
-use Rattle.history.specs.Verdict.{Refused, naming, refused, done, refusal, refusalAt}
+use Rattle.history.specs.Verdict.{Refused, naming, refused, done, refusal}
 use Rattle.history.specs.Table.{Plan}
 use Rattle.history.specs.Image.{Image, imageVersionGood, admits, Every, nil, and, LegalImage}
 use Rattle.history.specs.declared.Change.{Change}
@@ -237,42 +237,55 @@ apart-exactly l m = (
   (λ h. rw (ne-eqb (l .to) (m .from) h)),
 )
 
--- 18: the lowest object whose old element is not the image's
-pub names-old : (l : Changes) (a : Image) {j bit : ℕ} → applied l a ≡ refused (naming 18 j bit)
-    → Lowest fits keep 0 (l .each) (a .words) j × (bit ≡ 255)
+-- 18 exactly where the list starts at the image's position and some old element is not the image's; the lowest is named
+pub old-exactly : (l : Changes) (a : Image) (j bit : ℕ)
+    → (applied l a ≡ refused (naming 18 j bit))
+    ↔ ((l .from ≡ a .position) × Lowest fits keep 0 (l .each) (a .words) j × (bit ≡ 255))
 unfolding applied
-names-old l a {j} {bit} e =
-    let late = past (leb (a .position) (l .from)) _ _ (omega arith) e .1 in
-    let gap = past (leb (l .from) (a .position)) _ _ (omega arith) late .1 in
-    let n = names-lowest fits keep 0 18 (resultOf l a) 0 (l .each) (a .words) gap in (
-      rw (ap (λ (r : Refused). r .object) (n .named), zero-add (n .place)) (n .lowest),
-      ap (λ (r : Refused). r .bit) (n .named),
-    )
+old-exactly l a j bit = (names, refuses)
+  where
+    names : applied l a ≡ refused (naming 18 j bit)
+        → (l .from ≡ a .position) × Lowest fits keep 0 (l .each) (a .words) j × (bit ≡ 255)
+    names e =
+        let late = past (leb (a .position) (l .from)) _ _ (omega arith) e in
+        let gap = past (leb (l .from) (a .position)) _ _ (omega arith) (late .1) in
+        let below = leb-true (a .position) (l .from) (late .0) in
+        let above = leb-true (l .from) (a .position) (gap .0) in
+        let n = names-lowest fits keep 0 18 (resultOf l a) 0 (l .each) (a .words) (gap .1) in (
+          omega (arith, below, above),
+          rw (ap (λ (r : Refused). r .object) (n .named), zero-add (n .place)) (n .lowest),
+          ap (λ (r : Refused). r .bit) (n .named),
+        )
 
-pub refuses-old : (l : Changes) (a : Image) (j : ℕ) → l .from ≡ a .position → Lowest fits keep 0 (l .each) (a .words) j
-    → applied l a ≡ refusalAt 18 j
-unfolding applied
-refuses-old l a j e h =
-    rw (le-leb (a .position) (l .from) (omega arith), le-leb (l .from) (a .position) (omega arith))
-    (refuses-lowest fits keep 0 18 (resultOf l a) 0 (l .each) (a .words) j h ∙ rw (zero-add j))
+    refuses : (l .from ≡ a .position) × Lowest fits keep 0 (l .each) (a .words) j × (bit ≡ 255)
+        → applied l a ≡ refused (naming 18 j bit)
+    refuses h =
+        let e = h .0 in
+        rw (le-leb (a .position) (l .from) (omega arith), le-leb (l .from) (a .position) (omega arith), h .2)
+        (refuses-lowest fits keep 0 18 (resultOf l a) 0 (l .each) (a .words) j (h .1) ∙ rw (zero-add j))
 
--- 20: the lowest object whose new element in the first is not its old one in the second
-pub names-meeting : (l m : Changes) {j bit : ℕ} → join l m ≡ refused (naming 20 j bit)
-    → Lowest meets keep keep (l .each) (m .each) j × (bit ≡ 255)
+-- 20 exactly where the positions meet and some new element in the first is not its old one in the second; likewise
+pub meeting-exactly : (l m : Changes) (j bit : ℕ)
+    → (join l m ≡ refused (naming 20 j bit))
+    ↔ ((l .to ≡ m .from) × Lowest meets keep keep (l .each) (m .each) j × (bit ≡ 255))
 unfolding join
-names-meeting l m {j} {bit} e =
-    let place = past (eqb (l .to) (m .from)) _ _ (omega arith) e .1 in
-    let n = names-lowest meets keep keep 20 (jointOf l m) 0 (l .each) (m .each) place in (
-      rw (ap (λ (r : Refused). r .object) (n .named), zero-add (n .place)) (n .lowest),
-      ap (λ (r : Refused). r .bit) (n .named),
-    )
+meeting-exactly l m j bit = (names, refuses)
+  where
+    names : join l m ≡ refused (naming 20 j bit)
+        → (l .to ≡ m .from) × Lowest meets keep keep (l .each) (m .each) j × (bit ≡ 255)
+    names e =
+        let place = past (eqb (l .to) (m .from)) _ _ (omega arith) e in
+        let n = names-lowest meets keep keep 20 (jointOf l m) 0 (l .each) (m .each) (place .1) in (
+          eqb-true _ _ (place .0),
+          rw (ap (λ (r : Refused). r .object) (n .named), zero-add (n .place)) (n .lowest),
+          ap (λ (r : Refused). r .bit) (n .named),
+        )
 
-pub refuses-meeting : (l m : Changes) (j : ℕ) → l .to ≡ m .from → Lowest meets keep keep (l .each) (m .each) j
-    → join l m ≡ refusalAt 20 j
-unfolding join
-refuses-meeting l m j e h =
-    rw (eq-eqb (l .to) (m .from) e)
-    (refuses-lowest meets keep keep 20 (jointOf l m) 0 (l .each) (m .each) j h ∙ rw (zero-add j))
+    refuses : (l .to ≡ m .from) × Lowest meets keep keep (l .each) (m .each) j × (bit ≡ 255)
+        → join l m ≡ refused (naming 20 j bit)
+    refuses h =
+        rw (eq-eqb (l .to) (m .from) (h .0), h .2)
+        (refuses-lowest meets keep keep 20 (jointOf l m) 0 (l .each) (m .each) j (h .1) ∙ rw (zero-add j))
 
 -- ---- lists that some image takes in turn
 
