@@ -40,7 +40,7 @@ pub taken-in : (writeFieldsCall T A 1 2 (1 ∷ 2 ∷ replicate 30 0) 9 ≡ done 
     × (writeFieldsCall T A 7 2 (1 ∷ 4 ∷ replicate 30 0) 9 ≡ refused (naming 13 7 255))
     × (writeFieldsCall T A 1 2 (0 ∷ 1 ∷ replicate 30 0) 9 ≡ refused (naming 12 1 0))
 unfolding computed writeFieldsCall
-taken-in = search
+taken-in = (refl, refl, refl, refl, refl)
 
 -- a signal's number is 31 under catalogue 3.0 and 1 under 1.0: the other's is refused with 22
 pub other-signal : (writeFieldsCall T3 A3 0 1 (1 ∷ replicate 31 0) 7 ≡ refused (naming 22 0 255))
@@ -59,4 +59,4 @@ pub taken-orders : (writeFieldsCall (set T 6 1) (take 3 A) 7 4 (1 ∷ 4 ∷ repl
     × (writeFieldsCall T A 1 10 (1 ∷ 2 ∷ replicate 30 0) 9 ≡ refused (naming 22 1 255))
     × (writeFieldsCall T A 1 2 (1 ∷ 2 ∷ replicate 30 9) 9 ≡ done C)
 unfolding computed writeFieldsCall
-taken-orders = search
+taken-orders = (refl, refl, refl, refl, refl, refl, refl)

@@ -123,8 +123,9 @@ pub printed : (tableCall T
     × (told (imageCall T A) ≡ unnamed 0 0)
     × (told (imageCall T (set A 13 0x09)) ≡ numbers (naming 10 1 3) 0)
 unfolding computed
-printed = search
+printed = (refl, refl, refl, refl, refl, refl, refl, refl, refl, refl, refl, refl, refl, refl, refl, refl)
 
+-- 1 to 15: what the forms refuse, and the number of an object that is not there
 pub each-code : (tableCall (take 3 T) ≡ refused (naming 1 65535 255))
     × (tableCall (set T 4 2) ≡ refused (naming 2 65535 255))
     × (tableCall (set T 6 1) ≡ refused (naming 3 65535 255))
@@ -144,7 +145,12 @@ pub each-code : (tableCall (take 3 T) ≡ refused (naming 1 65535 255))
     × (writeStateCall T A 2 fixedT 9 ≡ refused (naming 13 2 255))
     × (listCall T (set BC 24 0) ≡ refused (naming 14 0 255))
     × (listCall T (set AB 22 1) ≡ refused (naming 15 0 255))
-    × (applyCall T C AB ≡ refused (naming 16 65535 255))
+unfolding computed
+each-code =
+    (refl, refl, refl, refl, refl, refl, refl, refl, refl, refl, refl, refl, refl, refl, refl, refl, refl, refl, refl)
+
+-- 16 to 22: what only operations and writing refuse, and 12 of a state handed in
+pub each-later-code : (applyCall T C AB ≡ refused (naming 16 65535 255))
     × (applyCall T A BC ≡ refused (naming 17 65535 255))
     × (applyCall T (set C 10 8) BC ≡ refused (naming 18 0 255))
     × (joinCall T AB AB ≡ refused (naming 19 65535 255))
@@ -155,7 +161,7 @@ pub each-code : (tableCall (take 3 T) ≡ refused (naming 1 65535 255))
     × (writeStateCall T A 1 (Element.ChangerSignal (record { current = false; aspect = ChangerAspect.FixedT })) 9
     ≡ refused (naming 12 1 0))
 unfolding computed
-each-code = search
+each-later-code = (refl, refl, refl, refl, refl, refl, refl, refl)
 
 -- what is named: the number of the object at fault, or for 13 the number that is no object's
 pub names-each : (tableCall (set T 17 10) ≡ refused (naming 5 1 255))
@@ -182,7 +188,8 @@ pub names-each : (tableCall (set T 17 10) ≡ refused (naming 5 1 255))
     (Element.VirtualBoard (record { current = true; aspect = BoardAspect.Red; «closing_commanded» = false })) 9
     ≡ refused (naming 22 1 255))
 unfolding computed
-names-each = search
+names-each =
+    (refl, refl, refl, refl, refl, refl, refl, refl, refl, refl, refl, refl, refl, refl, refl, refl, refl, refl)
 
 -- 8, wherever bytes are missing or left over; but a whole number past the objects is 13
 pub eights : (tableCall (0 ∷ 0 ∷ 0 ∷ 6 ∷ 1 ∷ 1 ∷ 0 ∷ 0 ∷ 1 ∷ 2 ∷ []) ≡ refused (naming 8 65535 255))
@@ -193,7 +200,7 @@ pub eights : (tableCall (0 ∷ 0 ∷ 0 ∷ 6 ∷ 1 ∷ 1 ∷ 0 ∷ 0 ∷ 1 ∷ 2
     × (listCall T (set BC 24 0xFF) ≡ refused (naming 13 255 255))
     × (listCall T (set AC 18 0) ≡ refused (naming 8 65535 255))
 unfolding computed
-eights = search
+eights = (refl, refl, refl, refl, refl, refl, refl)
 
 -- of two faults the first in the paper's order is named
 pub first-fault : (tableCall (set (set T 4 2) 6 1) ≡ refused (naming 2 65535 255))
@@ -217,7 +224,8 @@ pub first-fault : (tableCall (set (set T 4 2) 6 1) ≡ refused (naming 2 65535 2
     ≡ refused (naming 22 0 255))
     × (settled (writeStateCall T A 7 fixedT 9) [] .answer ≡ numbers (naming 13 7 255) 0)
 unfolding computed
-first-fault = search
+first-fault =
+    (refl, refl, refl, refl, refl, refl, refl, refl, refl, refl, refl, refl, refl, refl, refl, refl, refl, refl, refl)
 
 -- two faults at once in a form: each test before the one that follows it, each entry before the
 -- next and before bytes that are left over
@@ -243,7 +251,7 @@ pub orders : (tableCall (set (T ++ (0 ∷ [])) 4 2) ≡ refused (naming 1 65535 
     × (listCall T (set (set BC 22 0x31) 24 7) ≡ refused (naming 15 0 255))
     × (listCall T (set (set (AB ++ (0 ∷ [])) 3 0x14) 22 0x01) ≡ refused (naming 15 0 255))
 unfolding computed
-orders = search
+orders = (refl, refl, refl, refl, refl, refl, refl, refl, refl, refl, refl, refl, refl, refl, refl, refl)
 
 -- at the edges: the least lengths, 5, 7 and 13; an entry of two bytes and no more;
 -- labels of 1 and 32 bytes that are cut; one byte missing
@@ -262,7 +270,7 @@ pub edges : (tableCall (0 ∷ 0 ∷ 0 ∷ 4 ∷ 1 ∷ 1 ∷ 0 ∷ 0 ∷ []) ≡ 
     × (tableCall (0 ∷ 0 ∷ 0 ∷ 9 ∷ 1 ∷ 1 ∷ 0 ∷ 0 ∷ 1 ∷ 2 ∷ 3 ∷ 0x41 ∷ 0x3A ∷ []) ≡ refused (naming 8 65535 255))
     × (listCall T (set (take 22 AB) 3 0x12) ≡ refused (naming 8 65535 255))
 unfolding computed
-edges = search
+edges = (refl, refl, refl, refl, refl, refl, refl, refl, refl, refl, refl, refl)
 
 -- order in a call: the table before all else, each form before what is asked of it, a gap before the values
 pub call-orders : (listCall (set T 6 1) (take 3 AB) ≡ refused (naming 3 65535 255))
@@ -278,7 +286,7 @@ pub call-orders : (listCall (set T 6 1) (take 3 AB) ≡ refused (naming 3 65535 
     × (writeStateCall T (set A 13 0x09) 7 fixedT 9 ≡ refused (naming 10 1 3))
     × (labelCall (set T 6 1) 7 ≡ refused (naming 3 65535 255))
 unfolding computed
-call-orders = search
+call-orders = (refl, refl, refl, refl, refl, refl, refl, refl, refl, refl, refl, refl)
 
 -- what the forms may hold: label bytes 33 to 126 with a colon inside, at most 32; version 1; catalogues 1.0 and 3.0
 pub limits : (map firstColon ((65 ∷ 58 ∷ 58 ∷ []) ∷ (65 ∷ 66 ∷ []) ∷ []) ≡ 1 ∷ 2 ∷ [])
@@ -293,7 +301,7 @@ pub limits : (map firstColon ((65 ∷ 58 ∷ 58 ∷ []) ∷ (65 ∷ 66 ∷ []) �
     × (map (catalogueGood 3) (0 ∷ 1 ∷ 2 ∷ []) ≡ true ∷ false ∷ false ∷ [])
     × (map (λ (x : ℕ). catalogueGood x 0) (0 ∷ 2 ∷ 4 ∷ 255 ∷ []) ≡ false ∷ false ∷ false ∷ false ∷ [])
 unfolding computed
-limits = search
+limits = (refl, refl, refl, refl, refl, refl, refl, refl)
 
 -- "A join that drops an object also applies to images that refuse the steps": the join of AB and BC drops object 0
 pub trap : (joinCall T AB BC ≡ done AC) × (applyCall T X AB ≡ refused (naming 18 0 255)) × (applyCall T X AC ≡ done Y)
@@ -334,7 +342,7 @@ pub received-each : (receiveCall T A AB (A ++ (5 ∷ [])) fresh
     × (receiveCall T A AB B brim .standing ≡ brim)
     × (receiveCall T A AB B (record { applied = 4294967294; late = 1; gap = 2; other = 3 }) .standing ≡ brim)
 unfolding computed
-received-each = search
+received-each = (refl, refl, refl, refl, refl, refl, refl)
 
 -- ---- catalogue 3.0: a signal and a changer signal. The signal's EAR is active; then it is green, its F flashes green
 -- and its router is in automatic block; then it is as it was at first, and the changer signal has changed
@@ -459,11 +467,10 @@ pub new-catalogue : (tableCall T3
     × (readStateCall T3 A3 1 ≡ done fixedT)
     × (writeStateCall T1 A1 1 fixedT 7 ≡ done A1)
 unfolding computed
-new-catalogue = search
+new-catalogue = (refl, refl, refl, refl, refl, refl, refl, refl, refl, refl, refl, refl, refl, refl)
 
 -- 3: neither 1.0 nor 3.0; 5: types 8, 9, 22 and 23, naming the object; 9: an image or a list of another catalogue; 11:
--- GRP_ARS 3; 10 and 11: bits 31 and 3 of a 3.0 signal, under 1.0; 12: no data, and EAR active; 22, before 12: a signal
--- of one catalogue under the other
+-- GRP_ARS 3; 10 and 11: bits 31 and 3 of a 3.0 signal, under 1.0; 12: no data, and EAR active
 pub new-refusals : (tableCall (set T3 5 2) ≡ refused (naming 3 65535 255))
     × (tableCall (set T3 5 0) ≡ refused (naming 3 65535 255))
     × (tableCall (set T3 6 1) ≡ refused (naming 3 65535 255))
@@ -481,10 +488,14 @@ pub new-refusals : (tableCall (set T3 5 2) ≡ refused (naming 3 65535 255))
     × (imageCall T1 (set A1 11 0x80) ≡ refused (naming 10 0 31))
     × (imageCall T1 (set A1 14 0x09) ≡ refused (naming 11 0 1))
     × (imageCall T3 (set A3 14 0x08) ≡ refused (naming 12 0 0))
-    × (writeStateCall T3 A3 0 (Element.Signal (green true)) 8 ≡ refused (naming 22 0 255))
+unfolding computed
+new-refusals = (refl, refl, refl, refl, refl, refl, refl, refl, refl, refl, refl, refl, refl, refl, refl, refl, refl)
+
+-- 22, before 12: a signal of one catalogue under the other; 12: no data, and EAR active
+pub new-states : (writeStateCall T3 A3 0 (Element.Signal (green true)) 8 ≡ refused (naming 22 0 255))
     × (writeStateCall T1 A1 0 (Element.SignalV3 (routed true)) 8 ≡ refused (naming 22 0 255))
     × (writeStateCall T3 A3 0 (Element.Signal (green false)) 8 ≡ refused (naming 22 0 255))
     × (writeStateCall T1 A1 0 (Element.SignalV3 (routed false)) 8 ≡ refused (naming 22 0 255))
     × (writeStateCall T3 A3 0 (Element.SignalV3 (routed false)) 8 ≡ refused (naming 12 0 0))
 unfolding computed
-new-refusals = search
+new-states = (refl, refl, refl, refl, refl)
