@@ -4,21 +4,21 @@
 use mathlib.Core.Path.{◌≡◌, refl}
 use Prim.Native.Nat.{ℕ}
 use Rattle.rows.proofs.Listed.{listed, named}
-use Rattle.cases.specs.Cases.{signalKindCases, signalKindOf, signalKindNo, signalAspectCases, signalAspectOf}
-use Rattle.cases.specs.Cases.{signalAspectNo, mixedGaugeIndicationCases, mixedGaugeIndicationOf}
-use Rattle.cases.specs.Cases.{mixedGaugeIndicationNo, autoRouteIndicationCases, autoRouteIndicationOf}
-use Rattle.cases.specs.Cases.{autoRouteIndicationNo, changerAspectCases, changerAspectOf, changerAspectNo}
-use Rattle.cases.specs.Cases.{boardAspectCases, boardAspectOf, boardAspectNo, sectionOccupancyCases}
-use Rattle.cases.specs.Cases.{sectionOccupancyOf, sectionOccupancyNo, overlapCases, overlapOf, overlapNo}
-use Rattle.cases.specs.Cases.{gaugePresenceCases, gaugePresenceOf, gaugePresenceNo, pointsSectionOccupancyCases}
-use Rattle.cases.specs.Cases.{pointsSectionOccupancyOf, pointsSectionOccupancyNo, legOccupancyCases}
-use Rattle.cases.specs.Cases.{legOccupancyOf, legOccupancyNo, legShownCases, legShownOf, legShownNo}
-use Rattle.cases.specs.Cases.{pointsDetectionCases, pointsDetectionOf, pointsDetectionNo, pointsLockingCases}
-use Rattle.cases.specs.Cases.{pointsLockingOf, pointsLockingNo, heaterIndicationCases, heaterIndicationOf}
-use Rattle.cases.specs.Cases.{heaterIndicationNo, earthFaultIndicationCases, earthFaultIndicationOf}
-use Rattle.cases.specs.Cases.{earthFaultIndicationNo, boundaryMovementCases, boundaryMovementOf}
-use Rattle.cases.specs.Cases.{boundaryMovementNo, autoRouteCases, autoRouteOf, autoRouteNo, routerIndicationCases}
-use Rattle.cases.specs.Cases.{routerIndicationOf, routerIndicationNo}
+use Rattle.cases.specs.Cases.{signal_kind_cases, signal_kind_of, signal_kind_no, signal_aspect_cases, signal_aspect_of}
+use Rattle.cases.specs.Cases.{signal_aspect_no, mixed_gauge_indication_cases, mixed_gauge_indication_of}
+use Rattle.cases.specs.Cases.{mixed_gauge_indication_no, auto_route_indication_cases, auto_route_indication_of}
+use Rattle.cases.specs.Cases.{auto_route_indication_no, changer_aspect_cases, changer_aspect_of, changer_aspect_no}
+use Rattle.cases.specs.Cases.{board_aspect_cases, board_aspect_of, board_aspect_no, section_occupancy_cases}
+use Rattle.cases.specs.Cases.{section_occupancy_of, section_occupancy_no, overlap_cases, overlap_of, overlap_no}
+use Rattle.cases.specs.Cases.{gauge_presence_cases, gauge_presence_of, gauge_presence_no, points_section_occupancy_cases}
+use Rattle.cases.specs.Cases.{points_section_occupancy_of, points_section_occupancy_no, leg_occupancy_cases}
+use Rattle.cases.specs.Cases.{leg_occupancy_of, leg_occupancy_no, leg_shown_cases, leg_shown_of, leg_shown_no}
+use Rattle.cases.specs.Cases.{points_detection_cases, points_detection_of, points_detection_no, points_locking_cases}
+use Rattle.cases.specs.Cases.{points_locking_of, points_locking_no, heater_indication_cases, heater_indication_of}
+use Rattle.cases.specs.Cases.{heater_indication_no, earth_fault_indication_cases, earth_fault_indication_of}
+use Rattle.cases.specs.Cases.{earth_fault_indication_no, boundary_movement_cases, boundary_movement_of}
+use Rattle.cases.specs.Cases.{boundary_movement_no, auto_route_cases, auto_route_of, auto_route_no, router_indication_cases}
+use Rattle.cases.specs.Cases.{router_indication_of, router_indication_no}
 use Rattle.cases.specs.declared.SignalKind.{SignalKind}
 use Rattle.cases.specs.declared.SignalAspect.{SignalAspect}
 use Rattle.cases.specs.declared.MixedGaugeIndication.{MixedGaugeIndication}
@@ -39,189 +39,189 @@ use Rattle.cases.specs.declared.BoundaryMovement.{BoundaryMovement}
 use Rattle.cases.specs.declared.AutoRoute.{AutoRoute}
 use Rattle.cases.specs.declared.RouterIndication.{RouterIndication}
 
-pub signalKind-listed : (v : ℕ) → signalKindNo (signalKindOf v) ≡ listed 3 v
-signalKind-listed = named signalKindNo signalKindCases SignalKind.Unknown 3 tt refl refl
+pub signal_kind_listed : (v : ℕ) → signal_kind_no (signal_kind_of v) ≡ listed 3 v
+signal_kind_listed = named signal_kind_no signal_kind_cases SignalKind.Unknown 3 tt refl refl
 
-pub signalKind-back : (c : SignalKind) → signalKindOf (signalKindNo c) ≡ c
-signalKind-back SignalKind.Unknown = refl
-signalKind-back SignalKind.HighNoWhiteNoBlue = refl
-signalKind-back SignalKind.HighWhiteOrBlue = refl
-signalKind-back SignalKind.Low = refl
+pub signal_kind_back : (c : SignalKind) → signal_kind_of (signal_kind_no c) ≡ c
+signal_kind_back SignalKind.Unknown = refl
+signal_kind_back SignalKind.HighNoWhiteNoBlue = refl
+signal_kind_back SignalKind.HighWhiteOrBlue = refl
+signal_kind_back SignalKind.Low = refl
 
-pub signalAspect-listed : (v : ℕ) → signalAspectNo (signalAspectOf v) ≡ listed 12 v
-signalAspect-listed = named signalAspectNo signalAspectCases SignalAspect.Dark 12 tt refl refl
+pub signal_aspect_listed : (v : ℕ) → signal_aspect_no (signal_aspect_of v) ≡ listed 12 v
+signal_aspect_listed = named signal_aspect_no signal_aspect_cases SignalAspect.Dark 12 tt refl refl
 
-pub signalAspect-back : (c : SignalAspect) → signalAspectOf (signalAspectNo c) ≡ c
-signalAspect-back SignalAspect.Dark = refl
-signalAspect-back SignalAspect.Red = refl
-signalAspect-back SignalAspect.RedBlue = refl
-signalAspect-back SignalAspect.RedBlueFlashing = refl
-signalAspect-back SignalAspect.RedWhite = refl
-signalAspect-back SignalAspect.RedWhiteFlashing = refl
-signalAspect-back SignalAspect.White = refl
-signalAspect-back SignalAspect.WhiteFlashing = refl
-signalAspect-back SignalAspect.Yellow = refl
-signalAspect-back SignalAspect.YellowFlashing = refl
-signalAspect-back SignalAspect.GreenYellow = refl
-signalAspect-back SignalAspect.Green = refl
-signalAspect-back SignalAspect.GreenFlashing = refl
+pub signal_aspect_back : (c : SignalAspect) → signal_aspect_of (signal_aspect_no c) ≡ c
+signal_aspect_back SignalAspect.Dark = refl
+signal_aspect_back SignalAspect.Red = refl
+signal_aspect_back SignalAspect.RedBlue = refl
+signal_aspect_back SignalAspect.RedBlueFlashing = refl
+signal_aspect_back SignalAspect.RedWhite = refl
+signal_aspect_back SignalAspect.RedWhiteFlashing = refl
+signal_aspect_back SignalAspect.White = refl
+signal_aspect_back SignalAspect.WhiteFlashing = refl
+signal_aspect_back SignalAspect.Yellow = refl
+signal_aspect_back SignalAspect.YellowFlashing = refl
+signal_aspect_back SignalAspect.GreenYellow = refl
+signal_aspect_back SignalAspect.Green = refl
+signal_aspect_back SignalAspect.GreenFlashing = refl
 
-pub mixedGaugeIndication-listed : (v : ℕ) → mixedGaugeIndicationNo (mixedGaugeIndicationOf v) ≡ listed 7 v
-mixedGaugeIndication-listed =
-    named mixedGaugeIndicationNo mixedGaugeIndicationCases MixedGaugeIndication.NoThirdRail 7 tt refl refl
+pub mixed_gauge_indication_listed : (v : ℕ) → mixed_gauge_indication_no (mixed_gauge_indication_of v) ≡ listed 7 v
+mixed_gauge_indication_listed =
+    named mixed_gauge_indication_no mixed_gauge_indication_cases MixedGaugeIndication.NoThirdRail 7 tt refl refl
 
-pub mixedGaugeIndication-back : (c : MixedGaugeIndication) → mixedGaugeIndicationOf (mixedGaugeIndicationNo c) ≡ c
-mixedGaugeIndication-back MixedGaugeIndication.NoThirdRail = refl
-mixedGaugeIndication-back MixedGaugeIndication.AtRest = refl
-mixedGaugeIndication-back MixedGaugeIndication.UicMovementSet = refl
-mixedGaugeIndication-back MixedGaugeIndication.UicShuntSet = refl
-mixedGaugeIndication-back MixedGaugeIndication.UicOccupancyConflict = refl
-mixedGaugeIndication-back MixedGaugeIndication.ConventionalMovementSet = refl
-mixedGaugeIndication-back MixedGaugeIndication.ConventionalShuntSet = refl
-mixedGaugeIndication-back MixedGaugeIndication.ConventionalOccupancyConflict = refl
+pub mixed_gauge_indication_back : (c : MixedGaugeIndication) → mixed_gauge_indication_of (mixed_gauge_indication_no c) ≡ c
+mixed_gauge_indication_back MixedGaugeIndication.NoThirdRail = refl
+mixed_gauge_indication_back MixedGaugeIndication.AtRest = refl
+mixed_gauge_indication_back MixedGaugeIndication.UicMovementSet = refl
+mixed_gauge_indication_back MixedGaugeIndication.UicShuntSet = refl
+mixed_gauge_indication_back MixedGaugeIndication.UicOccupancyConflict = refl
+mixed_gauge_indication_back MixedGaugeIndication.ConventionalMovementSet = refl
+mixed_gauge_indication_back MixedGaugeIndication.ConventionalShuntSet = refl
+mixed_gauge_indication_back MixedGaugeIndication.ConventionalOccupancyConflict = refl
 
-pub autoRouteIndication-listed : (v : ℕ) → autoRouteIndicationNo (autoRouteIndicationOf v) ≡ listed 3 v
-autoRouteIndication-listed =
-    named autoRouteIndicationNo autoRouteIndicationCases AutoRouteIndication.GreenSteady 3 tt refl refl
+pub auto_route_indication_listed : (v : ℕ) → auto_route_indication_no (auto_route_indication_of v) ≡ listed 3 v
+auto_route_indication_listed =
+    named auto_route_indication_no auto_route_indication_cases AutoRouteIndication.GreenSteady 3 tt refl refl
 
-pub autoRouteIndication-back : (c : AutoRouteIndication) → autoRouteIndicationOf (autoRouteIndicationNo c) ≡ c
-autoRouteIndication-back AutoRouteIndication.GreenSteady = refl
-autoRouteIndication-back AutoRouteIndication.GreenFlashing = refl
-autoRouteIndication-back AutoRouteIndication.RedSteady = refl
-autoRouteIndication-back AutoRouteIndication.RedFlashing = refl
+pub auto_route_indication_back : (c : AutoRouteIndication) → auto_route_indication_of (auto_route_indication_no c) ≡ c
+auto_route_indication_back AutoRouteIndication.GreenSteady = refl
+auto_route_indication_back AutoRouteIndication.GreenFlashing = refl
+auto_route_indication_back AutoRouteIndication.RedSteady = refl
+auto_route_indication_back AutoRouteIndication.RedFlashing = refl
 
-pub changerAspect-listed : (v : ℕ) → changerAspectNo (changerAspectOf v) ≡ listed 3 v
-changerAspect-listed = named changerAspectNo changerAspectCases ChangerAspect.Dark 3 tt refl refl
+pub changer_aspect_listed : (v : ℕ) → changer_aspect_no (changer_aspect_of v) ≡ listed 3 v
+changer_aspect_listed = named changer_aspect_no changer_aspect_cases ChangerAspect.Dark 3 tt refl refl
 
-pub changerAspect-back : (c : ChangerAspect) → changerAspectOf (changerAspectNo c) ≡ c
-changerAspect-back ChangerAspect.Dark = refl
-changerAspect-back ChangerAspect.FixedT = refl
-changerAspect-back ChangerAspect.FixedC = refl
-changerAspect-back ChangerAspect.FlashingT = refl
+pub changer_aspect_back : (c : ChangerAspect) → changer_aspect_of (changer_aspect_no c) ≡ c
+changer_aspect_back ChangerAspect.Dark = refl
+changer_aspect_back ChangerAspect.FixedT = refl
+changer_aspect_back ChangerAspect.FixedC = refl
+changer_aspect_back ChangerAspect.FlashingT = refl
 
-pub boardAspect-listed : (v : ℕ) → boardAspectNo (boardAspectOf v) ≡ listed 2 v
-boardAspect-listed = named boardAspectNo boardAspectCases BoardAspect.Red 2 tt refl refl
+pub board_aspect_listed : (v : ℕ) → board_aspect_no (board_aspect_of v) ≡ listed 2 v
+board_aspect_listed = named board_aspect_no board_aspect_cases BoardAspect.Red 2 tt refl refl
 
-pub boardAspect-back : (c : BoardAspect) → boardAspectOf (boardAspectNo c) ≡ c
-boardAspect-back BoardAspect.Red = refl
-boardAspect-back BoardAspect.Blue = refl
-boardAspect-back BoardAspect.White = refl
+pub board_aspect_back : (c : BoardAspect) → board_aspect_of (board_aspect_no c) ≡ c
+board_aspect_back BoardAspect.Red = refl
+board_aspect_back BoardAspect.Blue = refl
+board_aspect_back BoardAspect.White = refl
 
-pub sectionOccupancy-listed : (v : ℕ) → sectionOccupancyNo (sectionOccupancyOf v) ≡ listed 3 v
-sectionOccupancy-listed = named sectionOccupancyNo sectionOccupancyCases SectionOccupancy.ClearIdle 3 tt refl refl
+pub section_occupancy_listed : (v : ℕ) → section_occupancy_no (section_occupancy_of v) ≡ listed 3 v
+section_occupancy_listed = named section_occupancy_no section_occupancy_cases SectionOccupancy.ClearIdle 3 tt refl refl
 
-pub sectionOccupancy-back : (c : SectionOccupancy) → sectionOccupancyOf (sectionOccupancyNo c) ≡ c
-sectionOccupancy-back SectionOccupancy.ClearIdle = refl
-sectionOccupancy-back SectionOccupancy.ClearMovementOrBlockSet = refl
-sectionOccupancy-back SectionOccupancy.ClearShuntSet = refl
-sectionOccupancy-back SectionOccupancy.Occupied = refl
+pub section_occupancy_back : (c : SectionOccupancy) → section_occupancy_of (section_occupancy_no c) ≡ c
+section_occupancy_back SectionOccupancy.ClearIdle = refl
+section_occupancy_back SectionOccupancy.ClearMovementOrBlockSet = refl
+section_occupancy_back SectionOccupancy.ClearShuntSet = refl
+section_occupancy_back SectionOccupancy.Occupied = refl
 
-pub overlap-listed : (v : ℕ) → overlapNo (overlapOf v) ≡ listed 2 v
-overlap-listed = named overlapNo overlapCases Overlap.NoOverlap 2 tt refl refl
+pub overlap_listed : (v : ℕ) → overlap_no (overlap_of v) ≡ listed 2 v
+overlap_listed = named overlap_no overlap_cases Overlap.NoOverlap 2 tt refl refl
 
-pub overlap-back : (c : Overlap) → overlapOf (overlapNo c) ≡ c
-overlap-back Overlap.NoOverlap = refl
-overlap-back Overlap.MovementOverlap = refl
-overlap-back Overlap.ShuntOverlap = refl
+pub overlap_back : (c : Overlap) → overlap_of (overlap_no c) ≡ c
+overlap_back Overlap.NoOverlap = refl
+overlap_back Overlap.MovementOverlap = refl
+overlap_back Overlap.ShuntOverlap = refl
 
-pub gaugePresence-listed : (v : ℕ) → gaugePresenceNo (gaugePresenceOf v) ≡ listed 4 v
-gaugePresence-listed = named gaugePresenceNo gaugePresenceCases GaugePresence.NotShown 4 tt refl refl
+pub gauge_presence_listed : (v : ℕ) → gauge_presence_no (gauge_presence_of v) ≡ listed 4 v
+gauge_presence_listed = named gauge_presence_no gauge_presence_cases GaugePresence.NotShown 4 tt refl refl
 
-pub gaugePresence-back : (c : GaugePresence) → gaugePresenceOf (gaugePresenceNo c) ≡ c
-gaugePresence-back GaugePresence.NotShown = refl
-gaugePresence-back GaugePresence.NoTrain = refl
-gaugePresence-back GaugePresence.UicTrain = refl
-gaugePresence-back GaugePresence.ConventionalTrain = refl
-gaugePresence-back GaugePresence.BothGauges = refl
+pub gauge_presence_back : (c : GaugePresence) → gauge_presence_of (gauge_presence_no c) ≡ c
+gauge_presence_back GaugePresence.NotShown = refl
+gauge_presence_back GaugePresence.NoTrain = refl
+gauge_presence_back GaugePresence.UicTrain = refl
+gauge_presence_back GaugePresence.ConventionalTrain = refl
+gauge_presence_back GaugePresence.BothGauges = refl
 
-pub pointsSectionOccupancy-listed : (v : ℕ) → pointsSectionOccupancyNo (pointsSectionOccupancyOf v) ≡ listed 1 v
-pointsSectionOccupancy-listed =
-    named pointsSectionOccupancyNo pointsSectionOccupancyCases PointsSectionOccupancy.Clear 1 tt refl refl
+pub points_section_occupancy_listed : (v : ℕ) → points_section_occupancy_no (points_section_occupancy_of v) ≡ listed 1 v
+points_section_occupancy_listed =
+    named points_section_occupancy_no points_section_occupancy_cases PointsSectionOccupancy.Clear 1 tt refl refl
 
-pub pointsSectionOccupancy-back : (c : PointsSectionOccupancy)
-    → pointsSectionOccupancyOf (pointsSectionOccupancyNo c) ≡ c
-pointsSectionOccupancy-back PointsSectionOccupancy.Clear = refl
-pointsSectionOccupancy-back PointsSectionOccupancy.Occupied = refl
+pub points_section_occupancy_back : (c : PointsSectionOccupancy)
+    → points_section_occupancy_of (points_section_occupancy_no c) ≡ c
+points_section_occupancy_back PointsSectionOccupancy.Clear = refl
+points_section_occupancy_back PointsSectionOccupancy.Occupied = refl
 
-pub legOccupancy-listed : (v : ℕ) → legOccupancyNo (legOccupancyOf v) ≡ listed 3 v
-legOccupancy-listed = named legOccupancyNo legOccupancyCases LegOccupancy.ClearIdle 3 tt refl refl
+pub leg_occupancy_listed : (v : ℕ) → leg_occupancy_no (leg_occupancy_of v) ≡ listed 3 v
+leg_occupancy_listed = named leg_occupancy_no leg_occupancy_cases LegOccupancy.ClearIdle 3 tt refl refl
 
-pub legOccupancy-back : (c : LegOccupancy) → legOccupancyOf (legOccupancyNo c) ≡ c
-legOccupancy-back LegOccupancy.ClearIdle = refl
-legOccupancy-back LegOccupancy.ClearMovementSet = refl
-legOccupancy-back LegOccupancy.ClearShuntSet = refl
-legOccupancy-back LegOccupancy.Occupied = refl
+pub leg_occupancy_back : (c : LegOccupancy) → leg_occupancy_of (leg_occupancy_no c) ≡ c
+leg_occupancy_back LegOccupancy.ClearIdle = refl
+leg_occupancy_back LegOccupancy.ClearMovementSet = refl
+leg_occupancy_back LegOccupancy.ClearShuntSet = refl
+leg_occupancy_back LegOccupancy.Occupied = refl
 
-pub legShown-listed : (v : ℕ) → legShownNo (legShownOf v) ≡ listed 2 v
-legShown-listed = named legShownNo legShownCases LegShown.NormalAndReverse 2 tt refl refl
+pub leg_shown_listed : (v : ℕ) → leg_shown_no (leg_shown_of v) ≡ listed 2 v
+leg_shown_listed = named leg_shown_no leg_shown_cases LegShown.NormalAndReverse 2 tt refl refl
 
-pub legShown-back : (c : LegShown) → legShownOf (legShownNo c) ≡ c
-legShown-back LegShown.NormalAndReverse = refl
-legShown-back LegShown.NormalOnly = refl
-legShown-back LegShown.ReverseOnly = refl
+pub leg_shown_back : (c : LegShown) → leg_shown_of (leg_shown_no c) ≡ c
+leg_shown_back LegShown.NormalAndReverse = refl
+leg_shown_back LegShown.NormalOnly = refl
+leg_shown_back LegShown.ReverseOnly = refl
 
-pub pointsDetection-listed : (v : ℕ) → pointsDetectionNo (pointsDetectionOf v) ≡ listed 4 v
-pointsDetection-listed = named pointsDetectionNo pointsDetectionCases PointsDetection.NotDetected 4 tt refl refl
+pub points_detection_listed : (v : ℕ) → points_detection_no (points_detection_of v) ≡ listed 4 v
+points_detection_listed = named points_detection_no points_detection_cases PointsDetection.NotDetected 4 tt refl refl
 
-pub pointsDetection-back : (c : PointsDetection) → pointsDetectionOf (pointsDetectionNo c) ≡ c
-pointsDetection-back PointsDetection.NotDetected = refl
-pointsDetection-back PointsDetection.CalledNormal = refl
-pointsDetection-back PointsDetection.CalledReverse = refl
-pointsDetection-back PointsDetection.DetectedNormal = refl
-pointsDetection-back PointsDetection.DetectedReverse = refl
+pub points_detection_back : (c : PointsDetection) → points_detection_of (points_detection_no c) ≡ c
+points_detection_back PointsDetection.NotDetected = refl
+points_detection_back PointsDetection.CalledNormal = refl
+points_detection_back PointsDetection.CalledReverse = refl
+points_detection_back PointsDetection.DetectedNormal = refl
+points_detection_back PointsDetection.DetectedReverse = refl
 
-pub pointsLocking-listed : (v : ℕ) → pointsLockingNo (pointsLockingOf v) ≡ listed 3 v
-pointsLocking-listed = named pointsLockingNo pointsLockingCases PointsLocking.Free 3 tt refl refl
+pub points_locking_listed : (v : ℕ) → points_locking_no (points_locking_of v) ≡ listed 3 v
+points_locking_listed = named points_locking_no points_locking_cases PointsLocking.Free 3 tt refl refl
 
-pub pointsLocking-back : (c : PointsLocking) → pointsLockingOf (pointsLockingNo c) ≡ c
-pointsLocking-back PointsLocking.Free = refl
-pointsLocking-back PointsLocking.Locked = refl
-pointsLocking-back PointsLocking.MovementRequired = refl
-pointsLocking-back PointsLocking.ReleasedForMaintenance = refl
+pub points_locking_back : (c : PointsLocking) → points_locking_of (points_locking_no c) ≡ c
+points_locking_back PointsLocking.Free = refl
+points_locking_back PointsLocking.Locked = refl
+points_locking_back PointsLocking.MovementRequired = refl
+points_locking_back PointsLocking.ReleasedForMaintenance = refl
 
-pub heaterIndication-listed : (v : ℕ) → heaterIndicationNo (heaterIndicationOf v) ≡ listed 3 v
-heaterIndication-listed = named heaterIndicationNo heaterIndicationCases HeaterIndication.NotShown 3 tt refl refl
+pub heater_indication_listed : (v : ℕ) → heater_indication_no (heater_indication_of v) ≡ listed 3 v
+heater_indication_listed = named heater_indication_no heater_indication_cases HeaterIndication.NotShown 3 tt refl refl
 
-pub heaterIndication-back : (c : HeaterIndication) → heaterIndicationOf (heaterIndicationNo c) ≡ c
-heaterIndication-back HeaterIndication.NotShown = refl
-heaterIndication-back HeaterIndication.Yellow = refl
-heaterIndication-back HeaterIndication.Green = refl
-heaterIndication-back HeaterIndication.RedFlashing = refl
+pub heater_indication_back : (c : HeaterIndication) → heater_indication_of (heater_indication_no c) ≡ c
+heater_indication_back HeaterIndication.NotShown = refl
+heater_indication_back HeaterIndication.Yellow = refl
+heater_indication_back HeaterIndication.Green = refl
+heater_indication_back HeaterIndication.RedFlashing = refl
 
-pub earthFaultIndication-listed : (v : ℕ) → earthFaultIndicationNo (earthFaultIndicationOf v) ≡ listed 2 v
-earthFaultIndication-listed =
-    named earthFaultIndicationNo earthFaultIndicationCases EarthFaultIndication.NotShown 2 tt refl refl
+pub earth_fault_indication_listed : (v : ℕ) → earth_fault_indication_no (earth_fault_indication_of v) ≡ listed 2 v
+earth_fault_indication_listed =
+    named earth_fault_indication_no earth_fault_indication_cases EarthFaultIndication.NotShown 2 tt refl refl
 
-pub earthFaultIndication-back : (c : EarthFaultIndication) → earthFaultIndicationOf (earthFaultIndicationNo c) ≡ c
-earthFaultIndication-back EarthFaultIndication.NotShown = refl
-earthFaultIndication-back EarthFaultIndication.EarthFault = refl
-earthFaultIndication-back EarthFaultIndication.TestRunning = refl
+pub earth_fault_indication_back : (c : EarthFaultIndication) → earth_fault_indication_of (earth_fault_indication_no c) ≡ c
+earth_fault_indication_back EarthFaultIndication.NotShown = refl
+earth_fault_indication_back EarthFaultIndication.EarthFault = refl
+earth_fault_indication_back EarthFaultIndication.TestRunning = refl
 
-pub boundaryMovement-listed : (v : ℕ) → boundaryMovementNo (boundaryMovementOf v) ≡ listed 6 v
-boundaryMovement-listed = named boundaryMovementNo boundaryMovementCases BoundaryMovement.AtRest 6 tt refl refl
+pub boundary_movement_listed : (v : ℕ) → boundary_movement_no (boundary_movement_of v) ≡ listed 6 v
+boundary_movement_listed = named boundary_movement_no boundary_movement_cases BoundaryMovement.AtRest 6 tt refl refl
 
-pub boundaryMovement-back : (c : BoundaryMovement) → boundaryMovementOf (boundaryMovementNo c) ≡ c
-boundaryMovement-back BoundaryMovement.AtRest = refl
-boundaryMovement-back BoundaryMovement.RouteSignalPending = refl
-boundaryMovement-back BoundaryMovement.RouteSignalOpen = refl
-boundaryMovement-back BoundaryMovement.OverrideSignalPending = refl
-boundaryMovement-back BoundaryMovement.OverrideSignalOpen = refl
-boundaryMovement-back BoundaryMovement.ShuntSignalPending = refl
-boundaryMovement-back BoundaryMovement.ShuntSignalOpen = refl
+pub boundary_movement_back : (c : BoundaryMovement) → boundary_movement_of (boundary_movement_no c) ≡ c
+boundary_movement_back BoundaryMovement.AtRest = refl
+boundary_movement_back BoundaryMovement.RouteSignalPending = refl
+boundary_movement_back BoundaryMovement.RouteSignalOpen = refl
+boundary_movement_back BoundaryMovement.OverrideSignalPending = refl
+boundary_movement_back BoundaryMovement.OverrideSignalOpen = refl
+boundary_movement_back BoundaryMovement.ShuntSignalPending = refl
+boundary_movement_back BoundaryMovement.ShuntSignalOpen = refl
 
-pub autoRoute-listed : (v : ℕ) → autoRouteNo (autoRouteOf v) ≡ listed 3 v
-autoRoute-listed = named autoRouteNo autoRouteCases AutoRoute.NotShown 3 tt refl refl
+pub auto_route_listed : (v : ℕ) → auto_route_no (auto_route_of v) ≡ listed 3 v
+auto_route_listed = named auto_route_no auto_route_cases AutoRoute.NotShown 3 tt refl refl
 
-pub autoRoute-back : (c : AutoRoute) → autoRouteOf (autoRouteNo c) ≡ c
-autoRoute-back AutoRoute.NotShown = refl
-autoRoute-back AutoRoute.GreenSteady = refl
-autoRoute-back AutoRoute.GreenFlashing = refl
-autoRoute-back AutoRoute.RedFlashing = refl
+pub auto_route_back : (c : AutoRoute) → auto_route_of (auto_route_no c) ≡ c
+auto_route_back AutoRoute.NotShown = refl
+auto_route_back AutoRoute.GreenSteady = refl
+auto_route_back AutoRoute.GreenFlashing = refl
+auto_route_back AutoRoute.RedFlashing = refl
 
-pub routerIndication-listed : (v : ℕ) → routerIndicationNo (routerIndicationOf v) ≡ listed 2 v
-routerIndication-listed = named routerIndicationNo routerIndicationCases RouterIndication.NotShown 2 tt refl refl
+pub router_indication_listed : (v : ℕ) → router_indication_no (router_indication_of v) ≡ listed 2 v
+router_indication_listed = named router_indication_no router_indication_cases RouterIndication.NotShown 2 tt refl refl
 
-pub routerIndication-back : (c : RouterIndication) → routerIndicationOf (routerIndicationNo c) ≡ c
-routerIndication-back RouterIndication.NotShown = refl
-routerIndication-back RouterIndication.ManualBlock = refl
-routerIndication-back RouterIndication.AutomaticBlock = refl
+pub router_indication_back : (c : RouterIndication) → router_indication_of (router_indication_no c) ≡ c
+router_indication_back RouterIndication.NotShown = refl
+router_indication_back RouterIndication.ManualBlock = refl
+router_indication_back RouterIndication.AutomaticBlock = refl

@@ -2,17 +2,17 @@
 // `number`, the value of a case. Written by catalogue/write.py from catalogue/cases.tsv. It checks nothing: a value
 // without a case is read as the first. Each arm of a match returns, which spares the check a local and a step.
 ghost use Rattle.std.specs.Prelude.{◌≡◌};
-ghost use Rattle.cases.specs.Cases.{signalKindOf, signalKindNo, signalAspectOf, signalAspectNo};
-ghost use Rattle.cases.specs.Cases.{mixedGaugeIndicationOf, mixedGaugeIndicationNo, autoRouteIndicationOf};
-ghost use Rattle.cases.specs.Cases.{autoRouteIndicationNo, changerAspectOf, changerAspectNo, boardAspectOf};
-ghost use Rattle.cases.specs.Cases.{boardAspectNo, sectionOccupancyOf, sectionOccupancyNo, overlapOf, overlapNo};
-ghost use Rattle.cases.specs.Cases.{gaugePresenceOf, gaugePresenceNo, pointsSectionOccupancyOf};
-ghost use Rattle.cases.specs.Cases.{pointsSectionOccupancyNo, legOccupancyOf, legOccupancyNo, legShownOf};
-ghost use Rattle.cases.specs.Cases.{legShownNo, pointsDetectionOf, pointsDetectionNo, pointsLockingOf};
-ghost use Rattle.cases.specs.Cases.{pointsLockingNo, heaterIndicationOf, heaterIndicationNo};
-ghost use Rattle.cases.specs.Cases.{earthFaultIndicationOf, earthFaultIndicationNo, boundaryMovementOf};
-ghost use Rattle.cases.specs.Cases.{boundaryMovementNo, autoRouteOf, autoRouteNo, routerIndicationOf};
-ghost use Rattle.cases.specs.Cases.{routerIndicationNo};
+ghost use Rattle.cases.specs.Cases.{signal_kind_of, signal_kind_no, signal_aspect_of, signal_aspect_no};
+ghost use Rattle.cases.specs.Cases.{mixed_gauge_indication_of, mixed_gauge_indication_no, auto_route_indication_of};
+ghost use Rattle.cases.specs.Cases.{auto_route_indication_no, changer_aspect_of, changer_aspect_no, board_aspect_of};
+ghost use Rattle.cases.specs.Cases.{board_aspect_no, section_occupancy_of, section_occupancy_no, overlap_of, overlap_no};
+ghost use Rattle.cases.specs.Cases.{gauge_presence_of, gauge_presence_no, points_section_occupancy_of};
+ghost use Rattle.cases.specs.Cases.{points_section_occupancy_no, leg_occupancy_of, leg_occupancy_no, leg_shown_of};
+ghost use Rattle.cases.specs.Cases.{leg_shown_no, points_detection_of, points_detection_no, points_locking_of};
+ghost use Rattle.cases.specs.Cases.{points_locking_no, heater_indication_of, heater_indication_no};
+ghost use Rattle.cases.specs.Cases.{earth_fault_indication_of, earth_fault_indication_no, boundary_movement_of};
+ghost use Rattle.cases.specs.Cases.{boundary_movement_no, auto_route_of, auto_route_no, router_indication_of};
+ghost use Rattle.cases.specs.Cases.{router_indication_no};
 
 #[derive(Drop)]
 pub enum SignalKind {
@@ -24,7 +24,7 @@ pub enum SignalKind {
 
 impl SignalKind {
     pub fn of(value: u32) -> SignalKind
-        ensures { result ≡ signalKindOf value }
+        ensures { result ≡ signal_kind_of value }
     {
         match value {
             0 => return SignalKind::Unknown,
@@ -36,7 +36,7 @@ impl SignalKind {
     }
 
     pub fn number(self) -> u32
-        ensures { result ≡ signalKindNo self }
+        ensures { result ≡ signal_kind_no self }
     {
         match self {
             SignalKind::Unknown => return 0,
@@ -66,7 +66,7 @@ pub enum SignalAspect {
 
 impl SignalAspect {
     pub fn of(value: u32) -> SignalAspect
-        ensures { result ≡ signalAspectOf value }
+        ensures { result ≡ signal_aspect_of value }
     {
         match value {
             0 => return SignalAspect::Dark,
@@ -87,7 +87,7 @@ impl SignalAspect {
     }
 
     pub fn number(self) -> u32
-        ensures { result ≡ signalAspectNo self }
+        ensures { result ≡ signal_aspect_no self }
     {
         match self {
             SignalAspect::Dark => return 0,
@@ -121,7 +121,7 @@ pub enum MixedGaugeIndication {
 
 impl MixedGaugeIndication {
     pub fn of(value: u32) -> MixedGaugeIndication
-        ensures { result ≡ mixedGaugeIndicationOf value }
+        ensures { result ≡ mixed_gauge_indication_of value }
     {
         match value {
             0 => return MixedGaugeIndication::NoThirdRail,
@@ -137,7 +137,7 @@ impl MixedGaugeIndication {
     }
 
     pub fn number(self) -> u32
-        ensures { result ≡ mixedGaugeIndicationNo self }
+        ensures { result ≡ mixed_gauge_indication_no self }
     {
         match self {
             MixedGaugeIndication::NoThirdRail => return 0,
@@ -162,7 +162,7 @@ pub enum AutoRouteIndication {
 
 impl AutoRouteIndication {
     pub fn of(value: u32) -> AutoRouteIndication
-        ensures { result ≡ autoRouteIndicationOf value }
+        ensures { result ≡ auto_route_indication_of value }
     {
         match value {
             0 => return AutoRouteIndication::GreenSteady,
@@ -174,7 +174,7 @@ impl AutoRouteIndication {
     }
 
     pub fn number(self) -> u32
-        ensures { result ≡ autoRouteIndicationNo self }
+        ensures { result ≡ auto_route_indication_no self }
     {
         match self {
             AutoRouteIndication::GreenSteady => return 0,
@@ -195,7 +195,7 @@ pub enum ChangerAspect {
 
 impl ChangerAspect {
     pub fn of(value: u32) -> ChangerAspect
-        ensures { result ≡ changerAspectOf value }
+        ensures { result ≡ changer_aspect_of value }
     {
         match value {
             0 => return ChangerAspect::Dark,
@@ -207,7 +207,7 @@ impl ChangerAspect {
     }
 
     pub fn number(self) -> u32
-        ensures { result ≡ changerAspectNo self }
+        ensures { result ≡ changer_aspect_no self }
     {
         match self {
             ChangerAspect::Dark => return 0,
@@ -227,7 +227,7 @@ pub enum BoardAspect {
 
 impl BoardAspect {
     pub fn of(value: u32) -> BoardAspect
-        ensures { result ≡ boardAspectOf value }
+        ensures { result ≡ board_aspect_of value }
     {
         match value {
             0 => return BoardAspect::Red,
@@ -238,7 +238,7 @@ impl BoardAspect {
     }
 
     pub fn number(self) -> u32
-        ensures { result ≡ boardAspectNo self }
+        ensures { result ≡ board_aspect_no self }
     {
         match self {
             BoardAspect::Red => return 0,
@@ -258,7 +258,7 @@ pub enum SectionOccupancy {
 
 impl SectionOccupancy {
     pub fn of(value: u32) -> SectionOccupancy
-        ensures { result ≡ sectionOccupancyOf value }
+        ensures { result ≡ section_occupancy_of value }
     {
         match value {
             0 => return SectionOccupancy::ClearIdle,
@@ -270,7 +270,7 @@ impl SectionOccupancy {
     }
 
     pub fn number(self) -> u32
-        ensures { result ≡ sectionOccupancyNo self }
+        ensures { result ≡ section_occupancy_no self }
     {
         match self {
             SectionOccupancy::ClearIdle => return 0,
@@ -290,7 +290,7 @@ pub enum Overlap {
 
 impl Overlap {
     pub fn of(value: u32) -> Overlap
-        ensures { result ≡ overlapOf value }
+        ensures { result ≡ overlap_of value }
     {
         match value {
             0 => return Overlap::NoOverlap,
@@ -301,7 +301,7 @@ impl Overlap {
     }
 
     pub fn number(self) -> u32
-        ensures { result ≡ overlapNo self }
+        ensures { result ≡ overlap_no self }
     {
         match self {
             Overlap::NoOverlap => return 0,
@@ -322,7 +322,7 @@ pub enum GaugePresence {
 
 impl GaugePresence {
     pub fn of(value: u32) -> GaugePresence
-        ensures { result ≡ gaugePresenceOf value }
+        ensures { result ≡ gauge_presence_of value }
     {
         match value {
             0 => return GaugePresence::NotShown,
@@ -335,7 +335,7 @@ impl GaugePresence {
     }
 
     pub fn number(self) -> u32
-        ensures { result ≡ gaugePresenceNo self }
+        ensures { result ≡ gauge_presence_no self }
     {
         match self {
             GaugePresence::NotShown => return 0,
@@ -355,7 +355,7 @@ pub enum PointsSectionOccupancy {
 
 impl PointsSectionOccupancy {
     pub fn of(value: u32) -> PointsSectionOccupancy
-        ensures { result ≡ pointsSectionOccupancyOf value }
+        ensures { result ≡ points_section_occupancy_of value }
     {
         match value {
             0 => return PointsSectionOccupancy::Clear,
@@ -365,7 +365,7 @@ impl PointsSectionOccupancy {
     }
 
     pub fn number(self) -> u32
-        ensures { result ≡ pointsSectionOccupancyNo self }
+        ensures { result ≡ points_section_occupancy_no self }
     {
         match self {
             PointsSectionOccupancy::Clear => return 0,
@@ -384,7 +384,7 @@ pub enum LegOccupancy {
 
 impl LegOccupancy {
     pub fn of(value: u32) -> LegOccupancy
-        ensures { result ≡ legOccupancyOf value }
+        ensures { result ≡ leg_occupancy_of value }
     {
         match value {
             0 => return LegOccupancy::ClearIdle,
@@ -396,7 +396,7 @@ impl LegOccupancy {
     }
 
     pub fn number(self) -> u32
-        ensures { result ≡ legOccupancyNo self }
+        ensures { result ≡ leg_occupancy_no self }
     {
         match self {
             LegOccupancy::ClearIdle => return 0,
@@ -416,7 +416,7 @@ pub enum LegShown {
 
 impl LegShown {
     pub fn of(value: u32) -> LegShown
-        ensures { result ≡ legShownOf value }
+        ensures { result ≡ leg_shown_of value }
     {
         match value {
             0 => return LegShown::NormalAndReverse,
@@ -427,7 +427,7 @@ impl LegShown {
     }
 
     pub fn number(self) -> u32
-        ensures { result ≡ legShownNo self }
+        ensures { result ≡ leg_shown_no self }
     {
         match self {
             LegShown::NormalAndReverse => return 0,
@@ -448,7 +448,7 @@ pub enum PointsDetection {
 
 impl PointsDetection {
     pub fn of(value: u32) -> PointsDetection
-        ensures { result ≡ pointsDetectionOf value }
+        ensures { result ≡ points_detection_of value }
     {
         match value {
             0 => return PointsDetection::NotDetected,
@@ -461,7 +461,7 @@ impl PointsDetection {
     }
 
     pub fn number(self) -> u32
-        ensures { result ≡ pointsDetectionNo self }
+        ensures { result ≡ points_detection_no self }
     {
         match self {
             PointsDetection::NotDetected => return 0,
@@ -483,7 +483,7 @@ pub enum PointsLocking {
 
 impl PointsLocking {
     pub fn of(value: u32) -> PointsLocking
-        ensures { result ≡ pointsLockingOf value }
+        ensures { result ≡ points_locking_of value }
     {
         match value {
             0 => return PointsLocking::Free,
@@ -495,7 +495,7 @@ impl PointsLocking {
     }
 
     pub fn number(self) -> u32
-        ensures { result ≡ pointsLockingNo self }
+        ensures { result ≡ points_locking_no self }
     {
         match self {
             PointsLocking::Free => return 0,
@@ -516,7 +516,7 @@ pub enum HeaterIndication {
 
 impl HeaterIndication {
     pub fn of(value: u32) -> HeaterIndication
-        ensures { result ≡ heaterIndicationOf value }
+        ensures { result ≡ heater_indication_of value }
     {
         match value {
             0 => return HeaterIndication::NotShown,
@@ -528,7 +528,7 @@ impl HeaterIndication {
     }
 
     pub fn number(self) -> u32
-        ensures { result ≡ heaterIndicationNo self }
+        ensures { result ≡ heater_indication_no self }
     {
         match self {
             HeaterIndication::NotShown => return 0,
@@ -548,7 +548,7 @@ pub enum EarthFaultIndication {
 
 impl EarthFaultIndication {
     pub fn of(value: u32) -> EarthFaultIndication
-        ensures { result ≡ earthFaultIndicationOf value }
+        ensures { result ≡ earth_fault_indication_of value }
     {
         match value {
             0 => return EarthFaultIndication::NotShown,
@@ -559,7 +559,7 @@ impl EarthFaultIndication {
     }
 
     pub fn number(self) -> u32
-        ensures { result ≡ earthFaultIndicationNo self }
+        ensures { result ≡ earth_fault_indication_no self }
     {
         match self {
             EarthFaultIndication::NotShown => return 0,
@@ -582,7 +582,7 @@ pub enum BoundaryMovement {
 
 impl BoundaryMovement {
     pub fn of(value: u32) -> BoundaryMovement
-        ensures { result ≡ boundaryMovementOf value }
+        ensures { result ≡ boundary_movement_of value }
     {
         match value {
             0 => return BoundaryMovement::AtRest,
@@ -597,7 +597,7 @@ impl BoundaryMovement {
     }
 
     pub fn number(self) -> u32
-        ensures { result ≡ boundaryMovementNo self }
+        ensures { result ≡ boundary_movement_no self }
     {
         match self {
             BoundaryMovement::AtRest => return 0,
@@ -621,7 +621,7 @@ pub enum AutoRoute {
 
 impl AutoRoute {
     pub fn of(value: u32) -> AutoRoute
-        ensures { result ≡ autoRouteOf value }
+        ensures { result ≡ auto_route_of value }
     {
         match value {
             0 => return AutoRoute::NotShown,
@@ -633,7 +633,7 @@ impl AutoRoute {
     }
 
     pub fn number(self) -> u32
-        ensures { result ≡ autoRouteNo self }
+        ensures { result ≡ auto_route_no self }
     {
         match self {
             AutoRoute::NotShown => return 0,
@@ -653,7 +653,7 @@ pub enum RouterIndication {
 
 impl RouterIndication {
     pub fn of(value: u32) -> RouterIndication
-        ensures { result ≡ routerIndicationOf value }
+        ensures { result ≡ router_indication_of value }
     {
         match value {
             0 => return RouterIndication::NotShown,
@@ -664,7 +664,7 @@ impl RouterIndication {
     }
 
     pub fn number(self) -> u32
-        ensures { result ≡ routerIndicationNo self }
+        ensures { result ≡ router_indication_no self }
     {
         match self {
             RouterIndication::NotShown => return 0,

@@ -5,21 +5,21 @@ use mathlib.Core.Path.{◌≡◌}
 use mathlib.Core.List.{List}
 use Rattle.history.specs.declared.Answer.{Answer}
 use Rattle.history.specs.Verdict.{Leaves}
-use Rattle.history.specs.Calls.{differenceCall, applyCall, joinCall, turnCall}
-use Rattle.history.proofs.OneOutcome.{one-pair}
+use Rattle.history.specs.Calls.{difference_call, apply_call, join_call, turn_call}
+use Rattle.history.proofs.OneOutcome.{one_pair}
 
 module _ (T out : List ℕ) {r r' : Answer} {m m' : List ℕ} where
-  pub one-difference : (A B : List ℕ) → Leaves (differenceCall T A B) out r m → Leaves (differenceCall T A B) out r' m'
+  pub one_difference : (A B : List ℕ) → Leaves (difference_call T A B) out r m → Leaves (difference_call T A B) out r' m'
       → (r ≡ r') × (m ≡ m')
-  one-difference A B = one-pair
+  one_difference A B = one_pair
 
-  pub one_apply : (A L : List ℕ) → Leaves (applyCall T A L) out r m → Leaves (applyCall T A L) out r' m'
+  pub one_apply : (A L : List ℕ) → Leaves (apply_call T A L) out r m → Leaves (apply_call T A L) out r' m'
       → (r ≡ r') × (m ≡ m')
-  one_apply A L = one-pair
+  one_apply A L = one_pair
 
-  pub one-join : (L M : List ℕ) → Leaves (joinCall T L M) out r m → Leaves (joinCall T L M) out r' m'
+  pub one_join : (L M : List ℕ) → Leaves (join_call T L M) out r m → Leaves (join_call T L M) out r' m'
       → (r ≡ r') × (m ≡ m')
-  one-join L M = one-pair
+  one_join L M = one_pair
 
-  pub one-turn : (L : List ℕ) → Leaves (turnCall T L) out r m → Leaves (turnCall T L) out r' m' → (r ≡ r') × (m ≡ m')
-  one-turn L = one-pair
+  pub one_turn : (L : List ℕ) → Leaves (turn_call T L) out r m → Leaves (turn_call T L) out r' m' → (r ≡ r') × (m ≡ m')
+  one_turn L = one_pair

@@ -9,236 +9,236 @@ use lib.Dec.{eqb, leb}
 use lib.ListN.{length}
 use borrow.Author.Tests.{eq-eqb, ne_eqb, le-leb, lt-leb}
 use Rattle.history.specs.declared.Answer.{Answer}
-use Rattle.history.specs.Verdict.{Verdict, refused, done, then, valueOr, refusal, refusalAt, unnamed, told}
-use Rattle.history.specs.Image.{Image, widths, wordsBytes, imageBytes, AcceptedImage}
-use Rattle.history.specs.Changes.{listBytes, AcceptedList, after, result_of, jointOf, difference, applied, join, turned}
-use Rattle.history.specs.Calls.{differenceUnder, applyUnder, joinUnder, turnUnder}
-use Rattle.history.proofs.CodeLaws.{Coded, applied-coded, zero-told}
-use Rattle.history.proofs.ImageLaws.{length-words}
+use Rattle.history.specs.Verdict.{Verdict, refused, done, then, value_or, refusal, refusal_at, unnamed, told}
+use Rattle.history.specs.Image.{Image, widths, words_bytes, image_bytes, AcceptedImage}
+use Rattle.history.specs.Changes.{list_bytes, AcceptedList, after, result_of, joint_of, difference, applied, join, turned}
+use Rattle.history.specs.Calls.{difference_under, apply_under, join_under, turn_under}
+use Rattle.history.proofs.CodeLaws.{Coded, applied_coded, zero_told}
+use Rattle.history.proofs.ImageLaws.{length_words}
 use Rattle.history.proofs.OperationLaws.{takes}
-use Rattle.tables.proofs.AnswerLaws.{told-done, told-then}
+use Rattle.tables.proofs.AnswerLaws.{told_done, told_then}
 use Rattle.steps.specs.declared.Walk.{Walk}
-use Rattle.tables.specs.Outlines.{kindsOf, planAs}
+use Rattle.tables.specs.Outlines.{kinds_of, plan_as}
 use Rattle.walks.specs.declared.Survey.{Survey}
 use Rattle.walks.specs.Walks.{Measured, Surveyed, misfit, unfit, renewal}
-use Rattle.walks.proofs.Bridges.{difference-walk, join-walk, turn-walk, turn-measured, join-misfit, apply-unfit}
-use Rattle.walks.proofs.Bridges.{found_at, renewal-is}
-use Rattle.forms.proofs.KindLaws.{length-kinds}
-use Rattle.walks.proofs.Application.{length-renewal}
-use Rattle.heads.specs.Heads.{imageHead, positionIn, elementsIn, fromIn, toIn, entryCountIn, entriesIn}
-use Rattle.heads.proofs.Parts.{position_in, elements-in, image-length, elements-length, from_in, to_in, count-in}
-use Rattle.heads.proofs.Parts.{entries-in}
-use Rattle.heads.proofs.WrittenLaws.{image-again}
-use Rattle.outputs.specs.Outputs.{walkList, imageAfter}
+use Rattle.walks.proofs.Bridges.{difference_walk, join_walk, turn_walk, turn_measured, join_misfit, apply_unfit}
+use Rattle.walks.proofs.Bridges.{found_at, renewal_is}
+use Rattle.forms.proofs.KindLaws.{length_kinds}
+use Rattle.walks.proofs.Application.{length_renewal}
+use Rattle.heads.specs.Heads.{image_head, position_in, elements_in, from_in, to_in, entry_count_in, entries_in}
+use Rattle.heads.proofs.Parts.{position_in_lem, elements_in_lem, image_length, elements_length, from_in_lem, to_in_lem, count_in_lem}
+use Rattle.heads.proofs.Parts.{entries_in_lem}
+use Rattle.heads.proofs.WrittenLaws.{image_again}
+use Rattle.outputs.specs.Outputs.{walk_list, image_after}
 
 -- an answer of code 0 means that there was a value
-used-told : {A B : Type 0} (v : Verdict A) (f : A → B) → Coded v → {r : Answer} → r ≡ told (then v (λ a. done (f a)))
+used_told : {A B : Type 0} (v : Verdict A) (f : A → B) → Coded v → {r : Answer} → r ≡ told (then v (λ a. done (f a)))
     → r.code ≡ 0 → (a : A) × (v ≡ done a)
-used-told v f c e z = zero-told v c (ap (λ (r : Answer). r.code) (sym (told-then v f) ∙ sym e) ∙ z)
+used_told v f c e z = zero_told v c (ap (λ (r : Answer). r.code) (sym (told_then v f) ∙ sym e) ∙ z)
 
 -- where the answer refuses, what there was before stays
 pub stays : {A : Type 0} (v : Verdict A) (before : A) {r : Answer} → r ≡ told v → (r.code ≡ 0 → ⊥)
-    → before ≡ valueOr before v
+    → before ≡ value_or before v
 unfolding told
 stays (refused x) before e bad = refl
 stays (done a) before e bad = absurd (bad (ap (λ (r : Answer). r.code) e))
 
 -- how long an accepted image is, from the layout numbers that the code has
-module _ {x y : ℕ} (ns : List ℕ) {A : List ℕ} (a : AcceptedImage (planAs x y ns) A) where
-  pub image-sized : length A ≡ imageHead A + widths (kindsOf ns)
-  image-sized = image-length a
+module _ {x y : ℕ} (ns : List ℕ) {A : List ℕ} (a : AcceptedImage (plan_as x y ns) A) where
+  pub image_sized : length A ≡ image_head A + widths (kinds_of ns)
+  image_sized = image_length a
 
-  pub elements-sized : {s : List ℕ} → s ≡ elementsIn A → length s ≡ widths (kindsOf ns)
-  elements-sized e = elements-length a e
+  pub elements_sized : {s : List ℕ} → s ≡ elements_in A → length s ≡ widths (kinds_of ns)
+  elements_sized e = elements_length a e
 
 module _ (x y : ℕ) (ns : List ℕ) (few : length ns ≤ 1024) where
-  bound : 0 + length (kindsOf ns) ≤ 65536
-  bound = omega (arith, length-kinds ns)
+  bound : 0 + length (kinds_of ns) ≤ 65536
+  bound = omega (arith, length_kinds ns)
 
   -- ---- difference
 
-  pub difference-is : {A B : List ℕ} → AcceptedImage (planAs x y ns) A → AcceptedImage (planAs x y ns) B
+  pub difference_is : {A B : List ℕ} → AcceptedImage (plan_as x y ns) A → AcceptedImage (plan_as x y ns) B
       → {from to : ℕ} {f s : List ℕ}
-      → from ≡ positionIn A → to ≡ positionIn B → f ≡ elementsIn A → s ≡ elementsIn B
-      → done (walkList Walk.Difference x y ns from to f s) ≡ differenceUnder (planAs x y ns) A B
-  unfolding differenceUnder walkList difference
-  difference-is a b ef et e₁ e₂ =
+      → from ≡ position_in A → to ≡ position_in B → f ≡ elements_in A → s ≡ elements_in B
+      → done (walk_list Walk.Difference x y ns from to f s) ≡ difference_under (plan_as x y ns) A B
+  unfolding difference_under walk_list difference
+  difference_is a b ef et e₁ e₂ =
       rw (
         ef,
         et,
         e₁,
         e₂,
-        elements-in a,
-        elements-in b,
-        position_in a,
-        position_in b,
-        difference-walk 0 a.legal.words b.legal.words,
+        elements_in_lem a,
+        elements_in_lem b,
+        position_in_lem a,
+        position_in_lem b,
+        difference_walk 0 a.legal.words b.legal.words,
         a.reads,
         b.reads,
       )
 
   -- ---- turning back
 
-  pub turn_is : {L : List ℕ} → AcceptedList (planAs x y ns) L → {from to : ℕ} {f : List ℕ} (s : List ℕ)
-      → from ≡ toIn L → to ≡ fromIn L → f ≡ entriesIn L
-      → done (walkList Walk.Turn x y ns from to f s) ≡ turnUnder (planAs x y ns) L
-  unfolding turnUnder walkList turned
-  turn_is l s ef et e = rw (ef, et, e, entries-in l, to_in l, from_in l, turn-walk 0 s bound l.legal.each, l.reads)
+  pub turn_is : {L : List ℕ} → AcceptedList (plan_as x y ns) L → {from to : ℕ} {f : List ℕ} (s : List ℕ)
+      → from ≡ to_in L → to ≡ from_in L → f ≡ entries_in L
+      → done (walk_list Walk.Turn x y ns from to f s) ≡ turn_under (plan_as x y ns) L
+  unfolding turn_under walk_list turned
+  turn_is l s ef et e = rw (ef, et, e, entries_in_lem l, to_in_lem l, from_in_lem l, turn_walk 0 s bound l.legal.each, l.reads)
 
   -- the list turned back has the list's size
-  pub turn-size : {L : List ℕ} → AcceptedList (planAs x y ns) L → {f : List ℕ} (s : List ℕ) {count size : ℕ}
-      → f ≡ entriesIn L → count ≡ entryCountIn L → size ≡ length f
-      → Measured Walk.Turn (kindsOf ns) f s count size
-  turn-size {L} l s e ec es =
-      let m = turn-measured s (omega (arith, length-kinds ns)) l.legal.each in
-      rw (es, e, ec, count-in l m.few, entries-in l) m
+  pub turn_size : {L : List ℕ} → AcceptedList (plan_as x y ns) L → {f : List ℕ} (s : List ℕ) {count size : ℕ}
+      → f ≡ entries_in L → count ≡ entry_count_in L → size ≡ length f
+      → Measured Walk.Turn (kinds_of ns) f s count size
+  turn_size {L} l s e ec es =
+      let m = turn_measured s (omega (arith, length_kinds ns)) l.legal.each in
+      rw (es, e, ec, count_in_lem l m.few, entries_in_lem l) m
 
   -- ---- joining
 
   -- the size measured is the join's if no object is a misfit
-  pub join-size : {f s : List ℕ} {r : Survey} → Surveyed ns f s r → length ns ≤ r.misfit
-      → Measured Walk.Join (kindsOf ns) f s r.size.count r.size.bytes
-  join-size y h = y.measured h
+  pub join_size : {f s : List ℕ} {r : Survey} → Surveyed ns f s r → length ns ≤ r.misfit
+      → Measured Walk.Join (kinds_of ns) f s r.size.count r.size.bytes
+  join_size y h = y.measured h
 
-  module _ {L M : List ℕ} (l : AcceptedList (planAs x y ns) L) (m : AcceptedList (planAs x y ns) M) where
-    join-reads : joinUnder (planAs x y ns) L M
-        ≡ then (join l.list m.list) (λ k. done (listBytes (planAs x y ns) k))
-    unfolding joinUnder
-    join-reads = rw (l.reads, m.reads)
+  module _ {L M : List ℕ} (l : AcceptedList (plan_as x y ns) L) (m : AcceptedList (plan_as x y ns) M) where
+    join_reads : join_under (plan_as x y ns) L M
+        ≡ then (join l.list m.list) (λ k. done (list_bytes (plan_as x y ns) k))
+    unfolding join_under
+    join_reads = rw (l.reads, m.reads)
 
-    module _ {end start : ℕ} (ee : end ≡ toIn L) (es : start ≡ fromIn M) where
-      pub join_apart : (end ≡ start → ⊥) → joinUnder (planAs x y ns) L M ≡ refusal 19
+    module _ {end start : ℕ} (ee : end ≡ to_in L) (es : start ≡ from_in M) where
+      pub join_apart : (end ≡ start → ⊥) → join_under (plan_as x y ns) L M ≡ refusal 19
       unfolding join
       join_apart h =
           let t : eqb l.list.to m.list.from ≡ false =
-          ne_eqb _ _ (λ e. h (ee ∙ to_in l ∙ e ∙ sym (es ∙ from_in m))) in
-          join-reads ∙ rw t
+          ne_eqb _ _ (λ e. h (ee ∙ to_in_lem l ∙ e ∙ sym (es ∙ from_in_lem m))) in
+          join_reads ∙ rw t
 
-      module _ (h : end ≡ start) {f s : List ℕ} (e₁ : f ≡ entriesIn L) (e₂ : s ≡ entriesIn M) {n : ℕ}
-          (en : n ≡ misfit Walk.Join 0 (kindsOf ns) f s) where
-        join-found : joinUnder (planAs x y ns) L M
-            ≡ then (found_at 20 (jointOf l.list m.list) (length ns) n) (λ k. done (listBytes (planAs x y ns) k))
+      module _ (h : end ≡ start) {f s : List ℕ} (e₁ : f ≡ entries_in L) (e₂ : s ≡ entries_in M) {n : ℕ}
+          (en : n ≡ misfit Walk.Join 0 (kinds_of ns) f s) where
+        join_found : join_under (plan_as x y ns) L M
+            ≡ then (found_at 20 (joint_of l.list m.list) (length ns) n) (λ k. done (list_bytes (plan_as x y ns) k))
         unfolding join
-        join-found =
+        join_found =
             let t : eqb l.list.to m.list.from ≡ true =
-            eq-eqb _ _ (sym (to_in l) ∙ sym ee ∙ h ∙ es ∙ from_in m) in
-            join-reads
+            eq-eqb _ _ (sym (to_in_lem l) ∙ sym ee ∙ h ∙ es ∙ from_in_lem m) in
+            join_reads
             ∙ rw (
               t,
               en,
               e₁,
               e₂,
-              entries-in l,
-              entries-in m,
-              join-misfit 20 (jointOf l.list m.list) 0 (length ns) (omega (arith, length-kinds ns))
+              entries_in_lem l,
+              entries_in_lem m,
+              join_misfit 20 (joint_of l.list m.list) 0 (length ns) (omega (arith, length_kinds ns))
                   (omega arith) l.legal.each m.legal.each,
             )
 
-        pub join-misfits : n < length ns → joinUnder (planAs x y ns) L M ≡ refusalAt 20 n
-        join-misfits k = join-found ∙ rw (lt-leb (length ns) n k)
+        pub join_misfits : n < length ns → join_under (plan_as x y ns) L M ≡ refusal_at 20 n
+        join_misfits k = join_found ∙ rw (lt-leb (length ns) n k)
 
         -- what is written where nothing is refused
-        pub join_is : length ns ≤ n → {from to : ℕ} → from ≡ fromIn L → to ≡ toIn M
-            → done (walkList Walk.Join x y ns from to f s) ≡ joinUnder (planAs x y ns) L M
-        unfolding walkList
+        pub join_is : length ns ≤ n → {from to : ℕ} → from ≡ from_in L → to ≡ to_in M
+            → done (walk_list Walk.Join x y ns from to f s) ≡ join_under (plan_as x y ns) L M
+        unfolding walk_list
         join_is k ef et =
             rw (
               ef,
               et,
               e₁,
               e₂,
-              from_in l,
-              to_in m,
-              entries-in l,
-              entries-in m,
-              join-walk 0 bound l.legal.each m.legal.each,
+              from_in_lem l,
+              to_in_lem m,
+              entries_in_lem l,
+              entries_in_lem m,
+              join_walk 0 bound l.legal.each m.legal.each,
             )
-            (sym (join-found ∙ rw (le-leb (length ns) n k)))
+            (sym (join_found ∙ rw (le-leb (length ns) n k)))
 
   -- ---- application
 
-  module _ {A L : List ℕ} (a : AcceptedImage (planAs x y ns) A) (l : AcceptedList (planAs x y ns) L) where
-    apply-reads : applyUnder (planAs x y ns) A L
-        ≡ then (applied l.list a.image) (λ b. done (imageBytes (planAs x y ns) b))
-    unfolding applyUnder
-    apply-reads = rw (a.reads, l.reads)
+  module _ {A L : List ℕ} (a : AcceptedImage (plan_as x y ns) A) (l : AcceptedList (plan_as x y ns) L) where
+    apply_reads : apply_under (plan_as x y ns) A L
+        ≡ then (applied l.list a.image) (λ b. done (image_bytes (plan_as x y ns) b))
+    unfolding apply_under
+    apply_reads = rw (a.reads, l.reads)
 
     -- the image after the list, byte for byte
-    after_is : {e : List ℕ} {to : ℕ} → e ≡ entriesIn L → to ≡ toIn L
-        → imageAfter (kindsOf ns) to e A ≡ imageBytes (planAs x y ns) (result_of l.list a.image)
-    unfolding imageAfter
+    after_is : {e : List ℕ} {to : ℕ} → e ≡ entries_in L → to ≡ to_in L
+        → image_after (kinds_of ns) to e A ≡ image_bytes (plan_as x y ns) (result_of l.list a.image)
+    unfolding image_after
     after_is {e} {to} ee et =
-        let renewed-is : renewal 0 (kindsOf ns) e (elementsIn A)
-        ≡ wordsBytes (kindsOf ns) (zip_with after l.list.each a.image.words) =
-        rw (ee, entries-in l, elements-in a) (renewal-is 0 bound l.legal.each a.legal.words) in
-        let long : length (wordsBytes (kindsOf ns) (zip_with after l.list.each a.image.words))
-        ≡ widths (kindsOf ns) =
-        ap length (sym renewed-is)
-        ∙ length-renewal (kindsOf ns) 0 e (elementsIn A)
-        (ap length (elements-in a) ∙ length-words a.legal.words) in
-        rw (renewed-is, et, to_in l)
-        (image-again a l.list.to (zip_with after l.list.each a.image.words) long)
+        let renewed_is : renewal 0 (kinds_of ns) e (elements_in A)
+        ≡ words_bytes (kinds_of ns) (zip_with after l.list.each a.image.words) =
+        rw (ee, entries_in_lem l, elements_in_lem a) (renewal_is 0 bound l.legal.each a.legal.words) in
+        let long : length (words_bytes (kinds_of ns) (zip_with after l.list.each a.image.words))
+        ≡ widths (kinds_of ns) =
+        ap length (sym renewed_is)
+        ∙ length_renewal (kinds_of ns) 0 e (elements_in A)
+        (ap length (elements_in_lem a) ∙ length_words a.legal.words) in
+        rw (renewed_is, et, to_in_lem l)
+        (image_again a l.list.to (zip_with after l.list.each a.image.words) long)
 
-    module _ {position from : ℕ} (ep : position ≡ positionIn A) (ef : from ≡ fromIn L) where
-      pub apply-late : from < position → applyUnder (planAs x y ns) A L ≡ refusal 16
+    module _ {position from : ℕ} (ep : position ≡ position_in A) (ef : from ≡ from_in L) where
+      pub apply_late : from < position → apply_under (plan_as x y ns) A L ≡ refusal 16
       unfolding applied
-      apply-late h =
-          apply-reads ∙ rw (lt-leb a.image.position l.list.from (omega (arith, position_in a, from_in l)))
+      apply_late h =
+          apply_reads ∙ rw (lt-leb a.image.position l.list.from (omega (arith, position_in_lem a, from_in_lem l)))
 
-      pub apply-gap : position < from → applyUnder (planAs x y ns) A L ≡ refusal 17
+      pub apply_gap : position < from → apply_under (plan_as x y ns) A L ≡ refusal 17
       unfolding applied
-      apply-gap h =
-          apply-reads
+      apply_gap h =
+          apply_reads
           ∙ rw (
-            le-leb a.image.position l.list.from (omega (arith, position_in a, from_in l)),
-            lt-leb l.list.from a.image.position (omega (arith, position_in a, from_in l)),
+            le-leb a.image.position l.list.from (omega (arith, position_in_lem a, from_in_lem l)),
+            lt-leb l.list.from a.image.position (omega (arith, position_in_lem a, from_in_lem l)),
           )
 
-      module _ (h : position ≤ from) (k : from ≤ position) {f s : List ℕ} (e₁ : f ≡ entriesIn L) (e₂ : s ≡ elementsIn A)
-          {n : ℕ} (en : n ≡ unfit 0 (kindsOf ns) f s) where
-        apply-found : applyUnder (planAs x y ns) A L
-            ≡ then (found_at 18 (result_of l.list a.image) (length ns) n) (λ b. done (imageBytes (planAs x y ns) b))
+      module _ (h : position ≤ from) (k : from ≤ position) {f s : List ℕ} (e₁ : f ≡ entries_in L) (e₂ : s ≡ elements_in A)
+          {n : ℕ} (en : n ≡ unfit 0 (kinds_of ns) f s) where
+        apply_found : apply_under (plan_as x y ns) A L
+            ≡ then (found_at 18 (result_of l.list a.image) (length ns) n) (λ b. done (image_bytes (plan_as x y ns) b))
         unfolding applied
-        apply-found =
+        apply_found =
             let t : leb a.image.position l.list.from ≡ true =
-            le-leb a.image.position l.list.from (omega (arith, position_in a, from_in l)) in
+            le-leb a.image.position l.list.from (omega (arith, position_in_lem a, from_in_lem l)) in
             let u : leb l.list.from a.image.position ≡ true =
-            le-leb l.list.from a.image.position (omega (arith, position_in a, from_in l)) in
-            apply-reads
+            le-leb l.list.from a.image.position (omega (arith, position_in_lem a, from_in_lem l)) in
+            apply_reads
             ∙ rw (
               t,
               u,
               en,
               e₁,
               e₂,
-              entries-in l,
-              elements-in a,
-              apply-unfit 18 (result_of l.list a.image) 0 (length ns) (omega (arith, length-kinds ns))
+              entries_in_lem l,
+              elements_in_lem a,
+              apply_unfit 18 (result_of l.list a.image) 0 (length ns) (omega (arith, length_kinds ns))
                   (omega arith) l.legal.each a.legal.words,
             )
 
-        pub apply-misfits : n < length ns → applyUnder (planAs x y ns) A L ≡ refusalAt 18 n
-        apply-misfits q = apply-found ∙ rw (lt-leb (length ns) n q)
+        pub apply_misfits : n < length ns → apply_under (plan_as x y ns) A L ≡ refusal_at 18 n
+        apply_misfits q = apply_found ∙ rw (lt-leb (length ns) n q)
 
-        pub apply-fits : length ns ≤ n → {r : Answer} → r ≡ unnamed 0 0 → r ≡ told (applyUnder (planAs x y ns) A L)
-        apply-fits q e =
-            told-done _ {a = imageBytes (planAs x y ns) (result_of l.list a.image)}
-            (apply-found ∙ rw (le-leb (length ns) n q)) e
+        pub apply_fits : length ns ≤ n → {r : Answer} → r ≡ unnamed 0 0 → r ≡ told (apply_under (plan_as x y ns) A L)
+        apply_fits q e =
+            told_done _ {a = image_bytes (plan_as x y ns) (result_of l.list a.image)}
+            (apply_found ∙ rw (le-leb (length ns) n q)) e
 
     -- what is written where nothing is refused
-    pub apply-is : {r : Answer} → r ≡ told (applyUnder (planAs x y ns) A L) → r.code ≡ 0 → {f : List ℕ} {to : ℕ}
-        → f ≡ entriesIn L → to ≡ toIn L
-        → done (imageAfter (kindsOf ns) to f A) ≡ applyUnder (planAs x y ns) A L
-    apply-is e z ee et =
+    pub apply_is : {r : Answer} → r ≡ told (apply_under (plan_as x y ns) A L) → r.code ≡ 0 → {f : List ℕ} {to : ℕ}
+        → f ≡ entries_in L → to ≡ to_in L
+        → done (image_after (kinds_of ns) to f A) ≡ apply_under (plan_as x y ns) A L
+    apply_is e z ee et =
         let d =
-        used-told (applied l.list a.image) _ (applied-coded l.list a.image)
-        (e ∙ ap told apply-reads) z in
+        used_told (applied l.list a.image) _ (applied_coded l.list a.image)
+        (e ∙ ap told apply_reads) z in
         ap done (after_is ee et)
-        ∙ sym (apply-reads
-        ∙ rw d.1 (ap (λ (b : Image). done (imageBytes (planAs x y ns) b))
+        ∙ sym (apply_reads
+        ∙ rw d.1 (ap (λ (b : Image). done (image_bytes (plan_as x y ns) b))
         (takes l.legal a.legal d.1).result))
 
-    pub apply-takes : {r : Answer} → r ≡ told (applyUnder (planAs x y ns) A L) → r.code ≡ 0 → {f : List ℕ} {to : ℕ}
-        → f ≡ entriesIn L → to ≡ toIn L → {m : List ℕ} → m ≡ imageAfter (kindsOf ns) to f A
-        → m ≡ valueOr A (applyUnder (planAs x y ns) A L)
-    apply-takes e z ee et q = q ∙ ap (valueOr A) (apply-is e z ee et)
+    pub apply_takes : {r : Answer} → r ≡ told (apply_under (plan_as x y ns) A L) → r.code ≡ 0 → {f : List ℕ} {to : ℕ}
+        → f ≡ entries_in L → to ≡ to_in L → {m : List ℕ} → m ≡ image_after (kinds_of ns) to f A
+        → m ≡ value_or A (apply_under (plan_as x y ns) A L)
+    apply_takes e z ee et q = q ∙ ap (value_or A) (apply_is e z ee et)

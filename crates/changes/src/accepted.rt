@@ -1,11 +1,11 @@
 // The operations on accepted forms: only positions and values are left to test, in the paper's
 // order, and the room last.
 ghost use Rattle.std.specs.Prelude.{◌≡◌, ◌≤◌, length};
-ghost use Rattle.history.specs.Verdict.{valueOr, told, Leaves};
-ghost use Rattle.history.specs.Calls.{differenceUnder, applyUnder, joinUnder, turnUnder};
+ghost use Rattle.history.specs.Verdict.{value_or, told, Leaves};
+ghost use Rattle.history.specs.Calls.{difference_under, apply_under, join_under, turn_under};
 ghost use Rattle.history.specs.Image.{AcceptedImage};
 ghost use Rattle.history.specs.Changes.{AcceptedList};
-ghost use Rattle.tables.specs.Outlines.{planAs};
+ghost use Rattle.tables.specs.Outlines.{plan_as};
 
 use heads::{elements_of, entries_of, entry_count, from_of, position_of, to_of};
 use history::Answer;
@@ -16,9 +16,9 @@ use walks::Size;
 // Writes the list from image a to image b.
 pub fn write_difference(x: u8, y: u8, kinds: &[u8], a: &[u8], b: &[u8], out: &mut [u8]) -> Answer
     requires kinds_len_bound { length kinds.now ≤ 1024 }
-    requires accepted_image { AcceptedImage (planAs x y kinds.now) a.now }
-    requires accepted_image_2 { AcceptedImage (planAs x y kinds.now) b.now }
-    ensures { Leaves (differenceUnder (planAs x y kinds.now) a.now b.now)
+    requires accepted_image { AcceptedImage (plan_as x y kinds.now) a.now }
+    requires accepted_image_2 { AcceptedImage (plan_as x y kinds.now) b.now }
+    ensures { Leaves (difference_under (plan_as x y kinds.now) a.now b.now)
         out.old result out.new }
 {
     let from = position_of(a);
@@ -39,9 +39,9 @@ pub fn write_applied(
     out: &mut [u8],
 ) -> Answer
     requires kinds_len_bound { length kinds.now ≤ 1024 }
-    requires accepted_image { AcceptedImage (planAs x y kinds.now) image.now }
-    requires accepted_list { AcceptedList (planAs x y kinds.now) list.now }
-    ensures { Leaves (applyUnder (planAs x y kinds.now) image.now list.now)
+    requires accepted_image { AcceptedImage (plan_as x y kinds.now) image.now }
+    requires accepted_list { AcceptedList (plan_as x y kinds.now) list.now }
+    ensures { Leaves (apply_under (plan_as x y kinds.now) image.now list.now)
         out.old result out.new }
 {
     let answer = check_applies(x, y, kinds, image, list);
@@ -55,12 +55,12 @@ pub fn write_applied(
 // Takes the list into the image, in place: 16, 17, 18.
 pub fn take_applied(x: u8, y: u8, kinds: &[u8], list: &[u8], image: &mut [u8]) -> Answer
     requires kinds_len_bound { length kinds.now ≤ 1024 }
-    requires accepted_image { AcceptedImage (planAs x y kinds.now) image.old }
-    requires accepted_list { AcceptedList (planAs x y kinds.now) list.now }
-    ensures { (result ≡ told (applyUnder (planAs x y kinds.now) image.old list.now))
+    requires accepted_image { AcceptedImage (plan_as x y kinds.now) image.old }
+    requires accepted_list { AcceptedList (plan_as x y kinds.now) list.now }
+    ensures { (result ≡ told (apply_under (plan_as x y kinds.now) image.old list.now))
         × (image.new
-        ≡ valueOr image.old
-        (applyUnder (planAs x y kinds.now) image.old list.now)) }
+        ≡ value_or image.old
+        (apply_under (plan_as x y kinds.now) image.old list.now)) }
 {
     let answer = check_applies(x, y, kinds, &image[..], list);
     if answer.code != 0 {
@@ -80,9 +80,9 @@ pub fn write_joined(
     out: &mut [u8],
 ) -> Answer
     requires kinds_len_bound { length kinds.now ≤ 1024 }
-    requires accepted_list { AcceptedList (planAs x y kinds.now) first.now }
-    requires accepted_list_2 { AcceptedList (planAs x y kinds.now) second.now }
-    ensures { Leaves (joinUnder (planAs x y kinds.now) first.now second.now)
+    requires accepted_list { AcceptedList (plan_as x y kinds.now) first.now }
+    requires accepted_list_2 { AcceptedList (plan_as x y kinds.now) second.now }
+    ensures { Leaves (join_under (plan_as x y kinds.now) first.now second.now)
         out.old result out.new }
 {
     let end = to_of(first);
@@ -117,8 +117,8 @@ pub fn write_joined(
 // there is no second form, so that slice is empty.
 pub fn write_turned(x: u8, y: u8, kinds: &[u8], list: &[u8], out: &mut [u8]) -> Answer
     requires kinds_len_bound { length kinds.now ≤ 1024 }
-    requires accepted_list { AcceptedList (planAs x y kinds.now) list.now }
-    ensures { Leaves (turnUnder (planAs x y kinds.now) list.now)
+    requires accepted_list { AcceptedList (plan_as x y kinds.now) list.now }
+    ensures { Leaves (turn_under (plan_as x y kinds.now) list.now)
         out.old result out.new }
 {
     let from = to_of(list);
@@ -145,9 +145,9 @@ pub fn write_turned(x: u8, y: u8, kinds: &[u8], list: &[u8], out: &mut [u8]) -> 
 // Whether the list applies to the image: 16, 17, 18.
 fn check_applies(x: u8, y: u8, kinds: &[u8], image: &[u8], list: &[u8]) -> Answer
     requires kinds_len_bound { length kinds.now ≤ 1024 }
-    requires accepted_image { AcceptedImage (planAs x y kinds.now) image.now }
-    requires accepted_list { AcceptedList (planAs x y kinds.now) list.now }
-    ensures { result ≡ told (applyUnder (planAs x y kinds.now) image.now list.now) }
+    requires accepted_image { AcceptedImage (plan_as x y kinds.now) image.now }
+    requires accepted_list { AcceptedList (plan_as x y kinds.now) list.now }
+    ensures { result ≡ told (apply_under (plan_as x y kinds.now) image.now list.now) }
 {
     let position = position_of(image);
     let from = from_of(list);

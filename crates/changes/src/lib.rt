@@ -5,7 +5,7 @@ mod accepted;
 mod under;
 
 ghost use Rattle.history.specs.Verdict.{Leaves};
-ghost use Rattle.history.specs.Calls.{differenceCall, applyCall, joinCall, turnCall};
+ghost use Rattle.history.specs.Calls.{difference_call, apply_call, join_call, turn_call};
 
 use history::Answer;
 use tables::{first_kinds, outline};
@@ -13,7 +13,7 @@ pub use under::{apply_under, difference_under, join_under, take_under, turn_unde
 
 // Writes the list from image a to image b.
 pub fn difference(table: &[u8], a: &[u8], b: &[u8], out: &mut [u8]) -> Answer
-    ensures { Leaves (differenceCall table.now a.now b.now)
+    ensures { Leaves (difference_call table.now a.now b.now)
         out.old result out.new }
 {
     let known = outline(table);
@@ -30,7 +30,7 @@ pub fn difference(table: &[u8], a: &[u8], b: &[u8], out: &mut [u8]) -> Answer
 // Writes the image after the list: 16 if the list is late, 17 if there is a gap, 18 if an old
 // element is not the image's.
 pub fn apply(table: &[u8], image: &[u8], list: &[u8], out: &mut [u8]) -> Answer
-    ensures { Leaves (applyCall table.now image.now list.now)
+    ensures { Leaves (apply_call table.now image.now list.now)
         out.old result out.new }
 {
     let known = outline(table);
@@ -47,7 +47,7 @@ pub fn apply(table: &[u8], image: &[u8], list: &[u8], out: &mut [u8]) -> Answer
 // Writes the join of two lists: 19 if the second does not start where the first ends, 20 if
 // they do not agree on an object.
 pub fn join(table: &[u8], first: &[u8], second: &[u8], out: &mut [u8]) -> Answer
-    ensures { Leaves (joinCall table.now first.now second.now)
+    ensures { Leaves (join_call table.now first.now second.now)
         out.old result out.new }
 {
     let known = outline(table);
@@ -63,7 +63,7 @@ pub fn join(table: &[u8], first: &[u8], second: &[u8], out: &mut [u8]) -> Answer
 
 // Writes the list turned back.
 pub fn turn_back(table: &[u8], list: &[u8], out: &mut [u8]) -> Answer
-    ensures { Leaves (turnCall table.now list.now)
+    ensures { Leaves (turn_call table.now list.now)
         out.old result out.new }
 {
     let known = outline(table);

@@ -3,22 +3,22 @@
 use mathlib.Core.Path.{◌≡◌, ap}
 use Prim.Native.Nat.{ℕ, ◌*◌, ◌<◌}
 use Rattle.rows.specs.Covering.{holding}
-use Rattle.rows.proofs.Covering.{Covered, layout-covered, held-once}
-use Rattle.kinds.specs.Kinds.{place, layout_of, layoutNo, width_of, rows_of}
-use Rattle.elements.specs.Elements.{carriedKind, kindNumbered}
+use Rattle.rows.proofs.Covering.{Covered, layout_covered, held_once}
+use Rattle.kinds.specs.Kinds.{place, layout_of, layout_no, width_of, rows_of}
+use Rattle.elements.specs.Elements.{carried_kind, kind_numbered}
 use Rattle.kinds.specs.declared.Kind.{Kind}
-use Rattle.kinds.proofs.KindLaws.{placed, kind-found}
+use Rattle.kinds.proofs.KindLaws.{placed, kind_found}
 
 pub cover : (k : Kind) → Covered (layout_of k)
-cover k = layout-covered (place k) (placed k)
+cover k = layout_covered (place k) (placed k)
 
 -- each bit of a kind's element is in exactly one of its rows
-pub bit-once : (k : Kind) (b : ℕ) → b < 8 * width_of k → holding b (rows_of k) ≡ 1
-bit-once k b h = held-once (layout_of k) (cover k) b h
+pub bit_once : (k : Kind) (b : ℕ) → b < 8 * width_of k → holding b (rows_of k) ≡ 1
+bit_once k b h = held_once (layout_of k) (cover k) b h
 
-pub kind-numbered : (k : Kind) → kindNumbered (layoutNo k) ≡ k
-unfolding kindNumbered
-kind-numbered k = ap carriedKind (kind-found k)
+pub kind_numbered_lem : (k : Kind) → kind_numbered (layout_no k) ≡ k
+unfolding kind_numbered
+kind_numbered_lem k = ap carried_kind (kind_found k)
 
-pub kind-same : (j k : Kind) → layoutNo j ≡ layoutNo k → j ≡ k
-kind-same j k e = let a = kind-numbered j in let b = kind-numbered k in let c = ap kindNumbered e in cc
+pub kind_same : (j k : Kind) → layout_no j ≡ layout_no k → j ≡ k
+kind_same j k e = let a = kind_numbered_lem j in let b = kind_numbered_lem k in let c = ap kind_numbered e in cc

@@ -8,14 +8,14 @@ use Prim.Native.Nat.{ℕ}
 use lib.Dec.{eqb}
 use borrow.Author.Tests.{eqb-true, eqb-false}
 use Rattle.rows.specs.Rows.{Row}
-use Rattle.rows.specs.Values.{code_at, checkRows}
+use Rattle.rows.specs.Values.{code_at, check_rows}
 use Rattle.rows.specs.declared.Refusal.{Refusal}
 use Rattle.rows.specs.declared.Finding.{Finding}
-use Rattle.rows.proofs.Listed.{FirstUnlisted, zero-accepted}
+use Rattle.rows.proofs.Listed.{FirstUnlisted, zero_accepted}
 use Rattle.kinds.specs.Kinds.{layout_of, rows_of}
 use Rattle.kinds.specs.declared.Kind.{Kind}
-use Rattle.elements.specs.Elements.{elementCheck}
-use Rattle.elements.proofs.DatLaws.{Stale, element-names, not-stale}
+use Rattle.elements.specs.Elements.{element_check}
+use Rattle.elements.proofs.DatLaws.{Stale, element_names, not_stale}
 
 -- a row of a kind's layout
 pub record RowOf (k : Kind) (r : Row) : Type 0 where
@@ -30,15 +30,15 @@ pub data Refuses (k : Kind) : (code bit : ℕ) → Type 0 where
   unlisted : {r : Row} → RowOf k r → (r.top ≡ 0 → ⊥) → Refuses k 11 r.low
   silent : (layout_of k).dat ≡ true → Refuses k 12 0
 
-pub element-refuses : (k : Kind) (w : ℕ) {x : Refusal} → elementCheck k w ≡ Finding.Refused x
+pub element_refuses : (k : Kind) (w : ℕ) {x : Refusal} → element_check k w ≡ Finding.Refused x
     → Refuses k x.code x.bit
-element-refuses k w {x} e = go (element-names k w e)
+element_refuses k w {x} e = go (element_names k w e)
   where
     field : (r : Row) → RowOf k r → (b : Bool) → eqb r.top 0 ≡ b → Refuses k (cond b 10 11) r.low
     field r m true q = reserved m (eqb-true _ _ q)
     field r m false q = unlisted m (eqb-false _ _ q)
 
-    go : FirstUnlisted w (rows_of k) x ⊎ ((checkRows w (rows_of k) ≡ Finding.Accepted) × Stale k w × (x ≡ code_at 12 0))
+    go : FirstUnlisted w (rows_of k) x ⊎ ((check_rows w (rows_of k) ≡ Finding.Accepted) × Stale k w × (x ≡ code_at 12 0))
         → Refuses k x.code x.bit
     go (inl q) =
         rw q.told
@@ -47,6 +47,6 @@ element-refuses k w {x} e = go (element-names k w e)
     go (inr q) = rw q.2 (silent q.1.dat)
 
 -- the number 0 is an accepted element of every kind
-pub zero-found : (k : Kind) → elementCheck k 0 ≡ Finding.Accepted
-unfolding elementCheck
-zero-found k = rw (zero-accepted (rows_of k)) (not-stale k 0 (λ s. s.other refl))
+pub zero_found : (k : Kind) → element_check k 0 ≡ Finding.Accepted
+unfolding element_check
+zero_found k = rw (zero_accepted (rows_of k)) (not_stale k 0 (λ s. s.other refl))

@@ -16,8 +16,8 @@ use Rattle.cases.specs.declared.SignalAspect.{SignalAspect}
 use Rattle.cases.specs.declared.MixedGaugeIndication.{MixedGaugeIndication}
 use Rattle.cases.specs.declared.AutoRouteIndication.{AutoRouteIndication}
 use Rattle.states.specs.declared.signal.Signal.{Signal}
-use Rattle.elements.specs.Elements.{kind_of, datRule, elementCheck, state_of}
-use Rattle.elements.specs.Known.{known, findings, said, wide, printedWidths}
+use Rattle.elements.specs.Elements.{kind_of, dat_rule, element_check, state_of}
+use Rattle.elements.specs.Known.{known, findings, said, wide, printed_widths}
 use Rattle.kinds.specs.declared.Kind.{Kind}
 use Rattle.kinds.specs.declared.Element.{Element}
 
@@ -52,38 +52,38 @@ green =
 
 -- IC (type 2) 03 is fixed T, SIG (type 1) 00 00 01 B5 is green
 pub all_known : (findings known ≡ said known)
-    × (wide known ≡ printedWidths known)
+    × (wide known ≡ printed_widths known)
     × (state_of (kind_of 1 2) (number (0x03 ∷ []))
     ≡ Element.ChangerSignal (record { current = true; aspect = ChangerAspect.FixedT }))
     × (state_of (kind_of 1 1) (number (0x00 ∷ 0x00 ∷ 0x01 ∷ 0xB5 ∷ [])) ≡ Element.Signal green)
-unfolding cells layouts kind_of datRule elementCheck state_of
+unfolding cells layouts kind_of dat_rule element_check state_of
 all_known = (refl, refl, refl, refl)
 
-pub two-faults : (elementCheck Kind.ChangerSignal 0x81 ≡ Finding.Refused (code_at 10 3))
-    × (elementCheck Kind.VirtualBoard 0x06 ≡ Finding.Refused (code_at 11 1))
-    × (elementCheck Kind.VirtualBoard 0x17 ≡ Finding.Refused (code_at 11 1))
-    × (elementCheck Kind.LineTrackCircuit 0x14C1 ≡ Finding.Refused (code_at 11 6))
-    × (elementCheck Kind.PointsTrackCircuit 0x0024 ≡ Finding.Refused (code_at 10 2))
-unfolding cells layouts datRule elementCheck
-two-faults = (refl, refl, refl, refl, refl)
+pub two_faults : (element_check Kind.ChangerSignal 0x81 ≡ Finding.Refused (code_at 10 3))
+    × (element_check Kind.VirtualBoard 0x06 ≡ Finding.Refused (code_at 11 1))
+    × (element_check Kind.VirtualBoard 0x17 ≡ Finding.Refused (code_at 11 1))
+    × (element_check Kind.LineTrackCircuit 0x14C1 ≡ Finding.Refused (code_at 11 6))
+    × (element_check Kind.PointsTrackCircuit 0x0024 ≡ Finding.Refused (code_at 10 2))
+unfolding cells layouts dat_rule element_check
+two_faults = (refl, refl, refl, refl, refl)
 
 -- 3.0's signal: EAR alone, low, a router in automatic block, every highest listed value, without data;
 -- IND 13, GRP_ARS 3, EAR where DAT is 0.
 -- 1.0's signal refuses two of these words: TIPO 4 and the reserved bit 31
-pub new-signal : (map (elementCheck (kind_of 3 1))
+pub new_signal : (map (element_check (kind_of 3 1))
     (0x00000009 ∷ 0x00000007 ∷ 0x80000001 ∷ 0xBFFFFFCF ∷ 0x00000000 ∷ 0x000000D1 ∷ 0xC0000001 ∷ 0x00000008 ∷ []) ≡
     Finding.Accepted ∷ Finding.Accepted ∷ Finding.Accepted ∷ Finding.Accepted ∷ Finding.Accepted ∷
     Finding.Refused (code_at 11 4) ∷ Finding.Refused (code_at 11 30) ∷ Finding.Refused (code_at 12 0) ∷ [])
-    × (map (elementCheck (kind_of 1 1)) (0x00000009 ∷ 0x80000001 ∷ [])
+    × (map (element_check (kind_of 1 1)) (0x00000009 ∷ 0x80000001 ∷ [])
     ≡ Finding.Refused (code_at 11 1) ∷ Finding.Refused (code_at 10 31) ∷ [])
-unfolding cells layouts kind_of datRule elementCheck
-new-signal = (refl, refl)
+unfolding cells layouts kind_of dat_rule element_check
+new_signal = (refl, refl)
 
 -- the kinds whose bit 0 is not DAT; which they are is typed from the annexes
 abbrev lacking : List Kind → List Kind
 lacking [] = []
 lacking (k ∷ ks) = cond (layout_of k).dat (lacking ks) (k ∷ lacking ks)
 
-pub which-lack-dat : lacking kinds ≡ Kind.GeneralNotices ∷ []  -- AVG
+pub which_lack_dat : lacking kinds ≡ Kind.GeneralNotices ∷ []  -- AVG
 unfolding layouts
-which-lack-dat = refl
+which_lack_dat = refl

@@ -8,118 +8,118 @@ use native.Mathlib.Omega.{arith}
 use native.Mathlib.Nat.{lt_of_lt_of_le}
 use lib.ListN.{length, replicate}
 use lib.Pow.{pow_mono, pow_pos}
-use Rattle.rows.specs.Values.{checkRows, values_of, composeOf, padded, onFinding}
+use Rattle.rows.specs.Values.{check_rows, values_of, compose_of, padded, on_finding}
 use Rattle.rows.specs.declared.Finding.{Finding}
 use Rattle.rows.specs.declared.Refusal.{Refusal}
-use Rattle.rows.proofs.Words.{Within, compose-values, compose-bound, values-compose}
-use Rattle.rows.proofs.Listed.{listed-within, listed-from, accepted-within, within-accepted, zero-accepted}
-use Rattle.rows.proofs.Listed.{compose-append}
-use Rattle.kinds.specs.Kinds.{width_of, rows_of, elementOf, elementValues, kindIn}
-use Rattle.elements.specs.Elements.{datRule, elementCheck, state_of, stateRead, word_of}
+use Rattle.rows.proofs.Words.{Within, compose_values, compose_bound, values_compose}
+use Rattle.rows.proofs.Listed.{listed_within, listed_from_lem, accepted_within, within_accepted, zero_accepted}
+use Rattle.rows.proofs.Listed.{compose_append}
+use Rattle.kinds.specs.Kinds.{width_of, rows_of, element_of, element_values, kind_in}
+use Rattle.elements.specs.Elements.{dat_rule, element_check, state_of, state_read, word_of}
 use Rattle.kinds.specs.declared.Kind.{Kind}
 use Rattle.kinds.specs.declared.Element.{Element}
 use Rattle.elements.proofs.Covering.{cover}
-use Rattle.kinds.proofs.KindLaws.{element-listed, element-back, element-kind, zero-state}
+use Rattle.kinds.proofs.KindLaws.{element_listed, element_back, element_kind, zero_state}
 
 -- the values of any state are admitted by its rows
-pub state-within : (e : Element) → Within (rows_of (kindIn e)) (elementValues e)
-state-within e =
-    subst (Within (rows_of (kindIn e)))
-    (sym (element-listed (kindIn e) (padded (elementValues e))) ∙ ap elementValues (element-back e))
-    (listed-within (rows_of (kindIn e)) 0 (padded (elementValues e)))
+pub state_within : (e : Element) → Within (rows_of (kind_in e)) (element_values e)
+state_within e =
+    subst (Within (rows_of (kind_in e)))
+    (sym (element_listed (kind_in e) (padded (element_values e))) ∙ ap element_values (element_back e))
+    (listed_within (rows_of (kind_in e)) 0 (padded (element_values e)))
 
 -- a state's number fits its kind's bytes, and 32 bits
-pub word_fits : (e : Element) → word_of e < 2 ^ (8 * width_of (kindIn e))
+pub word_fits : (e : Element) → word_of e < 2 ^ (8 * width_of (kind_in e))
 unfolding word_of
 word_fits e =
     let b =
-    compose-bound (rows_of (kindIn e)) (elementValues e) 0 (8 * width_of (kindIn e)) (cover (kindIn e)).tiling
-    (state-within e) in
+    compose_bound (rows_of (kind_in e)) (element_values e) 0 (8 * width_of (kind_in e)) (cover (kind_in e)).tiling
+    (state_within e) in
     omega arith
 
 pub word_small : (e : Element) → word_of e < 4294967296
-word_small e = lt_of_lt_of_le (word_fits e) (pow_mono {j = 32} (let g = (cover (kindIn e)).narrow in omega arith))
+word_small e = lt_of_lt_of_le (word_fits e) (pow_mono {j = 32} (let g = (cover (kind_in e)).narrow in omega arith))
 
 -- a state that is read as a kind is of that kind
-pub state-kind : (k : Kind) (w : ℕ) → kindIn (state_of k w) ≡ k
+pub state_kind : (k : Kind) (w : ℕ) → kind_in (state_of k w) ≡ k
 unfolding state_of
-state-kind k w = element-kind k _
+state_kind k w = element_kind k _
 
 -- ---- the round trips
 
 -- a state's own values are the fields of its number
-own-values : (e : Element) → values_of (word_of e) (rows_of (kindIn e)) ≡ elementValues e
+own_values : (e : Element) → values_of (word_of e) (rows_of (kind_in e)) ≡ element_values e
 unfolding word_of
-own-values e =
-    values-compose (rows_of (kindIn e)) (elementValues e) (8 * width_of (kindIn e)) (cover (kindIn e)).tiling
-    (state-within e)
+own_values e =
+    values_compose (rows_of (kind_in e)) (element_values e) (8 * width_of (kind_in e)) (cover (kind_in e)).tiling
+    (state_within e)
 
 -- state, number, state: the same state
-pub state-word-state : (e : Element) → state_of (kindIn e) (word_of e) ≡ e
+pub state_word_state : (e : Element) → state_of (kind_in e) (word_of e) ≡ e
 unfolding state_of
-state-word-state e = ap (λ (vs : List ℕ). elementOf (kindIn e) (padded vs)) (own-values e) ∙ element-back e
+state_word_state e = ap (λ (vs : List ℕ). element_of (kind_in e) (padded vs)) (own_values e) ∙ element_back e
 
 -- number, state, number: the same number, if the fields are accepted
-fields-word : (k : Kind) (w : ℕ) → w < 2 ^ (8 * width_of k) → checkRows w (rows_of k) ≡ Finding.Accepted
+fields_word : (k : Kind) (w : ℕ) → w < 2 ^ (8 * width_of k) → check_rows w (rows_of k) ≡ Finding.Accepted
     → word_of (state_of k w) ≡ w
 unfolding word_of state_of
-fields-word k w h ok =
+fields_word k w h ok =
     let vs = values_of w (rows_of k) in
-    ap₂ (λ (j : Kind) (us : List ℕ). composeOf (rows_of j) us) (element-kind k (padded vs))
-    (element-listed k (padded vs))
-    ∙ ap (composeOf (rows_of k))
-    (listed-from (rows_of k) [] vs (replicate (24 - length vs) 0) (accepted-within w (rows_of k) ok))
-    ∙ compose-values (rows_of k) (8 * width_of k) w (cover k).tiling h
+    ap₂ (λ (j : Kind) (us : List ℕ). compose_of (rows_of j) us) (element_kind k (padded vs))
+    (element_listed k (padded vs))
+    ∙ ap (compose_of (rows_of k))
+    (listed_from_lem (rows_of k) [] vs (replicate (24 - length vs) 0) (accepted_within w (rows_of k) ok))
+    ∙ compose_values (rows_of k) (8 * width_of k) w (cover k).tiling h
 
-pub accepted-fields : (k : Kind) (w : ℕ) → elementCheck k w ≡ Finding.Accepted
-    → checkRows w (rows_of k) ≡ Finding.Accepted
-unfolding elementCheck
-accepted-fields k w = go (checkRows w (rows_of k))
+pub accepted_fields : (k : Kind) (w : ℕ) → element_check k w ≡ Finding.Accepted
+    → check_rows w (rows_of k) ≡ Finding.Accepted
+unfolding element_check
+accepted_fields k w = go (check_rows w (rows_of k))
   where
-    go : (f : Finding) → onFinding f (datRule k w) Finding.Refused ≡ Finding.Accepted → f ≡ Finding.Accepted
+    go : (f : Finding) → on_finding f (dat_rule k w) Finding.Refused ≡ Finding.Accepted → f ≡ Finding.Accepted
     go Finding.Accepted e = refl
     go (Finding.Refused r) e = let z : ◌≡◌ {A = ℕ} 0 1 = cc in absurd (omega arith)
 
-pub word-state-word : (k : Kind) (w : ℕ) → w < 2 ^ (8 * width_of k) → elementCheck k w ≡ Finding.Accepted
+pub word_state_word : (k : Kind) (w : ℕ) → w < 2 ^ (8 * width_of k) → element_check k w ≡ Finding.Accepted
     → word_of (state_of k w) ≡ w
-word-state-word k w h ok = fields-word k w h (accepted-fields k w ok)
+word_state_word k w h ok = fields_word k w h (accepted_fields k w ok)
 
 -- the fields of an accepted number are read as its state
-pub accepted-state : (k : Kind) (w : ℕ) → elementCheck k w ≡ Finding.Accepted → stateRead k w ≡ state_of k w
-unfolding stateRead state_of
-accepted-state k w ok =
-    ap (λ (f : Finding). elementOf k (onFinding f (padded (values_of w (rows_of k))) (λ r. replicate 24 0)))
-    (accepted-fields k w ok)
+pub accepted_state : (k : Kind) (w : ℕ) → element_check k w ≡ Finding.Accepted → state_read k w ≡ state_of k w
+unfolding state_read state_of
+accepted_state k w ok =
+    ap (λ (f : Finding). element_of k (on_finding f (padded (values_of w (rows_of k))) (λ r. replicate 24 0)))
+    (accepted_fields k w ok)
 
 -- .. so a legal state that is written and read is the same state
-pub read-written : (e : Element) → elementCheck (kindIn e) (word_of e) ≡ Finding.Accepted
-    → stateRead (kindIn e) (word_of e) ≡ e
-read-written e ok = accepted-state (kindIn e) (word_of e) ok ∙ state-word-state e
+pub read_written : (e : Element) → element_check (kind_in e) (word_of e) ≡ Finding.Accepted
+    → state_read (kind_in e) (word_of e) ≡ e
+read_written e ok = accepted_state (kind_in e) (word_of e) ok ∙ state_word_state e
 
 -- .. and those of a number with a refused field are read as zeros
-pub refused-state : (k : Kind) (w : ℕ) {r : Refusal} → checkRows w (rows_of k) ≡ Finding.Refused r
-    → stateRead k w ≡ elementOf k (replicate 24 0)
-unfolding stateRead
-refused-state k w bad =
-    ap (λ (f : Finding). elementOf k (onFinding f (padded (values_of w (rows_of k))) (λ r. replicate 24 0))) bad
+pub refused_state : (k : Kind) (w : ℕ) {r : Refusal} → check_rows w (rows_of k) ≡ Finding.Refused r
+    → state_read k w ≡ element_of k (replicate 24 0)
+unfolding state_read
+refused_state k w bad =
+    ap (λ (f : Finding). element_of k (on_finding f (padded (values_of w (rows_of k))) (λ r. replicate 24 0))) bad
 
 -- ---- what is found of a state's own number
 
 -- nothing but the rule of DAT: with named cases only 12 remains
-pub state-check : (e : Element) → elementCheck (kindIn e) (word_of e) ≡ datRule (kindIn e) (word_of e)
-unfolding elementCheck
-state-check e =
-    let k = kindIn e in
-    ap (λ (f : Finding). onFinding f (datRule k (word_of e)) Finding.Refused)
-    (within-accepted (word_of e) (rows_of k) (subst (Within (rows_of k)) (sym (own-values e)) (state-within e)))
+pub state_check : (e : Element) → element_check (kind_in e) (word_of e) ≡ dat_rule (kind_in e) (word_of e)
+unfolding element_check
+state_check e =
+    let k = kind_in e in
+    ap (λ (f : Finding). on_finding f (dat_rule k (word_of e)) Finding.Refused)
+    (within_accepted (word_of e) (rows_of k) (subst (Within (rows_of k)) (sym (own_values e)) (state_within e)))
 
 -- the number 0 is that of the state whose fields are all 0
-pub zero_word : (k : Kind) → word_of (elementOf k []) ≡ 0
+pub zero_word : (k : Kind) → word_of (element_of k []) ≡ 0
 unfolding state_of
-zero_word k = ap word_of (sym (zero-state k)) ∙ fields-word k 0 (pow_pos (8 * width_of k)) (zero-accepted (rows_of k))
+zero_word k = ap word_of (sym (zero_state k)) ∙ fields_word k 0 (pow_pos (8 * width_of k)) (zero_accepted (rows_of k))
 
 -- the zeros after the values don't change the number
-pub compose-padded : (e : Element) → composeOf (rows_of (kindIn e)) (padded (elementValues e)) ≡ word_of e
+pub compose_padded : (e : Element) → compose_of (rows_of (kind_in e)) (padded (element_values e)) ≡ word_of e
 unfolding word_of
-compose-padded e =
-    compose-append (rows_of (kindIn e)) (elementValues e) (replicate (24 - length (elementValues e)) 0) (state-within e)
+compose_padded e =
+    compose_append (rows_of (kind_in e)) (element_values e) (replicate (24 - length (element_values e)) 0) (state_within e)

@@ -1,61 +1,61 @@
 -- Which types are carried, the check of an element (fields from bit 0 up, then 12), and a state as a number and back.
 use Rattle.std.specs.Prelude.{Bool, true, false, cond, ℕ, ◌%◌, eqb}
-use Rattle.rows.specs.Values.{code_at, checkRows, values_of, composeOf, padded, onFinding, valuesRead}
+use Rattle.rows.specs.Values.{code_at, check_rows, values_of, compose_of, padded, on_finding, values_read}
 use Rattle.rows.specs.declared.Finding.{Finding}
-use Rattle.kinds.specs.Kinds.{layout_of, layoutNo, rows_of, findByNumber, elementOf, elementValues, kindIn}
+use Rattle.kinds.specs.Kinds.{layout_of, layout_no, rows_of, find_by_number, element_of, element_values, kind_in}
 use Rattle.kinds.specs.declared.Kind.{Kind}
 use Rattle.kinds.specs.declared.Element.{Element}
 use Rattle.kinds.specs.declared.OptionalKind.{OptionalKind}
-use Rattle.elements.specs.Types.{findByType}
+use Rattle.elements.specs.Types.{find_by_type}
 
 -- ---- what is carried
 
-abbrev pub isCarried : OptionalKind → Bool
-isCarried (OptionalKind.Some k) = true
-isCarried OptionalKind.None = false
+abbrev pub is_carried : OptionalKind → Bool
+is_carried (OptionalKind.Some k) = true
+is_carried OptionalKind.None = false
 
 -- the kind; of what is not carried, one that means nothing
-abbrev pub carriedKind : OptionalKind → Kind
-carriedKind (OptionalKind.Some k) = k
-carriedKind OptionalKind.None = Kind.Signal
+abbrev pub carried_kind : OptionalKind → Kind
+carried_kind (OptionalKind.Some k) = k
+carried_kind OptionalKind.None = Kind.Signal
 
 -- whether a type is carried under a catalogue's X, and its kind
 unfoldable pub carried : ℕ → ℕ → Bool
-carried x type = isCarried (findByType x type)
+carried x type = is_carried (find_by_type x type)
 
 unfoldable pub kind_of : ℕ → ℕ → Kind
-kind_of x type = carriedKind (findByType x type)
+kind_of x type = carried_kind (find_by_type x type)
 
 -- the kind whose layout has a number
-unfoldable pub kindNumbered : ℕ → Kind
-kindNumbered n = carriedKind (findByNumber n)
+unfoldable pub kind_numbered : ℕ → Kind
+kind_numbered n = carried_kind (find_by_number n)
 
-abbrev pub sameKind : Kind → Kind → Bool
-sameKind j k = eqb (layoutNo j) (layoutNo k)
+abbrev pub same_kind : Kind → Kind → Bool
+same_kind j k = eqb (layout_no j) (layout_no k)
 
 -- ---- the check of an element
 
 -- where DAT is 0, all other bits must be 0; a kind without DAT has no such rule
-unfoldable pub datRule : Kind → ℕ → Finding
-datRule k w =
+unfoldable pub dat_rule : Kind → ℕ → Finding
+dat_rule k w =
     cond (layout_of k).dat
     (cond (eqb (w % 2) 1) Finding.Accepted (cond (eqb w 0) Finding.Accepted (Finding.Refused (code_at 12 0))))
     Finding.Accepted
 
 -- fields from bit 0 up, then 12
-unfoldable pub elementCheck : Kind → ℕ → Finding
-elementCheck k w = onFinding (checkRows w (rows_of k)) (datRule k w) Finding.Refused
+unfoldable pub element_check : Kind → ℕ → Finding
+element_check k w = on_finding (check_rows w (rows_of k)) (dat_rule k w) Finding.Refused
 
 -- ---- states
 
 -- the state of an accepted number
 unfoldable pub state_of : Kind → ℕ → Element
-state_of k w = elementOf k (padded (values_of w (rows_of k)))
+state_of k w = element_of k (padded (values_of w (rows_of k)))
 
 -- the number of a state
 unfoldable pub word_of : Element → ℕ
-word_of e = composeOf (rows_of (kindIn e)) (elementValues e)
+word_of e = compose_of (rows_of (kind_in e)) (element_values e)
 
 -- the state that is read from any number: zeros if a field is refused; of an accepted number it is `state_of`
-unfoldable pub stateRead : Kind → ℕ → Element
-stateRead k w = elementOf k (valuesRead w (rows_of k))
+unfoldable pub state_read : Kind → ℕ → Element
+state_read k w = element_of k (values_read w (rows_of k))

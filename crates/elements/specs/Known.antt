@@ -5,7 +5,7 @@ use Rattle.rows.specs.Values.{code_at}
 use Rattle.rows.specs.declared.Finding.{Finding}
 use Rattle.kinds.specs.Kinds.{width_of}
 use Rattle.kinds.specs.declared.Kind.{Kind}
-use Rattle.elements.specs.Elements.{kind_of, elementCheck}
+use Rattle.elements.specs.Elements.{kind_of, element_check}
 
 pub record Known : Type 0 where
   pub type : ℕ
@@ -37,19 +37,19 @@ known =
     []
 
 -- the kind that a type has in catalogue 1.0
-abbrev pub kindIs : Known → Kind
-kindIs e = kind_of 1 e.type
+abbrev pub kind_is : Known → Kind
+kind_is e = kind_of 1 e.type
 
 -- what the element check finds of each, and what the paper says
 abbrev pub findings : List Known → List Finding
-findings = map (λ (e : Known). elementCheck (kindIs e) (number e.element))
+findings = map (λ (e : Known). element_check (kind_is e) (number e.element))
 
 abbrev pub said : List Known → List Finding
 said = map (λ (e : Known). e.finding)
 
 -- how wide an element of its type is, and how many bytes the paper prints
 abbrev pub wide : List Known → List ℕ
-wide = map (λ (e : Known). width_of (kindIs e))
+wide = map (λ (e : Known). width_of (kind_is e))
 
-abbrev pub printedWidths : List Known → List ℕ
-printedWidths = map (λ (e : Known). length e.element)
+abbrev pub printed_widths : List Known → List ℕ
+printed_widths = map (λ (e : Known). length e.element)

@@ -1,36 +1,36 @@
 -- Which types are carried under each catalogue's X, and as which kind. No others are.
 -- Written by catalogue/write.py.
 use Rattle.std.specs.Prelude.{cond, List, [], ◌∷◌, ℕ, eqb}
-use Rattle.kinds.specs.Kinds.{KindLine, kindLine, findIn}
+use Rattle.kinds.specs.Kinds.{KindLine, kind_line, find_in}
 use Rattle.kinds.specs.declared.Kind.{Kind}
 use Rattle.kinds.specs.declared.OptionalKind.{OptionalKind}
 
 -- the types carried under X = 1, each with its kind
-abbrev pub typesUnder1 : List KindLine
-typesUnder1 =
-    kindLine 1 Kind.Signal ∷
-    kindLine 2 Kind.ChangerSignal ∷
-    kindLine 3 Kind.VirtualBoard ∷
-    kindLine 4 Kind.LineTrackCircuit ∷
-    kindLine 5 Kind.PointsTrackCircuit ∷
-    kindLine 6 Kind.CrossingTrackCircuit ∷
-    kindLine 7 Kind.DualDetection ∷
-    kindLine 8 Kind.Points ∷
-    kindLine 9 Kind.ElectricLock ∷
-    kindLine 22 Kind.GeneralNotices ∷
-    kindLine 23 Kind.ControlBoundary ∷
+abbrev pub types_under1 : List KindLine
+types_under1 =
+    kind_line 1 Kind.Signal ∷
+    kind_line 2 Kind.ChangerSignal ∷
+    kind_line 3 Kind.VirtualBoard ∷
+    kind_line 4 Kind.LineTrackCircuit ∷
+    kind_line 5 Kind.PointsTrackCircuit ∷
+    kind_line 6 Kind.CrossingTrackCircuit ∷
+    kind_line 7 Kind.DualDetection ∷
+    kind_line 8 Kind.Points ∷
+    kind_line 9 Kind.ElectricLock ∷
+    kind_line 22 Kind.GeneralNotices ∷
+    kind_line 23 Kind.ControlBoundary ∷
     []
 
 -- the types carried under X = 3, each with its kind
-abbrev pub typesUnder3 : List KindLine
-typesUnder3 =
-    kindLine 1 Kind.SignalV3 ∷
-    kindLine 2 Kind.ChangerSignal ∷
-    kindLine 3 Kind.VirtualBoard ∷
-    kindLine 4 Kind.LineTrackCircuit ∷
-    kindLine 5 Kind.PointsTrackCircuit ∷
-    kindLine 6 Kind.CrossingTrackCircuit ∷
-    kindLine 7 Kind.DualDetection ∷
+abbrev pub types_under3 : List KindLine
+types_under3 =
+    kind_line 1 Kind.SignalV3 ∷
+    kind_line 2 Kind.ChangerSignal ∷
+    kind_line 3 Kind.VirtualBoard ∷
+    kind_line 4 Kind.LineTrackCircuit ∷
+    kind_line 5 Kind.PointsTrackCircuit ∷
+    kind_line 6 Kind.CrossingTrackCircuit ∷
+    kind_line 7 Kind.DualDetection ∷
     []
 
 -- a catalogue: its X and the types carried under it
@@ -42,12 +42,12 @@ abbrev catalogue : ℕ → List KindLine → Catalogue
 catalogue x types = record { x = x; types = types }
 
 abbrev pub catalogues : List Catalogue
-catalogues = catalogue 1 typesUnder1 ∷ catalogue 3 typesUnder3 ∷ []
+catalogues = catalogue 1 types_under1 ∷ catalogue 3 types_under3 ∷ []
 
 -- the kind of a type under an X
-abbrev pub findUnder : ℕ → ℕ → List Catalogue → OptionalKind
-findUnder x type [] = OptionalKind.None
-findUnder x type (c ∷ cs) = cond (eqb x c.x) (findIn type c.types) (findUnder x type cs)
+abbrev pub find_under : ℕ → ℕ → List Catalogue → OptionalKind
+find_under x type [] = OptionalKind.None
+find_under x type (c ∷ cs) = cond (eqb x c.x) (find_in type c.types) (find_under x type cs)
 
-abbrev pub findByType : ℕ → ℕ → OptionalKind
-findByType x type = findUnder x type catalogues
+abbrev pub find_by_type : ℕ → ℕ → OptionalKind
+find_by_type x type = find_under x type catalogues

@@ -7,10 +7,10 @@ mod types;
 ghost use Rattle.std.specs.Prelude.{◌≡◌, cond, ◌+◌, ◌≤◌, length, take, drop};
 ghost use Rattle.octets.specs.Octets.{number};
 ghost use Rattle.rows.specs.declared.Finding.{Finding};
-ghost use Rattle.rows.specs.Values.{code_at, checkRows, valuesRead};
-ghost use Rattle.kinds.specs.Kinds.{layoutNo, width_of, rows_of};
-ghost use Rattle.elements.specs.Elements.{carried, kind_of, kindNumbered, sameKind, datRule, elementCheck};
-ghost use Rattle.elements.specs.Elements.{stateRead, word_of};
+ghost use Rattle.rows.specs.Values.{code_at, check_rows, values_read};
+ghost use Rattle.kinds.specs.Kinds.{layout_no, width_of, rows_of};
+ghost use Rattle.elements.specs.Elements.{carried, kind_of, kind_numbered, same_kind, dat_rule, element_check};
+ghost use Rattle.elements.specs.Elements.{state_read, word_of};
 
 use kinds::{Element, Kind, OptionalKind};
 use rows::{Finding, Refusal};
@@ -19,7 +19,7 @@ use types::find_by_type;
 // Checks an element's number: the fields from bit 0 up, then the rule of DAT. Its rows are read only if a glance
 // doesn't show that it is accepted.
 pub fn check_element(word: u32, kind: Kind) -> Finding
-    ensures { result ≡ elementCheck kind word }
+    ensures { result ≡ element_check kind word }
 {
     if kinds::shows_listed(word, kind) && !is_stale(word, kind) {
         return Finding::Accepted;
@@ -30,7 +30,7 @@ pub fn check_element(word: u32, kind: Kind) -> Finding
 // Checks the element whose bytes begin at a place.
 pub fn check_at(s: &[u8], at: usize, kind: Kind) -> Finding
     requires { at + width_of kind ≤ length s.now }
-    ensures { result ≡ elementCheck kind (number (take (width_of kind) (drop at s.now))) }
+    ensures { result ≡ element_check kind (number (take (width_of kind) (drop at s.now))) }
 {
     let glance = kinds::glance_at(s, at, kind);
     if glance.listed && !is_stale(glance.word, kind) {
@@ -41,7 +41,7 @@ pub fn check_at(s: &[u8], at: usize, kind: Kind) -> Finding
 
 // The state of a number. If a field is refused, it is the state of zeros, so that no caller needs a case for it.
 pub fn state_of(word: u32, kind: Kind) -> Element
-    ensures { result ≡ stateRead kind word }
+    ensures { result ≡ state_read kind word }
 {
     kinds::element_of(kind, read_values(word, kind))
 }
@@ -83,14 +83,14 @@ pub fn kind_of(x: u8, ty: u8) -> Kind
 
 // A kind as its layout's number.
 pub fn layout_number(kind: Kind) -> u8
-    ensures { result ≡ layoutNo kind }
+    ensures { result ≡ layout_no kind }
 {
     kinds::layout(kind).number
 }
 
 // The kind whose layout has this number; if none has, a kind that means nothing.
 pub fn kind_numbered(number: u8) -> Kind
-    ensures { result ≡ kindNumbered number }
+    ensures { result ≡ kind_numbered number }
 {
     let found = kinds::find_by_number(number);
     let OptionalKind::Some(kind) = found else {
@@ -101,7 +101,7 @@ pub fn kind_numbered(number: u8) -> Kind
 
 // Whether two kinds are the same, by their layouts' numbers.
 pub fn same_kind(one: Kind, other: Kind) -> bool
-    ensures { result ≡ sameKind one other }
+    ensures { result ≡ same_kind one other }
 {
     layout_number(one) == layout_number(other)
 }
@@ -115,7 +115,7 @@ pub fn width(kind: Kind) -> usize
 
 // Checks an element's number by its rows, which say which field is refused.
 fn check_by_rows(word: u32, kind: Kind) -> Finding
-    ensures { result ≡ elementCheck kind word }
+    ensures { result ≡ element_check kind word }
 {
     let finding = check_fields(word, kind);
     let Finding::Accepted = finding else {
@@ -126,7 +126,7 @@ fn check_by_rows(word: u32, kind: Kind) -> Finding
 
 // What its rows find of an element's number.
 fn check_fields(word: u32, kind: Kind) -> Finding
-    ensures { result ≡ checkRows word (rows_of kind) }
+    ensures { result ≡ check_rows word (rows_of kind) }
 {
     let layout = kinds::layout(kind);
     rows::check_rows(word, layout.number, layout.first)
@@ -134,7 +134,7 @@ fn check_fields(word: u32, kind: Kind) -> Finding
 
 // The values of an element's number; all zeros if a field is refused.
 fn read_values(word: u32, kind: Kind) -> [u32; 24]
-    ensures { result ≡ valuesRead word (rows_of kind) }
+    ensures { result ≡ values_read word (rows_of kind) }
 {
     let layout = kinds::layout(kind);
     let first = layout.first;
@@ -144,7 +144,7 @@ fn read_values(word: u32, kind: Kind) -> [u32; 24]
 
 // The rule of DAT: where bit 0 is DAT and is 0, all other bits must be 0.
 fn dat_rule(word: u32, kind: Kind) -> Finding
-    ensures { result ≡ datRule kind word }
+    ensures { result ≡ dat_rule kind word }
 {
     if is_stale(word, kind) {
         return Finding::Refused(Refusal { code: 12, bit: 0 });
@@ -154,7 +154,7 @@ fn dat_rule(word: u32, kind: Kind) -> Finding
 
 // Whether that rule is broken.
 fn is_stale(word: u32, kind: Kind) -> bool
-    ensures { datRule kind word ≡ cond result (Finding.Refused (code_at 12 0)) Finding.Accepted }
+    ensures { dat_rule kind word ≡ cond result (Finding.Refused (code_at 12 0)) Finding.Accepted }
 {
     if word % 2 == 1 {
         return false;

@@ -1,14 +1,14 @@
 // Which types are carried under each catalogue's X, and as which kind.
 // Written by catalogue/write.py from catalogue/types.tsv.
 ghost use Rattle.std.specs.Prelude.{◌≡◌};
-ghost use Rattle.kinds.specs.Kinds.{findIn};
-ghost use Rattle.elements.specs.Types.{typesUnder1, typesUnder3, findByType};
+ghost use Rattle.kinds.specs.Kinds.{find_in};
+ghost use Rattle.elements.specs.Types.{types_under1, types_under3, find_by_type};
 
 use kinds::{Kind, OptionalKind};
 
 // The kind of a type under a catalogue's X, if it is carried.
 pub fn find_by_type(x: u8, ty: u8) -> OptionalKind
-    ensures { result ≡ findByType x ty }
+    ensures { result ≡ find_by_type x ty }
 {
     match x {
         1 => return under_1(ty),
@@ -18,7 +18,7 @@ pub fn find_by_type(x: u8, ty: u8) -> OptionalKind
 }
 
 fn under_1(ty: u8) -> OptionalKind
-    ensures { result ≡ findIn ty typesUnder1 }
+    ensures { result ≡ find_in ty types_under1 }
 {
     match ty {
         1 => return OptionalKind::Some(Kind::Signal),
@@ -37,7 +37,7 @@ fn under_1(ty: u8) -> OptionalKind
 }
 
 fn under_3(ty: u8) -> OptionalKind
-    ensures { result ≡ findIn ty typesUnder3 }
+    ensures { result ≡ find_in ty types_under3 }
 {
     match ty {
         1 => return OptionalKind::Some(Kind::SignalV3),

@@ -16,18 +16,18 @@ use borrow.Author.Tests.{eq-eqb, ne_eqb, le-leb, lt-leb}
 use Rattle.rows.specs.Rows.{row_at, rows_from}
 use Rattle.rows.specs.Values.{code_at, filled, padded}
 use Rattle.rows.specs.declared.Finding.{Finding}
-use Rattle.rows.specs.Covering.{layoutRows}
+use Rattle.rows.specs.Covering.{layout_rows}
 use Rattle.rows.specs.declared.Layout.{Layout}
-use Rattle.kinds.specs.Kinds.{layout_of, kindIn, elementValues}
+use Rattle.kinds.specs.Kinds.{layout_of, kind_in, element_values}
 use Rattle.kinds.specs.declared.Kind.{Kind}
 use Rattle.kinds.specs.declared.Element.{Element}
 use Rattle.history.specs.declared.Answer.{Answer}
 use Rattle.history.specs.Verdict.{unnamed}
-use Rattle.rows.proofs.Loops.{fill-store, rows_next}
-use Rattle.fields.specs.PlainFields.{shown, shownIn, shownPlain, spread, checkNamed}
+use Rattle.rows.proofs.Loops.{fill_store, rows_next}
+use Rattle.fields.specs.PlainFields.{shown, shown_in, shown_plain, spread, check_named}
 use Rattle.fields.specs.declared.Plain.{Plain}
 use Rattle.fields.specs.declared.by_rows.Shown.{Shown}
-use Rattle.fields.proofs.OwnFields.{own, spread-length}
+use Rattle.fields.proofs.OwnFields.{own, spread_length}
 
 -- whether row i is reserved
 abbrev none : ℕ → Bool
@@ -36,23 +36,23 @@ none i = eqb (row_at i).top 0
 -- ---- handing out
 
 -- one more row, at the end
-shown-on : (t b : Bool) (xs : List ℕ) (v x : ℕ)
+shown_on : (t b : Bool) (xs : List ℕ) (v x : ℕ)
     → cond t (cond b xs (xs ++ (x ∷ []))) (v ∷ cond b xs (xs ++ (x ∷ [])))
     ≡ cond b (cond t xs (v ∷ xs)) (cond t xs (v ∷ xs) ++ (x ∷ []))
-shown-on true true xs v x = refl
-shown-on true false xs v x = refl
-shown-on false true xs v x = refl
-shown-on false false xs v x = refl
+shown_on true true xs v x = refl
+shown_on true false xs v x = refl
+shown_on false true xs v x = refl
+shown_on false false xs v x = refl
 
-shown-snoc : (n i : ℕ) (vs : List ℕ) → n < length vs
+shown_snoc : (n i : ℕ) (vs : List ℕ) → n < length vs
     → shown (rows_from i (suc n)) vs
     ≡ cond (none (i + n)) (shown (rows_from i n) vs) (shown (rows_from i n) vs ++ (get_or vs n 0 ∷ []))
-shown-snoc n i [] h = absurd (omega arith)
-shown-snoc zero i (v ∷ vs) h = ap (λ (j : ℕ). cond (eqb (row_at j).top 0) [] (v ∷ [])) (sym (add-zero i))
-shown-snoc (suc n) i (v ∷ vs) h =
+shown_snoc n i [] h = absurd (omega arith)
+shown_snoc zero i (v ∷ vs) h = ap (λ (j : ℕ). cond (eqb (row_at j).top 0) [] (v ∷ [])) (sym (add-zero i))
+shown_snoc (suc n) i (v ∷ vs) h =
     let xs = shown (rows_from (suc i) n) vs in
-    ap (λ (l : List ℕ). cond (none i) l (v ∷ l)) (shown-snoc n (suc i) vs (omega arith))
-    ∙ shown-on (none i) (none (suc i + n)) xs v (get_or vs n 0)
+    ap (λ (l : List ℕ). cond (none i) l (v ∷ l)) (shown_snoc n (suc i) vs (omega arith))
+    ∙ shown_on (none i) (none (suc i + n)) xs v (get_or vs n 0)
     ∙ ap (λ (j : ℕ). cond (none j) (cond (none i) xs (v ∷ xs)) (cond (none i) xs (v ∷ xs) ++ (get_or vs n 0 ∷ [])))
     (suc-add i n ∙ sym (add-suc i n))
 
@@ -70,18 +70,18 @@ module _ {first count : ℕ} {vs fields : List ℕ} {n k : ℕ} (s : Showing fir
   xs : List ℕ
   xs = shown (rows_from first k) vs
 
-  next-shown : (b : Bool) → none (first + k) ≡ b
+  next_shown : (b : Bool) → none (first + k) ≡ b
       → shown (rows_from first (k + 1)) vs ≡ cond b xs (xs ++ (get_or vs k 0 ∷ []))
   unfolding xs
-  next-shown b e =
+  next_shown b e =
       ap (λ (j : ℕ). shown (rows_from first j) vs) (add-one k)
-      ∙ shown-snoc k first vs (omega arith)
+      ∙ shown_snoc k first vs (omega arith)
       ∙ ap (λ (b : Bool). cond b xs (xs ++ (get_or vs k 0 ∷ []))) e
 
   skips : (row_at (first + k)).top ≡ 0 → Showing first count vs fields n (k + 1)
   unfolding xs
   skips z =
-      let e = next-shown true (eq-eqb (row_at (first + k)).top 0 z) in
+      let e = next_shown true (eq-eqb (row_at (first + k)).top 0 z) in
       record {
         bound = omega arith;
         below = omega (arith, s.below);
@@ -93,42 +93,42 @@ module _ {first count : ℕ} {vs fields : List ℕ} {n k : ℕ} (s : Showing fir
   unfolding xs
   shows z =
       let x = get_or vs k 0 in
-      let e = next-shown false (ne_eqb (row_at (first + k)).top 0 z) in
+      let e = next_shown false (ne_eqb (row_at (first + k)).top 0 z) in
       record {
         bound = omega arith;
         below = omega (arith, s.below);
         size = omega (arith, s.size, length-append xs (x ∷ []), ap length e);
         so_far =
             ap₂ (λ (l : List ℕ) (i : ℕ). set l i x) s.so_far s.size
-            ∙ fill-store 32 xs x (omega (arith, s.size, s.below))
+            ∙ fill_store 32 xs x (omega (arith, s.size, s.below))
             ∙ ap (filled 32) (sym e);
       }
 
   -- one turn: the row has a field, or is reserved
-  pub shows-on : {top : ℕ} → top ≡ (row_at (first + k)).top → {P Q : Type 0} → (P → top ≡ 0 → ⊥) → (Q → top ≡ 0)
+  pub shows_on : {top : ℕ} → top ≡ (row_at (first + k)).top → {P Q : Type 0} → (P → top ≡ 0 → ⊥) → (Q → top ≡ 0)
       → {fields' : List ℕ} {n' : ℕ}
       → (P × (fields' ≡ set fields n (get_or vs k 0)) × (n' ≡ n + 1)) ⊎ (Q × (fields' ≡ fields) × (n' ≡ n))
       → Showing first count vs fields' n' (k + 1)
-  shows-on t p q (inl (x, e, f)) = rw (e, f) (shows (λ z. p x (t ∙ z)))
-  shows-on t p q (inr (x, e, f)) = rw (e, f) (skips (sym t ∙ q x))
+  shows_on t p q (inl (x, e, f)) = rw (e, f) (shows (λ z. p x (t ∙ z)))
+  shows_on t p q (inr (x, e, f)) = rw (e, f) (skips (sym t ∙ q x))
 
-pub shown-all : {first count : ℕ} {vs fields : List ℕ} {n k : ℕ} → Showing first count vs fields n k → count ≤ k
-    → ◌≡◌ {A = Shown} (record { count = n; fields = fields }) (shownIn (rows_from first count) vs)
-shown-all {first} {count} {vs} {fields} {n} {k} s h =
+pub shown_all : {first count : ℕ} {vs fields : List ℕ} {n k : ℕ} → Showing first count vs fields n k → count ≤ k
+    → ◌≡◌ {A = Shown} (record { count = n; fields = fields }) (shown_in (rows_from first count) vs)
+shown_all {first} {count} {vs} {fields} {n} {k} s h =
     let e : k ≡ count = omega (arith, s.bound) in
     let size = s.size ∙ ap (λ (j : ℕ). length (shown (rows_from first j) vs)) e in
     let so_far = s.so_far ∙ ap (λ (j : ℕ). filled 32 (shown (rows_from first j) vs)) e in
     λ i. record { count = size i; fields = so_far i }
 
 -- the fields of a state
-pub state-shown : (e : Element) {k : Kind} {l : Layout} {vs : List ℕ} {s : Shown} {a : Answer} → k ≡ kindIn e
-    → l ≡ layout_of k → vs ≡ padded (elementValues e)
-    → s ≡ shownIn (layoutRows l) vs → a ≡ unnamed 0 0
-    → ◌≡◌ {A = Plain} (record { answer = a; kind = l.number; count = s.count; fields = s.fields }) (shownPlain e)
-unfolding shownPlain
-state-shown e p q r t u =
+pub state_shown : (e : Element) {k : Kind} {l : Layout} {vs : List ℕ} {s : Shown} {a : Answer} → k ≡ kind_in e
+    → l ≡ layout_of k → vs ≡ padded (element_values e)
+    → s ≡ shown_in (layout_rows l) vs → a ≡ unnamed 0 0
+    → ◌≡◌ {A = Plain} (record { answer = a; kind = l.number; count = s.count; fields = s.fields }) (shown_plain e)
+unfolding shown_plain
+state_shown e p q r t u =
     let l-is = q ∙ ap layout_of p in
-    let s-is = t ∙ ap₂ (λ (l : Layout) (vs : List ℕ). shownIn (layoutRows l) vs) l-is r in
+    let s-is = t ∙ ap₂ (λ (l : Layout) (vs : List ℕ). shown_in (layout_rows l) vs) l-is r in
     λ i. record { answer = u i; kind = (l-is i).number; count = (s-is i).count; fields = (s-is i).fields }
 
 -- ---- taking in
@@ -144,23 +144,23 @@ after_one (f ∷ fs) j = refl
 abbrev taken : Bool → List ℕ → ℕ → ℕ
 taken b fs j = cond b 0 (get_or fs j 0)
 
-taken-first : (b : Bool) (fs : List ℕ) → front b fs [] [] ≡ taken b fs 0 ∷ []
-taken-first true fs = refl
-taken-first false fs = refl
+taken_first : (b : Bool) (fs : List ℕ) → front b fs [] [] ≡ taken b fs 0 ∷ []
+taken_first true fs = refl
+taken_first false fs = refl
 
-taken-on : (b : Bool) (fs xs ys : List ℕ) (c : Bool) (u : ℕ)
+taken_on : (b : Bool) (fs xs ys : List ℕ) (c : Bool) (u : ℕ)
     → front b fs (xs ++ (taken c fs u ∷ [])) (ys ++ (taken c (drop 1 fs) u ∷ []))
     ≡ front b fs xs ys ++ (taken c fs (cond b u (suc u)) ∷ [])
-taken-on true fs xs ys c u = refl
-taken-on false fs xs ys c u = ap (λ (x : ℕ). get_or fs 0 0 ∷ (ys ++ (cond c 0 x ∷ []))) (after_one fs u)
+taken_on true fs xs ys c u = refl
+taken_on false fs xs ys c u = ap (λ (x : ℕ). get_or fs 0 0 ∷ (ys ++ (cond c 0 x ∷ []))) (after_one fs u)
 
-spread-snoc : (n i : ℕ) (fs : List ℕ)
+spread_snoc : (n i : ℕ) (fs : List ℕ)
     → spread (rows_from i (suc n)) fs ≡ spread (rows_from i n) fs ++ (taken (none (i + n)) fs (own (rows_from i n)) ∷ [])
-spread-snoc zero i fs = taken-first (none i) fs ∙ ap (λ (j : ℕ). taken (none j) fs 0 ∷ []) (sym (add-zero i))
-spread-snoc (suc n) i fs =
+spread_snoc zero i fs = taken_first (none i) fs ∙ ap (λ (j : ℕ). taken (none j) fs 0 ∷ []) (sym (add-zero i))
+spread_snoc (suc n) i fs =
     let rs = rows_from (suc i) n in
-    ap₂ (front (none i) fs) (spread-snoc n (suc i) fs) (spread-snoc n (suc i) (drop 1 fs))
-    ∙ taken-on (none i) fs (spread rs fs) (spread rs (drop 1 fs)) (none (suc i + n)) (own rs)
+    ap₂ (front (none i) fs) (spread_snoc n (suc i) fs) (spread_snoc n (suc i) (drop 1 fs))
+    ∙ taken_on (none i) fs (spread rs fs) (spread rs (drop 1 fs)) (none (suc i + n)) (own rs)
     ∙ ap (λ (j : ℕ). front (none i) fs (spread rs fs) (spread rs (drop 1 fs))
     ++ (taken (none j) fs (cond (none i) (own rs) (suc (own rs))) ∷ []))
     (suc-add i n ∙ sym (add-suc i n))
@@ -172,18 +172,18 @@ own_on true false u = refl
 own_on false true u = refl
 own_on false false u = refl
 
-own-snoc : (n i : ℕ) → own (rows_from i (suc n)) ≡ cond (none (i + n)) (own (rows_from i n)) (suc (own (rows_from i n)))
-own-snoc zero i = ap (λ (j : ℕ). cond (none j) 0 1) (sym (add-zero i))
-own-snoc (suc n) i =
+own_snoc : (n i : ℕ) → own (rows_from i (suc n)) ≡ cond (none (i + n)) (own (rows_from i n)) (suc (own (rows_from i n)))
+own_snoc zero i = ap (λ (j : ℕ). cond (none j) 0 1) (sym (add-zero i))
+own_snoc (suc n) i =
     let u = own (rows_from (suc i) n) in
-    ap (λ (m : ℕ). cond (none i) m (suc m)) (own-snoc n (suc i))
+    ap (λ (m : ℕ). cond (none i) m (suc m)) (own_snoc n (suc i))
     ∙ own_on (none i) (none (suc i + n)) u
     ∙ ap (λ (j : ℕ). cond (none j) (cond (none i) u (suc u)) (suc (cond (none i) u (suc u))))
     (suc-add i n ∙ sym (add-suc i n))
 
 -- one more zero is one of the padding
-pad-zero : (xs : List ℕ) → length xs < 24 → padded xs ≡ padded (xs ++ (0 ∷ []))
-pad-zero xs h =
+pad_zero : (xs : List ℕ) → length xs < 24 → padded xs ≡ padded (xs ++ (0 ∷ []))
+pad_zero xs h =
     let m = 24 - suc (length xs) in
     let e : 24 - length xs ≡ suc m = omega arith in
     let e' : 24 - length (xs ++ (0 ∷ [])) ≡ m = omega (arith, length-append xs (0 ∷ [])) in
@@ -204,17 +204,17 @@ module _ {first count : ℕ} {fs values : List ℕ} {n k : ℕ} (s : Taking firs
   ys : List ℕ
   ys = spread (rows_from first k) fs
 
-  next-spread : (b : Bool) → none (first + k) ≡ b → spread (rows_from first (k + 1)) fs ≡ ys ++ (taken b fs n ∷ [])
+  next_spread : (b : Bool) → none (first + k) ≡ b → spread (rows_from first (k + 1)) fs ≡ ys ++ (taken b fs n ∷ [])
   unfolding ys
-  next-spread b e =
+  next_spread b e =
       ap (λ (j : ℕ). spread (rows_from first j) fs) (add-one k)
-      ∙ spread-snoc k first fs
+      ∙ spread_snoc k first fs
       ∙ ap₂ (λ (b : Bool) (j : ℕ). ys ++ (taken b fs j ∷ [])) e (sym s.size)
 
-  next-own : (b : Bool) → none (first + k) ≡ b → own (rows_from first (k + 1)) ≡ cond b n (suc n)
-  next-own b e =
+  next_own : (b : Bool) → none (first + k) ≡ b → own (rows_from first (k + 1)) ≡ cond b n (suc n)
+  next_own b e =
       ap (λ (j : ℕ). own (rows_from first j)) (add-one k)
-      ∙ own-snoc k first
+      ∙ own_snoc k first
       ∙ ap₂ (λ (b : Bool) (j : ℕ). cond b j (suc j)) e (sym s.size)
 
   passes : (row_at (first + k)).top ≡ 0 → Taking first count fs values n (k + 1)
@@ -224,9 +224,9 @@ module _ {first count : ℕ} {fs values : List ℕ} {n k : ℕ} (s : Taking firs
       record {
         bound = omega arith;
         below = omega (arith, s.below);
-        size = sym (next-own true e);
+        size = sym (next_own true e);
         so_far =
-            s.so_far ∙ pad-zero ys (omega (arith, spread-length k first fs)) ∙ ap padded (sym (next-spread true e));
+            s.so_far ∙ pad_zero ys (omega (arith, spread_length k first fs)) ∙ ap padded (sym (next_spread true e));
       }
 
   takes : ((row_at (first + k)).top ≡ 0 → ⊥) → Taking first count fs (set values k (get_or fs n 0)) (n + 1) (k + 1)
@@ -237,24 +237,24 @@ module _ {first count : ℕ} {fs values : List ℕ} {n k : ℕ} (s : Taking firs
       record {
         bound = omega arith;
         below = omega (arith, s.below);
-        size = omega (arith, next-own false e);
+        size = omega (arith, next_own false e);
         so_far =
-            ap₂ (λ (l : List ℕ) (i : ℕ). set l i x) s.so_far (sym (spread-length k first fs))
-            ∙ fill-store 24 ys x (omega (arith, spread-length k first fs))
-            ∙ ap padded (sym (next-spread false e));
+            ap₂ (λ (l : List ℕ) (i : ℕ). set l i x) s.so_far (sym (spread_length k first fs))
+            ∙ fill_store 24 ys x (omega (arith, spread_length k first fs))
+            ∙ ap padded (sym (next_spread false e));
       }
 
   -- one turn: the row has a field, or is reserved
-  pub takes-on : {top : ℕ} → top ≡ (row_at (first + k)).top → {P Q : Type 0} → (P → top ≡ 0 → ⊥) → (Q → top ≡ 0)
+  pub takes_on : {top : ℕ} → top ≡ (row_at (first + k)).top → {P Q : Type 0} → (P → top ≡ 0 → ⊥) → (Q → top ≡ 0)
       → {values' : List ℕ} {n' : ℕ}
       → (P × (values' ≡ set values k (get_or fs n 0)) × (n' ≡ n + 1)) ⊎ (Q × (values' ≡ values) × (n' ≡ n))
       → Taking first count fs values' n' (k + 1)
-  takes-on t p q (inl (x, e, f)) = rw (e, f) (takes (λ z. p x (t ∙ z)))
-  takes-on t p q (inr (x, e, f)) = rw (e, f) (passes (sym t ∙ q x))
+  takes_on t p q (inl (x, e, f)) = rw (e, f) (takes (λ z. p x (t ∙ z)))
+  takes_on t p q (inr (x, e, f)) = rw (e, f) (passes (sym t ∙ q x))
 
-pub taken-all : {first count : ℕ} {fs values : List ℕ} {n k : ℕ} → Taking first count fs values n k → count ≤ k
+pub taken_all : {first count : ℕ} {fs values : List ℕ} {n k : ℕ} → Taking first count fs values n k → count ≤ k
     → values ≡ padded (spread (rows_from first count) fs)
-taken-all {first} {count} {fs} {values} {n} {k} s h =
+taken_all {first} {count} {fs} {values} {n} {k} s h =
     let e : k ≡ count = omega (arith, s.bound) in
     s.so_far ∙ ap (λ (j : ℕ). padded (spread (rows_from first j) fs)) e
 
@@ -262,25 +262,25 @@ taken-all {first} {count} {fs} {values} {n} {k} s h =
 
 pub record Checking (first count : ℕ) (vs : List ℕ) (k : ℕ) : Type 0 where
   pub bound : k ≤ count
-  pub to-come : checkNamed (rows_from first count) vs ≡ checkNamed (rows_from (first + k) (count - k)) (drop k vs)
+  pub to_come : check_named (rows_from first count) vs ≡ check_named (rows_from (first + k) (count - k)) (drop k vs)
 
 pub checking : (first count : ℕ) (vs : List ℕ) → Checking first count vs 0
 checking first count vs =
     let e : first + 0 ≡ first = omega arith in
     let e' : count - 0 ≡ count = omega arith in
-    record { bound = omega arith; to-come = ap₂ (λ (i n : ℕ). checkNamed (rows_from i n) vs) (sym e) (sym e') }
+    record { bound = omega arith; to_come = ap₂ (λ (i n : ℕ). check_named (rows_from i n) vs) (sym e) (sym e') }
 
 module _ {first count : ℕ} {vs : List ℕ} {k : ℕ} (s : Checking first count vs k) (h : k < count) (few : count ≤ 24)
     (full : length vs ≡ 24) {top : ℕ} (top-is : top ≡ (row_at (first + k)).top) where
   rest : Finding
-  rest = checkNamed (rows_from (first + (k + 1)) (count - (k + 1))) (drop (k + 1) vs)
+  rest = check_named (rows_from (first + (k + 1)) (count - (k + 1))) (drop (k + 1) vs)
 
-  next-named : checkNamed (rows_from first count) vs
+  next_named : check_named (rows_from first count) vs
       ≡ cond (leb (get_or vs k 0) (row_at (first + k)).top) rest (Finding.Refused (code_at 11 (row_at (first + k)).low))
   unfolding rest
-  next-named =
-      s.to-come
-      ∙ ap₂ checkNamed (rows_next first count k h)
+  next_named =
+      s.to_come
+      ∙ ap₂ check_named (rows_next first count k h)
       (drop-cons vs k 0 (omega arith) ∙ ap (λ (j : ℕ). get_or vs k 0 ∷ drop j vs) (sym (add-one k)))
 
   pub goes_on : get_or vs k 0 ≤ top → Checking first count vs (k + 1)
@@ -288,21 +288,21 @@ module _ {first count : ℕ} {vs : List ℕ} {k : ℕ} (s : Checking first count
   goes_on l =
       record {
         bound = omega arith;
-        to-come =
-            next-named ∙ ap (λ (b : Bool). cond b rest (Finding.Refused (code_at 11 (row_at (first + k)).low)))
+        to_come =
+            next_named ∙ ap (λ (b : Bool). cond b rest (Finding.Refused (code_at 11 (row_at (first + k)).low)))
             (le-leb (get_or vs k 0) (row_at (first + k)).top (omega arith));
       }
 
   pub stops : top < get_or vs k 0 → {bit : ℕ} → bit ≡ (row_at (first + k)).low
-      → Finding.Refused (code_at 11 bit) ≡ checkNamed (rows_from first count) vs
+      → Finding.Refused (code_at 11 bit) ≡ check_named (rows_from first count) vs
   stops l bit_is =
       ap (λ (bit : ℕ). Finding.Refused (code_at 11 bit)) bit_is
-      ∙ sym (next-named
+      ∙ sym (next_named
       ∙ ap (λ (b : Bool). cond b rest (Finding.Refused (code_at 11 (row_at (first + k)).low)))
       (lt-leb (get_or vs k 0) (row_at (first + k)).top (omega arith)))
 
 pub checked : {first count : ℕ} {vs : List ℕ} {k : ℕ} → Checking first count vs k → count ≤ k
-    → Finding.Accepted ≡ checkNamed (rows_from first count) vs
+    → Finding.Accepted ≡ check_named (rows_from first count) vs
 checked {first} {count} {vs} {k} s h =
     let z : count - k ≡ 0 = omega arith in
-    sym (s.to-come ∙ ap (λ (n : ℕ). checkNamed (rows_from (first + k) n) (drop k vs)) z)
+    sym (s.to_come ∙ ap (λ (n : ℕ). check_named (rows_from (first + k) n) (drop k vs)) z)

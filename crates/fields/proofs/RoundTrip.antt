@@ -12,28 +12,28 @@ use Rattle.rows.specs.Rows.{Row}
 use Rattle.rows.specs.Values.{padded}
 use Rattle.rows.specs.declared.Finding.{Finding}
 use Rattle.rows.proofs.Words.{Within}
-use Rattle.kinds.specs.Kinds.{rows_of, kindIn, elementOf, elementValues}
+use Rattle.kinds.specs.Kinds.{rows_of, kind_in, element_of, element_values}
 use Rattle.kinds.specs.declared.Element.{Element}
-use Rattle.kinds.proofs.KindLaws.{kind-found, element-back}
-use Rattle.elements.proofs.Laws.{state-within}
+use Rattle.kinds.proofs.KindLaws.{kind_found, element_back}
+use Rattle.elements.proofs.Laws.{state_within}
 use Rattle.history.specs.Verdict.{done}
 use Rattle.history.specs.Image.{Image}
-use Rattle.history.specs.Calls.{imageCall, readStateCall, writeStateCall}
-use Rattle.history.proofs.Demands.{read-then-write}
+use Rattle.history.specs.Calls.{image_call, read_state_call, write_state_call}
+use Rattle.history.proofs.Demands.{read_then_write}
 use Rattle.panel.specs.Readings.{reading_of}
 use Rattle.fields.specs.declared.Plain.{Plain}
-use Rattle.fields.specs.PlainFields.{shown, fields_of, shownPlain, plain_of, spread, valuesIn, checkNamed}
-use Rattle.fields.specs.Calls.{writeFieldsCall}
+use Rattle.fields.specs.PlainFields.{shown, fields_of, shown_plain, plain_of, spread, values_in, check_named}
+use Rattle.fields.specs.Calls.{write_fields_call}
 use Rattle.fields.proofs.CallLaws.{writes}
 
 -- ---- values that their rows admit, followed by anything
 
 -- handed out and in again, they are the same: a reserved row admits only 0
-spread-shown : (rs : List Row) (vs xs ys : List ℕ) → Within rs vs → spread rs (shown rs (vs ++ xs) ++ ys) ≡ vs
-spread-shown [] [] xs ys h = refl
-spread-shown [] (v ∷ vs) xs ys h = absurd h
-spread-shown (r ∷ rs) [] xs ys h = absurd h
-spread-shown (r ∷ rs) (v ∷ vs) xs ys h = at (eqb r.top 0) refl (spread-shown rs vs xs ys h.1)
+spread_shown : (rs : List Row) (vs xs ys : List ℕ) → Within rs vs → spread rs (shown rs (vs ++ xs) ++ ys) ≡ vs
+spread_shown [] [] xs ys h = refl
+spread_shown [] (v ∷ vs) xs ys h = absurd h
+spread_shown (r ∷ rs) [] xs ys h = absurd h
+spread_shown (r ∷ rs) (v ∷ vs) xs ys h = at (eqb r.top 0) refl (spread_shown rs vs xs ys h.1)
   where
     at : (b : Bool) → eqb r.top 0 ≡ b → spread rs (shown rs (vs ++ xs) ++ ys) ≡ vs
         → spread (r ∷ rs) (shown (r ∷ rs) (v ∷ (vs ++ xs)) ++ ys) ≡ v ∷ vs
@@ -41,7 +41,7 @@ spread-shown (r ∷ rs) (v ∷ vs) xs ys h = at (eqb r.top 0) refl (spread-shown
     at false e rest = rw (e, rest)
 
 -- each has a named case
-all_named : (rs : List Row) (vs xs : List ℕ) → Within rs vs → checkNamed rs (vs ++ xs) ≡ Finding.Accepted
+all_named : (rs : List Row) (vs xs : List ℕ) → Within rs vs → check_named rs (vs ++ xs) ≡ Finding.Accepted
 all_named [] vs xs h = refl
 all_named (r ∷ rs) [] xs h = absurd h
 all_named (r ∷ rs) (v ∷ vs) xs h = rw (le-leb v r.top h.0) (all_named rs vs xs h.1)
@@ -49,39 +49,39 @@ all_named (r ∷ rs) (v ∷ vs) xs h = rw (le-leb v r.top h.0) (all_named rs vs 
 -- ---- the values of a state
 
 module _ (e : Element) where
-  values-back : valuesIn (kindIn e) (fields_of e).fields ≡ padded (elementValues e)
-  values-back = ap padded (spread-shown (rows_of (kindIn e)) (elementValues e) _ _ (state-within e))
+  values_back : values_in (kind_in e) (fields_of e).fields ≡ padded (element_values e)
+  values_back = ap padded (spread_shown (rows_of (kind_in e)) (element_values e) _ _ (state_within e))
 
   -- its fields, handed in, make the state
-  pub handed-back : elementOf (kindIn e) (valuesIn (kindIn e) (fields_of e).fields) ≡ e
-  handed-back = ap (elementOf (kindIn e)) values-back ∙ element-back e
+  pub handed_back : element_of (kind_in e) (values_in (kind_in e) (fields_of e).fields) ≡ e
+  handed_back = ap (element_of (kind_in e)) values_back ∙ element_back e
 
   -- none of them is refused
-  pub handed-named : checkNamed (rows_of (kindIn e)) (valuesIn (kindIn e) (fields_of e).fields) ≡ Finding.Accepted
-  handed-named =
-      ap (checkNamed (rows_of (kindIn e))) values-back
-      ∙ all_named (rows_of (kindIn e)) (elementValues e) _ (state-within e)
+  pub handed_named : check_named (rows_of (kind_in e)) (values_in (kind_in e) (fields_of e).fields) ≡ Finding.Accepted
+  handed_named =
+      ap (check_named (rows_of (kind_in e))) values_back
+      ∙ all_named (rows_of (kind_in e)) (element_values e) _ (state_within e)
 
 -- ---- the calls
 
 module _ (T A : List ℕ) (i : ℕ) where
   -- a state handed in as its fields is written as the state
-  pub handed-in : (e : Element) (position : ℕ)
-      → writeFieldsCall T A i (shownPlain e).kind (shownPlain e).fields position ≡ writeStateCall T A i e position
-  unfolding shownPlain
-  handed-in e position =
-      writes T A i (shownPlain e).kind (shownPlain e).fields position (kind-found (kindIn e)) (handed-named e)
-      ∙ ap (λ (s : Element). writeStateCall T A i s position) (handed-back e)
+  pub handed_in : (e : Element) (position : ℕ)
+      → write_fields_call T A i (shown_plain e).kind (shown_plain e).fields position ≡ write_state_call T A i e position
+  unfolding shown_plain
+  handed_in e position =
+      writes T A i (shown_plain e).kind (shown_plain e).fields position (kind_found (kind_in e)) (handed_named e)
+      ∙ ap (λ (s : Element). write_state_call T A i s position) (handed_back e)
 
-  module _ {x : Plain} {e : Element} (is : x ≡ plain_of (reading_of (readStateCall T A i)))
-      (q : readStateCall T A i ≡ done e) where
+  module _ {x : Plain} {e : Element} (is : x ≡ plain_of (reading_of (read_state_call T A i)))
+      (q : read_state_call T A i ≡ done e) where
     -- fields that were read, handed in for the same object, write the state that was read
-    pub read-handed-in : (position : ℕ)
-        → writeFieldsCall T A i x.kind x.fields position ≡ writeStateCall T A i e position
+    pub read_handed_in : (position : ℕ)
+        → write_fields_call T A i x.kind x.fields position ≡ write_state_call T A i e position
     unfolding reading_of plain_of
-    read-handed-in position = rw (is, q) (handed-in e position)
+    read_handed_in position = rw (is, q) (handed_in e position)
 
     -- at the image's own position that gives the image
-    pub image-again : {a : Image} → Bytes A → imageCall T A ≡ done a
-        → writeFieldsCall T A i x.kind x.fields a.position ≡ done A
-    image-again {a} h ea = read-handed-in a.position ∙ read-then-write T A i h ea q
+    pub image_again : {a : Image} → Bytes A → image_call T A ≡ done a
+        → write_fields_call T A i x.kind x.fields a.position ≡ done A
+    image_again {a} h ea = read_handed_in a.position ∙ read_then_write T A i h ea q

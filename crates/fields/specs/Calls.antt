@@ -1,28 +1,28 @@
 -- The call that writes a state handed in as numbers, over raw bytes.
 use Rattle.std.specs.Prelude.{ℕ, List, eqb}
 use Rattle.rows.specs.declared.Refusal.{Refusal}
-use Rattle.kinds.specs.Kinds.{layoutNo, rows_of, kindIn, elementOf}
+use Rattle.kinds.specs.Kinds.{layout_no, rows_of, kind_in, element_of}
 use Rattle.kinds.specs.declared.Kind.{Kind}
-use Rattle.history.specs.Verdict.{Verdict, refused, then, refusalAt, ◌unless◌⨾◌}
-use Rattle.history.specs.Image.{foundIn, ◌of◌⨾◌}
-use Rattle.history.specs.Calls.{readStateCall, writeStateCall}
-use Rattle.fields.specs.PlainFields.{valuesIn, checkNamed}
+use Rattle.history.specs.Verdict.{Verdict, refused, then, refusal_at, ◌unless◌⨾◌}
+use Rattle.history.specs.Image.{found_in, ◌of◌⨾◌}
+use Rattle.history.specs.Calls.{read_state_call, write_state_call}
+use Rattle.fields.specs.PlainFields.{values_in, check_named}
 
 -- what is tested before a state's values: table, image and 13 as in reading, then 22 if the
 -- object's kind has another number
-abbrev pub ofKind : List ℕ → List ℕ → ℕ → ℕ → (Kind → Verdict (List ℕ)) → Verdict (List ℕ)
-ofKind T A i number next =
-    then (readStateCall T A i) λ was.
-    refusalAt 22 i unless eqb number (layoutNo (kindIn was)) ⨾
-    next (kindIn was)
+abbrev pub of_kind : List ℕ → List ℕ → ℕ → ℕ → (Kind → Verdict (List ℕ)) → Verdict (List ℕ)
+of_kind T A i number next =
+    then (read_state_call T A i) λ was.
+    refusal_at 22 i unless eqb number (layout_no (kind_in was)) ⨾
+    next (kind_in was)
 
 -- 11 for a value that has no named case; then the state is written as by `write_state`
-unfoldable pub writeFieldsCall : List ℕ → List ℕ → ℕ → ℕ → List ℕ → ℕ → Verdict (List ℕ)
-writeFieldsCall T A i number fields position =
-    ofKind T A i number λ k.
-    checkNamed (rows_of k) (valuesIn k fields) of i ⨾
-    writeStateCall T A i (elementOf k (valuesIn k fields)) position
+unfoldable pub write_fields_call : List ℕ → List ℕ → ℕ → ℕ → List ℕ → ℕ → Verdict (List ℕ)
+write_fields_call T A i number fields position =
+    of_kind T A i number λ k.
+    check_named (rows_of k) (values_in k fields) of i ⨾
+    write_state_call T A i (element_of k (values_in k fields)) position
 
 -- the refusal found, once table, image, 13 and 22 are passed
-unfoldable pub stateRefused : List ℕ → List ℕ → ℕ → ℕ → Refusal → Verdict (List ℕ)
-stateRefused T A i number found = ofKind T A i number λ k. refused (foundIn found i)
+unfoldable pub state_refused : List ℕ → List ℕ → ℕ → ℕ → Refusal → Verdict (List ℕ)
+state_refused T A i number found = of_kind T A i number λ k. refused (found_in found i)

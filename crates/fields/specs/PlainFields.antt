@@ -4,7 +4,7 @@ use Rattle.std.specs.Prelude.{ℕ, cond, List, [], ◌∷◌, leb, eqb, length, 
 use Rattle.rows.specs.Rows.{Row}
 use Rattle.rows.specs.Values.{code_at, filled, padded}
 use Rattle.rows.specs.declared.Finding.{Finding}
-use Rattle.kinds.specs.Kinds.{layoutNo, rows_of, kindIn, elementValues}
+use Rattle.kinds.specs.Kinds.{layout_no, rows_of, kind_in, element_values}
 use Rattle.kinds.specs.declared.Kind.{Kind}
 use Rattle.kinds.specs.declared.Element.{Element}
 use Rattle.history.specs.Verdict.{unnamed}
@@ -20,20 +20,20 @@ shown [] vs = []
 shown (r ∷ rs) [] = []
 shown (r ∷ rs) (v ∷ vs) = cond (eqb r.top 0) (shown rs vs) (v ∷ shown rs vs)
 
-abbrev pub shownIn : List Row → List ℕ → Shown
-shownIn rs vs = record { count = length (shown rs vs); fields = filled 32 (shown rs vs) }
+abbrev pub shown_in : List Row → List ℕ → Shown
+shown_in rs vs = record { count = length (shown rs vs); fields = filled 32 (shown rs vs) }
 
 abbrev pub fields_of : Element → Shown
-fields_of e = shownIn (rows_of (kindIn e)) (padded (elementValues e))
+fields_of e = shown_in (rows_of (kind_in e)) (padded (element_values e))
 
 -- a state as numbers; success writes no bytes
-unfoldable pub shownPlain : Element → Plain
-shownPlain e =
-    record { answer = unnamed 0 0; kind = layoutNo (kindIn e); count = (fields_of e).count; fields = (fields_of e).fields }
+unfoldable pub shown_plain : Element → Plain
+shown_plain e =
+    record { answer = unnamed 0 0; kind = layout_no (kind_in e); count = (fields_of e).count; fields = (fields_of e).fields }
 
 -- a refused reading gives a code and no state
 unfoldable pub plain_of : Reading → Plain
-plain_of (Reading.State e) = shownPlain e
+plain_of (Reading.State e) = shown_plain e
 plain_of (Reading.Refused answer) = record { answer = answer; kind = 0; count = 0; fields = replicate 32 0 }
 
 -- ---- handed in
@@ -43,11 +43,11 @@ abbrev pub spread : List Row → List ℕ → List ℕ
 spread [] fields = []
 spread (r ∷ rs) fields = cond (eqb r.top 0) (0 ∷ spread rs fields) (get_or fields 0 0 ∷ spread rs (drop 1 fields))
 
-abbrev pub valuesIn : Kind → List ℕ → List ℕ
-valuesIn k fields = padded (spread (rows_of k) fields)
+abbrev pub values_in : Kind → List ℕ → List ℕ
+values_in k fields = padded (spread (rows_of k) fields)
 
 -- the first value that has no named case: 11, with the field's lowest bit
-abbrev pub checkNamed : List Row → List ℕ → Finding
-checkNamed [] vs = Finding.Accepted
-checkNamed (r ∷ rs) [] = Finding.Accepted
-checkNamed (r ∷ rs) (v ∷ vs) = cond (leb v r.top) (checkNamed rs vs) (Finding.Refused (code_at 11 r.low))
+abbrev pub check_named : List Row → List ℕ → Finding
+check_named [] vs = Finding.Accepted
+check_named (r ∷ rs) [] = Finding.Accepted
+check_named (r ∷ rs) (v ∷ vs) = cond (leb v r.top) (check_named rs vs) (Finding.Refused (code_at 11 r.low))

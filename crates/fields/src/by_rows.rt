@@ -1,8 +1,8 @@
 // The loops over a layout's rows, `count` of them from row `first` on, and their values.
 ghost use Rattle.std.specs.Prelude.{◌≡◌, ◌+◌, ◌≤◌, ◌<◌};
-ghost use Rattle.rows.specs.Rows.{cells, rowTotal, row_at, rows_from};
+ghost use Rattle.rows.specs.Rows.{cells, row_total, row_at, rows_from};
 ghost use Rattle.rows.specs.Values.{padded};
-ghost use Rattle.fields.specs.PlainFields.{shownIn, spread, checkNamed};
+ghost use Rattle.fields.specs.PlainFields.{shown_in, spread, check_named};
 
 use rows::{Cells, Finding, Refusal};
 
@@ -15,8 +15,8 @@ pub struct Shown {
 
 // The values of the rows that are not reserved.
 pub fn show_rows(values: [u32; 24], first: usize, count: usize) -> Shown
-    requires { (first + count ≤ rowTotal) × (count ≤ 24) }
-    ensures { result ≡ shownIn (rows_from first count) values }
+    requires { (first + count ≤ row_total) × (count ≤ 24) }
+    ensures { result ≡ shown_in (rows_from first count) values }
 {
     let rows = rows::cells();
     let mut fields = [0u32; 32];
@@ -34,7 +34,7 @@ pub fn show_rows(values: [u32; 24], first: usize, count: usize) -> Shown
 
 // The values of all rows, from the fields handed in: 0 for reserved rows.
 pub fn take_rows(fields: [u32; 32], first: usize, count: usize) -> [u32; 24]
-    requires { (first + count ≤ rowTotal) × (count ≤ 24) }
+    requires { (first + count ≤ row_total) × (count ≤ 24) }
     ensures { result ≡ padded (spread (rows_from first count) fields) }
 {
     let rows = rows::cells();
@@ -53,8 +53,8 @@ pub fn take_rows(fields: [u32; 32], first: usize, count: usize) -> [u32; 24]
 
 // Refuses the first value that has no named case: 11, with the field's lowest bit.
 pub fn check_named(values: [u32; 24], first: usize, count: usize) -> Finding
-    requires { (first + count ≤ rowTotal) × (count ≤ 24) }
-    ensures { result ≡ checkNamed (rows_from first count) values }
+    requires { (first + count ≤ row_total) × (count ≤ 24) }
+    ensures { result ≡ check_named (rows_from first count) values }
 {
     let rows = rows::cells();
     let mut k = 0;
@@ -70,7 +70,7 @@ pub fn check_named(values: [u32; 24], first: usize, count: usize) -> Finding
 
 // The highest value that a row admits; 0 if the row is reserved.
 fn highest(rows: &Cells, row: usize) -> u32
-    requires { (rows.now ≡ cells) × (row < rowTotal) }
+    requires { (rows.now ≡ cells) × (row < row_total) }
     ensures { result ≡ (row_at row).top }
 {
     rows::cell(rows, 4 * row + 3) as u32
@@ -78,7 +78,7 @@ fn highest(rows: &Cells, row: usize) -> u32
 
 // The row's lowest bit.
 fn lowest(rows: &Cells, row: usize) -> u8
-    requires { (rows.now ≡ cells) × (row < rowTotal) }
+    requires { (rows.now ≡ cells) × (row < row_total) }
     ensures { result ≡ (row_at row).low }
 {
     rows::cell(rows, 4 * row + 1)

@@ -4,12 +4,12 @@
 mod by_rows;
 
 ghost use Rattle.std.specs.Prelude.{◌≡◌};
-ghost use Rattle.kinds.specs.Kinds.{rows_of, findByNumber};
+ghost use Rattle.kinds.specs.Kinds.{rows_of, find_by_number};
 ghost use Rattle.history.specs.Verdict.{told, Leaves};
-ghost use Rattle.history.specs.Calls.{readStateCall};
+ghost use Rattle.history.specs.Calls.{read_state_call};
 ghost use Rattle.panel.specs.Readings.{reading_of};
-ghost use Rattle.fields.specs.PlainFields.{shownPlain, plain_of, valuesIn, checkNamed};
-ghost use Rattle.fields.specs.Calls.{writeFieldsCall, stateRefused};
+ghost use Rattle.fields.specs.PlainFields.{shown_plain, plain_of, values_in, check_named};
+ghost use Rattle.fields.specs.Calls.{write_fields_call, state_refused};
 
 use by_rows::{check_named, show_rows, take_rows};
 use history::Answer;
@@ -30,7 +30,7 @@ pub struct Plain {
 
 // Reads the state of an object in an image, as numbers.
 pub fn read_fields(table: &[u8], image: &[u8], object: u16) -> Plain
-    ensures { result ≡ plain_of (reading_of (readStateCall table.now image.now object)) }
+    ensures { result ≡ plain_of (reading_of (read_state_call table.now image.now object)) }
 {
     plain_of(read_state(table, image, object))
 }
@@ -45,7 +45,7 @@ pub fn write_fields(
     position: u32,
     out: &mut [u8],
 ) -> Answer
-    ensures { Leaves (writeFieldsCall table.now image.now object number fields position)
+    ensures { Leaves (write_fields_call table.now image.now object number fields position)
         out.old result out.new }
 {
     let found = find_kind(number);
@@ -82,7 +82,7 @@ fn plain_of(reading: Reading) -> Plain
 }
 
 fn shown_plain(element: Element) -> Plain
-    ensures { result ≡ shownPlain element }
+    ensures { result ≡ shown_plain element }
 {
     let layout = kinds::layout(kinds::kind_in(element));
     let first = layout.first;
@@ -99,7 +99,7 @@ fn shown_plain(element: Element) -> Plain
 
 // The values of all of a kind's rows, from the fields handed in: 0 for reserved rows.
 fn values_in(fields: [u32; 32], kind: Kind) -> [u32; 24]
-    ensures { result ≡ valuesIn kind fields }
+    ensures { result ≡ values_in kind fields }
 {
     let layout = kinds::layout(kind);
     let first = layout.first;
@@ -109,7 +109,7 @@ fn values_in(fields: [u32; 32], kind: Kind) -> [u32; 24]
 
 // Refuses the first value that has no named case, with 11.
 fn check_values(values: [u32; 24], kind: Kind) -> Finding
-    ensures { result ≡ checkNamed (rows_of kind) values }
+    ensures { result ≡ check_named (rows_of kind) values }
 {
     let layout = kinds::layout(kind);
     let first = layout.first;
@@ -119,7 +119,7 @@ fn check_values(values: [u32; 24], kind: Kind) -> Finding
 
 // The kind with a number, if there is one.
 fn find_kind(number: u32) -> OptionalKind
-    ensures { result ≡ findByNumber number }
+    ensures { result ≡ find_by_number number }
 {
     if 255 < number {
         return OptionalKind::None;
@@ -129,7 +129,7 @@ fn find_kind(number: u32) -> OptionalKind
 
 // The answer where something is refused of a state handed in: table, image, 13 and 22 come before it.
 fn refuse_state(table: &[u8], image: &[u8], object: u16, number: u32, found: Refusal) -> Answer
-    ensures { result ≡ told (stateRefused table.now image.now object number found) }
+    ensures { result ≡ told (state_refused table.now image.now object number found) }
 {
     let was = read_fields(table, image, object);
     let known = was.kind;

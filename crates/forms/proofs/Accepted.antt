@@ -9,22 +9,22 @@ use mir.Val.{Fits}
 use Rattle.history.specs.declared.Answer.{Answer}
 use Rattle.history.specs.Verdict.{told}
 use Rattle.history.specs.Table.{Plan}
-use Rattle.history.specs.Image.{readImage, AcceptedImage}
-use Rattle.history.specs.Changes.{readList, AcceptedList}
-use Rattle.history.proofs.ImageLaws.{image-is}
-use Rattle.history.proofs.ListLaws.{list-is}
-use Rattle.history.proofs.CodeLaws.{image-coded, list-coded, zero-told}
+use Rattle.history.specs.Image.{read_image, AcceptedImage}
+use Rattle.history.specs.Changes.{read_list, AcceptedList}
+use Rattle.history.proofs.ImageLaws.{image_is}
+use Rattle.history.proofs.ListLaws.{list_is}
+use Rattle.history.proofs.CodeLaws.{image_coded, list_coded, zero_told}
 
 -- h: each number in b fits in a byte, as in any slice
 module _ (p : Plan) (b : List ℕ) (h : (i : ℕ) → Fits w8 (get_or b i 0)) {r : Answer} (good : r.code ≡ 0) where
-  pub image-accepted : r ≡ told (readImage p b) → AcceptedImage p b
-  image-accepted e =
-      let q = zero-told (readImage p b) (image-coded p b) (ap (λ (a : Answer). a.code) (sym e) ∙ good) in
-      let i = image-is p b (λ i. (h i).fits) q.1 in
+  pub image_accepted : r ≡ told (read_image p b) → AcceptedImage p b
+  image_accepted e =
+      let q = zero_told (read_image p b) (image_coded p b) (ap (λ (a : Answer). a.code) (sym e) ∙ good) in
+      let i = image_is p b (λ i. (h i).fits) q.1 in
       record { image = q.0; legal = i.0; reads = q.1; same = i.1 }
 
-  pub list-accepted : r ≡ told (readList p b) → AcceptedList p b
-  list-accepted e =
-      let q = zero-told (readList p b) (list-coded p b) (ap (λ (a : Answer). a.code) (sym e) ∙ good) in
-      let i = list-is p b (λ i. (h i).fits) q.1 in
+  pub list_accepted : r ≡ told (read_list p b) → AcceptedList p b
+  list_accepted e =
+      let q = zero_told (read_list p b) (list_coded p b) (ap (λ (a : Answer). a.code) (sym e) ∙ good) in
+      let i = list_is p b (λ i. (h i).fits) q.1 in
       record { list = q.0; legal = i.0; reads = q.1; same = i.1 }

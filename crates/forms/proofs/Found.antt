@@ -5,11 +5,11 @@ use Prim.Native.Nat.{ℕ}
 use Rattle.rows.specs.declared.Finding.{Finding}
 use Rattle.rows.specs.declared.Refusal.{Refusal}
 use Rattle.history.specs.Verdict.{Verdict, refused}
-use Rattle.history.specs.Image.{foundIn, ◌of◌⨾◌}
+use Rattle.history.specs.Image.{found_in, ◌of◌⨾◌}
 
-pub is-bad : {A : Type 0} (f : Finding) (i : ℕ) (rest : Verdict A) (r : Refusal) → f ≡ Finding.Refused r
-    → (f of i ⨾ rest) ≡ refused (foundIn r i)
-is-bad f i rest r e = ap (λ (f : Finding). f of i ⨾ rest) e
+pub is_bad : {A : Type 0} (f : Finding) (i : ℕ) (rest : Verdict A) (r : Refusal) → f ≡ Finding.Refused r
+    → (f of i ⨾ rest) ≡ refused (found_in r i)
+is_bad f i rest r e = ap (λ (f : Finding). f of i ⨾ rest) e
 
-pub is-good : {A : Type 0} (f : Finding) (i : ℕ) (rest : Verdict A) → f ≡ Finding.Accepted → (f of i ⨾ rest) ≡ rest
-is-good f i rest e = ap (λ (f : Finding). f of i ⨾ rest) e
+pub is_good : {A : Type 0} (f : Finding) (i : ℕ) (rest : Verdict A) → f ≡ Finding.Accepted → (f of i ⨾ rest) ≡ rest
+is_good f i rest e = ap (λ (f : Finding). f of i ⨾ rest) e

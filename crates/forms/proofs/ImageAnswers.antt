@@ -8,42 +8,42 @@ use mathlib.Core.List.{List}
 use lib.ListN.{length, get_or}
 use borrow.Author.Tests.{eq-eqb, ne_eqb}
 use Rattle.history.specs.Verdict.{told, unnamed}
-use Rattle.history.specs.Image.{imageVersionGood, widths, readWords, readImage}
+use Rattle.history.specs.Image.{image_version_good, widths, read_words, read_image}
 use Rattle.history.specs.Form.{is_whole}
-use Rattle.heads.specs.Heads.{isUnder, elementsPlace, imageHead, elementsIn}
-use Rattle.heads.proofs.Places.{head-is}
-use Rattle.heads.proofs.Chains.{imageWith, image-chain}
-use Rattle.tables.specs.Outlines.{kindsOf, planAs}
-use Rattle.tables.proofs.AnswerLaws.{told-refused, told-then}
+use Rattle.heads.specs.Heads.{is_under, elements_place, image_head, elements_in}
+use Rattle.heads.proofs.Places.{head_is}
+use Rattle.heads.proofs.Chains.{image_with, image_chain}
+use Rattle.tables.specs.Outlines.{kinds_of, plan_as}
+use Rattle.tables.proofs.AnswerLaws.{told_refused, told_then}
 
 module _ (x y : ℕ) (ns b : List ℕ) where
-  pub not-whole : is_whole 7 b ≡ false → unnamed 1 0 ≡ told (readImage (planAs x y ns) b)
-  not-whole e = told-refused _ (image-chain (planAs x y ns) b ∙ rw e) refl
+  pub not_whole : is_whole 7 b ≡ false → unnamed 1 0 ≡ told (read_image (plan_as x y ns) b)
+  not_whole e = told_refused _ (image_chain (plan_as x y ns) b ∙ rw e) refl
 
   module _ (whole : is_whole 7 b ≡ true) where
-    pub other-version : imageVersionGood (get_or b 4 0) ≡ false → unnamed 2 0 ≡ told (readImage (planAs x y ns) b)
-    other-version e = told-refused _ (image-chain (planAs x y ns) b ∙ rw (whole, e)) refl
+    pub other_version : image_version_good (get_or b 4 0) ≡ false → unnamed 2 0 ≡ told (read_image (plan_as x y ns) b)
+    other_version e = told_refused _ (image_chain (plan_as x y ns) b ∙ rw (whole, e)) refl
 
-    module _ (version : imageVersionGood (get_or b 4 0) ≡ true) where
-      pub not-under : isUnder x y b ≡ false → unnamed 9 0 ≡ told (readImage (planAs x y ns) b)
-      not-under e = told-refused _ (image-chain (planAs x y ns) b ∙ rw (whole, version, e)) refl
+    module _ (version : image_version_good (get_or b 4 0) ≡ true) where
+      pub not_under : is_under x y b ≡ false → unnamed 9 0 ≡ told (read_image (plan_as x y ns) b)
+      not_under e = told_refused _ (image_chain (plan_as x y ns) b ∙ rw (whole, version, e)) refl
 
-      module _ (under : isUnder x y b ≡ true) (place : ℕ) (place_is : place ≡ elementsPlace (get_or b 4 0)) (w : ℕ)
-          (w-is : w ≡ widths (kindsOf ns)) where
-        pub other-size : (length b ≡ place + w → ⊥) → unnamed 8 0 ≡ told (readImage (planAs x y ns) b)
-        other-size h =
-            let n : (length b ≡ imageHead b + widths (kindsOf ns) → ⊥) =
-            λ e. h (omega (arith, head-is b place place_is)) in
-            told-refused _
-            (image-chain (planAs x y ns) b
-            ∙ rw (whole, version, under, ne_eqb (length b) (imageHead b + widths (kindsOf ns)) n)) refl
+      module _ (under : is_under x y b ≡ true) (place : ℕ) (place_is : place ≡ elements_place (get_or b 4 0)) (w : ℕ)
+          (w-is : w ≡ widths (kinds_of ns)) where
+        pub other_size : (length b ≡ place + w → ⊥) → unnamed 8 0 ≡ told (read_image (plan_as x y ns) b)
+        other_size h =
+            let n : (length b ≡ image_head b + widths (kinds_of ns) → ⊥) =
+            λ e. h (omega (arith, head_is b place place_is)) in
+            told_refused _
+            (image_chain (plan_as x y ns) b
+            ∙ rw (whole, version, under, ne_eqb (length b) (image_head b + widths (kinds_of ns)) n)) refl
 
-        pub by-words : length b ≡ place + w → (words : List ℕ) → words ≡ elementsIn b
-            → told (readWords 0 (kindsOf ns) words) ≡ told (readImage (planAs x y ns) b)
-        by-words h words e =
-            let size : length b ≡ imageHead b + widths (kindsOf ns) = omega (arith, head-is b place place_is) in
-            ap (λ (c : List ℕ). told (readWords 0 (kindsOf ns) c)) e
+        pub by_words : length b ≡ place + w → (words : List ℕ) → words ≡ elements_in b
+            → told (read_words 0 (kinds_of ns) words) ≡ told (read_image (plan_as x y ns) b)
+        by_words h words e =
+            let size : length b ≡ image_head b + widths (kinds_of ns) = omega (arith, head_is b place place_is) in
+            ap (λ (c : List ℕ). told (read_words 0 (kinds_of ns) c)) e
             ∙ sym (ap told
-            (image-chain (planAs x y ns) b
-            ∙ rw (whole, version, under, eq-eqb (length b) (imageHead b + widths (kindsOf ns)) size))
-            ∙ told-then (readWords 0 (kindsOf ns) (elementsIn b)) (imageWith b))
+            (image_chain (plan_as x y ns) b
+            ∙ rw (whole, version, under, eq-eqb (length b) (image_head b + widths (kinds_of ns)) size))
+            ∙ told_then (read_words 0 (kinds_of ns) (elements_in b)) (image_with b))

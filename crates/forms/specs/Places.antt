@@ -2,7 +2,7 @@
 use Rattle.std.specs.Prelude.{ℕ, ◌+◌, ◌≤◌, ◌<◌, ◌≡◌, List, ◌++◌, length, take, drop}
 use Rattle.kinds.specs.declared.Kind.{Kind}
 use Rattle.history.specs.Image.{widths}
-use Rattle.tables.specs.Outlines.{kindsOf}
+use Rattle.tables.specs.Outlines.{kinds_of}
 
 -- after the elements of the objects before it
 abbrev pub place_in : List Kind → ℕ → ℕ
@@ -12,7 +12,7 @@ place_in ks i = widths (take i ks)
 pub record Sized (ns es : List ℕ) (i : ℕ) : Type 0 where
   pub below : i < length ns
   pub few : length ns ≤ 1024
-  pub long : length es ≡ widths (kindsOf ns)
+  pub long : length es ≡ widths (kinds_of ns)
 
 -- l with the bytes bs laid over it from `at` on
 abbrev pub over : ℕ → List ℕ → List ℕ → List ℕ

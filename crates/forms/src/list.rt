@@ -1,9 +1,9 @@
 // The check of a change list: 1, 2, 9, then entry by entry 8, 13, 14, 8, old element, new element, 15; last 8.
 ghost use Rattle.std.specs.Prelude.{◌≡◌, ◌+◌, ◌≤◌, ◌<◌, length, drop};
 ghost use Rattle.history.specs.Verdict.{told};
-ghost use Rattle.history.specs.Changes.{readNumber, readElements, checkEntry, readEntries, readList};
-ghost use Rattle.history.specs.Calls.{listCall};
-ghost use Rattle.tables.specs.Outlines.{kindsOf, planAs};
+ghost use Rattle.history.specs.Changes.{read_number, read_elements, check_entry, read_entries, read_list};
+ghost use Rattle.history.specs.Calls.{list_call};
+ghost use Rattle.tables.specs.Outlines.{kinds_of, plan_as};
 ghost use Rattle.forms.specs.ListEntries.{numbered, passed};
 
 use super::objects::kind_at;
@@ -15,7 +15,7 @@ use tables::{accepted, first_kinds, outline, refused, refused_at, refused_by};
 
 // Checks a change list under its table.
 pub fn check_list(table: &[u8], list: &[u8]) -> Answer
-    ensures { result ≡ told (listCall table.now list.now) }
+    ensures { result ≡ told (list_call table.now list.now) }
 {
     let known = outline(table);
     let answer = known.answer;
@@ -31,7 +31,7 @@ pub fn check_list(table: &[u8], list: &[u8]) -> Answer
 // Takes X, Y and the layout numbers of an accepted table, so that a call with several forms reads the table once.
 pub fn check_list_under(x: u8, y: u8, kinds: &[u8], list: &[u8]) -> Answer
     requires { length kinds.now ≤ 1024 }
-    ensures { result ≡ told (readList (planAs x y kinds.now) list.now) }
+    ensures { result ≡ told (read_list (plan_as x y kinds.now) list.now) }
 {
     if !is_whole(list, 13) {
         return refused(1);
@@ -48,7 +48,7 @@ pub fn check_list_under(x: u8, y: u8, kinds: &[u8], list: &[u8]) -> Answer
 // Checks `count` entries, which must fill the bytes exactly.
 fn check_entries(kinds: &[u8], count: usize, entries: &[u8]) -> Answer
     requires { length kinds.now ≤ 1024 }
-    ensures { result ≡ told (readEntries (kindsOf kinds.now) 0 count entries.now) }
+    ensures { result ≡ told (read_entries (kinds_of kinds.now) 0 count entries.now) }
 {
     let mut at: usize = 0;
     let mut low: usize = 0;
@@ -100,7 +100,7 @@ pub enum Passed {
 // Checks the entry at a place, whose object must not be below `low`: its number, 14, its elements, 15.
 fn check_entry(kinds: &[u8], low: usize, entries: &[u8], at: usize) -> Passed
     requires { (at ≤ length entries.now) × (length kinds.now ≤ 1024) }
-    ensures { result ≡ passed (at + 2) (checkEntry (kindsOf kinds.now) low (drop at entries.now)) }
+    ensures { result ≡ passed (at + 2) (check_entry (kinds_of kinds.now) low (drop at entries.now)) }
 {
     let number = check_number(kinds, entries, at);
     match number {
@@ -130,7 +130,7 @@ fn check_entry(kinds: &[u8], low: usize, entries: &[u8], at: usize) -> Passed
 // Checks the object number at a place: 8, 13.
 fn check_number(kinds: &[u8], entries: &[u8], at: usize) -> Numbered
     requires { at ≤ length entries.now }
-    ensures { result ≡ numbered (readNumber (kindsOf kinds.now) (drop at entries.now)) }
+    ensures { result ≡ numbered (read_number (kinds_of kinds.now) (drop at entries.now)) }
 {
     if entries.len() - at < 2 {
         return Numbered::Refused(refused(8));
@@ -146,7 +146,7 @@ fn check_number(kinds: &[u8], entries: &[u8], at: usize) -> Numbered
 // Checks the old and the new element from a place on: 8, the old, the new.
 fn check_elements(kind: Kind, object: u16, entries: &[u8], at: usize) -> Passed
     requires { at ≤ length entries.now }
-    ensures { result ≡ passed at (readElements object kind (drop at entries.now)) }
+    ensures { result ≡ passed at (read_elements object kind (drop at entries.now)) }
 {
     let width = elements::width(kind);
     if entries.len() - at < width + width {

@@ -14,13 +14,13 @@ use Rattle.octets.specs.Octets.{number}
 use Rattle.kinds.specs.Kinds.{width_of}
 use Rattle.elements.specs.Elements.{carried, kind_of}
 use Rattle.history.specs.Verdict.{Verdict, done, refusal, ◌unless◌⨾◌}
-use Rattle.history.specs.Table.{catalogueGood}
+use Rattle.history.specs.Table.{catalogue_good}
 use Rattle.history.specs.Image.{element, ◌of◌⨾◌}
 use Rattle.history.proofs.VerdictLaws.{refuted, past, stopped}
-use Rattle.history.proofs.ElementLaws.{refuses-as}
-use Rattle.history.proofs.NameLaws.{Named, accepts, refuses, named-unless, named-of}
-use Rattle.history.proofs.CatalogueLaws.{CarriedCatalogue, catalogue-is, catalogue-carried, element-codes}
-use Rattle.gateway.specs.Calls.{elementCall}
+use Rattle.history.proofs.ElementLaws.{refuses_as}
+use Rattle.history.proofs.NameLaws.{Named, accepts, refuses, named_unless, named_of}
+use Rattle.history.proofs.CatalogueLaws.{CarriedCatalogue, catalogue_is, catalogue_carried, element_codes}
+use Rattle.gateway.specs.Calls.{element_call}
 
 module _ (x y type : ℕ) (b : List ℕ) where
   -- what is checked after 5
@@ -30,49 +30,49 @@ module _ (x y type : ℕ) (b : List ℕ) where
       element (kind_of x type) (number b) of 65535 ⨾
       done (number b)
 
-  above-eight : Named (λ r. 8 < r.code) (element (kind_of x type) (number b) of 65535 ⨾ done (number b))
-  above-eight =
-      named-of (element (kind_of x type) (number b)) 65535 _
-      (λ r q. omega (arith, element-codes (refuses-as (kind_of x type) (number b) q))) accepts
+  above_eight : Named (λ r. 8 < r.code) (element (kind_of x type) (number b) of 65535 ⨾ done (number b))
+  above_eight =
+      named_of (element (kind_of x type) (number b)) 65535 _
+      (λ r q. omega (arith, element_codes (refuses_as (kind_of x type) (number b) q))) accepts
 
-  above-five : Named (λ r. 5 < r.code) typed
-  above-five =
-      named-unless (eqb (length b) (width_of (kind_of x type))) _ _ (λ f. refuses (omega arith)) λ t.
-      record { names = λ e. omega (arith, above-eight.names e) }
+  above_five : Named (λ r. 5 < r.code) typed
+  above_five =
+      named_unless (eqb (length b) (width_of (kind_of x type))) _ _ (λ f. refuses (omega arith)) λ t.
+      record { names = λ e. omega (arith, above_eight.names e) }
 
-  above-three : Named (λ r. 3 < r.code) (refusal 5 unless carried x type ⨾ typed)
-  above-three =
-      named-unless (carried x type) _ _ (λ f. refuses (omega arith)) λ t.
-      record { names = λ e. omega (arith, above-five.names e) }
+  above_three : Named (λ r. 3 < r.code) (refusal 5 unless carried x type ⨾ typed)
+  above_three =
+      named_unless (carried x type) _ _ (λ f. refuses (omega arith)) λ t.
+      record { names = λ e. omega (arith, above_five.names e) }
 
-  pub element-catalogue : (elementCall x y type b ≡ refusal 3) ↔ (CarriedCatalogue x y → ⊥)
-  unfolding elementCall
-  element-catalogue = (
+  pub element_catalogue : (element_call x y type b ≡ refusal 3) ↔ (CarriedCatalogue x y → ⊥)
+  unfolding element_call
+  element_catalogue = (
     (λ r c. false≢true
-        (sym (stopped (catalogueGood x y) _ _ (λ q. omega (arith, above-three.names q)) r) ∙ catalogue-carried x y c)),
-    (λ n. rw (refuted (catalogueGood x y) (λ q. n (catalogue-is x y q)))),
+        (sym (stopped (catalogue_good x y) _ _ (λ q. omega (arith, above_three.names q)) r) ∙ catalogue_carried x y c)),
+    (λ n. rw (refuted (catalogue_good x y) (λ q. n (catalogue_is x y q)))),
   )
 
-  pub element-type : CarriedCatalogue x y → (elementCall x y type b ≡ refusal 5) ↔ (carried x type ≡ false)
-  unfolding elementCall
-  element-type c = (
-    (λ r. stopped (carried x type) _ _ (λ q. omega (arith, above-five.names q))
-        (past (catalogueGood x y) _ _ (λ z. omega arith) r).1),
-    (λ f. rw (catalogue-carried x y c, f)),
+  pub element_type : CarriedCatalogue x y → (element_call x y type b ≡ refusal 5) ↔ (carried x type ≡ false)
+  unfolding element_call
+  element_type c = (
+    (λ r. stopped (carried x type) _ _ (λ q. omega (arith, above_five.names q))
+        (past (catalogue_good x y) _ _ (λ z. omega arith) r).1),
+    (λ f. rw (catalogue_carried x y c, f)),
   )
 
   module _ (c : CarriedCatalogue x y) (h : carried x type ≡ true) where
-    pub element-length : (elementCall x y type b ≡ refusal 8) ↔ (length b ≡ width_of (kind_of x type) → ⊥)
-    unfolding elementCall
-    element-length = (
+    pub element_length : (element_call x y type b ≡ refusal 8) ↔ (length b ≡ width_of (kind_of x type) → ⊥)
+    unfolding element_call
+    element_length = (
       (λ r e. false≢true
-          (sym (stopped (eqb (length b) (width_of (kind_of x type))) _ _ (λ q. omega (arith, above-eight.names q))
-          (rw (catalogue-carried x y c, h) at r))
+          (sym (stopped (eqb (length b) (width_of (kind_of x type))) _ _ (λ q. omega (arith, above_eight.names q))
+          (rw (catalogue_carried x y c, h) at r))
           ∙ eq-eqb _ _ e)),
-      (λ n. rw (catalogue-carried x y c, h, ne_eqb _ _ n)),
+      (λ n. rw (catalogue_carried x y c, h, ne_eqb _ _ n)),
     )
 
-    pub element-alone : length b ≡ width_of (kind_of x type)
-        → elementCall x y type b ≡ (element (kind_of x type) (number b) of 65535 ⨾ done (number b))
-    unfolding elementCall
-    element-alone e = rw (catalogue-carried x y c, h, eq-eqb _ _ e)
+    pub element_alone : length b ≡ width_of (kind_of x type)
+        → element_call x y type b ≡ (element (kind_of x type) (number b) of 65535 ⨾ done (number b))
+    unfolding element_call
+    element_alone e = rw (catalogue_carried x y c, h, eq-eqb _ _ e)

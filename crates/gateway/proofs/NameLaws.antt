@@ -13,30 +13,30 @@ use Rattle.kinds.specs.declared.Kind.{Kind}
 use Rattle.elements.specs.Elements.{carried, kind_of}
 use Rattle.elements.proofs.Findings.{Refuses}
 use Rattle.history.specs.Verdict.{Refused, naming}
-use Rattle.history.specs.Table.{catalogueGood}
-use Rattle.history.specs.Image.{element, foundIn}
-use Rattle.history.proofs.ElementLaws.{refuses-as}
-use Rattle.history.proofs.NameLaws.{one_of, Named, accepts, refuses, named-unless, named-of}
-use Rattle.history.proofs.CodeLaws.{IsCode, Coded, one-of, field-code, coded_by}
-use Rattle.gateway.specs.Calls.{elementCall}
+use Rattle.history.specs.Table.{catalogue_good}
+use Rattle.history.specs.Image.{element, found_in}
+use Rattle.history.proofs.ElementLaws.{refuses_as}
+use Rattle.history.proofs.NameLaws.{one_of, Named, accepts, refuses, named_unless, named_of}
+use Rattle.history.proofs.CodeLaws.{IsCode, Coded, one_of_lem, field_code, coded_by}
+use Rattle.gateway.specs.Calls.{element_call}
 
 pub data NamesAlone (k : Kind) : Refused → Type 0 where
   nothing : {code : ℕ} → one_of (3 ∷ 5 ∷ 8 ∷ []) code ≡ true → NamesAlone k (naming code 65535 255)
-  its-field : {f : Refusal} → Refuses k f.code f.bit → NamesAlone k (foundIn f 65535)
+  its_field : {f : Refusal} → Refuses k f.code f.bit → NamesAlone k (found_in f 65535)
 
 code_of : {k : Kind} {r : Refused} → NamesAlone k r → IsCode r.code
-code_of (nothing {code} h) = one-of (3 ∷ 5 ∷ 8 ∷ []) code refl h
-code_of (its-field r) = field-code r
+code_of (nothing {code} h) = one_of_lem (3 ∷ 5 ∷ 8 ∷ []) code refl h
+code_of (its_field r) = field_code r
 
 module _ (x y type : ℕ) (b : List ℕ) where
-  pub element-call-named : Named (NamesAlone (kind_of x type)) (elementCall x y type b)
-  unfolding elementCall
-  element-call-named =
-      named-unless (catalogueGood x y) _ _ (λ f. refuses (nothing refl)) λ t.
-      named-unless (carried x type) _ _ (λ f. refuses (nothing refl)) λ t.
-      named-unless (eqb (length b) (width_of (kind_of x type))) _ _ (λ f. refuses (nothing refl)) λ t.
-      named-of (element (kind_of x type) (number b)) 65535 _
-      (λ r q. its-field (refuses-as (kind_of x type) (number b) q)) accepts
+  pub element_call_named : Named (NamesAlone (kind_of x type)) (element_call x y type b)
+  unfolding element_call
+  element_call_named =
+      named_unless (catalogue_good x y) _ _ (λ f. refuses (nothing refl)) λ t.
+      named_unless (carried x type) _ _ (λ f. refuses (nothing refl)) λ t.
+      named_unless (eqb (length b) (width_of (kind_of x type))) _ _ (λ f. refuses (nothing refl)) λ t.
+      named_of (element (kind_of x type) (number b)) 65535 _
+      (λ r q. its_field (refuses_as (kind_of x type) (number b) q)) accepts
 
-  pub element-call-coded : Coded (elementCall x y type b)
-  element-call-coded = coded_by (λ r. code_of) element-call-named
+  pub element_call_coded : Coded (element_call x y type b)
+  element_call_coded = coded_by (λ r. code_of) element_call_named

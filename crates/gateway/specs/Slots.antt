@@ -14,34 +14,34 @@ use Rattle.receiver.specs.declared.Progress.{Progress}
 abbrev pub slots : Answer → ℕ → ℕ → List ℕ
 slots a sixth seventh = a.code ∷ a.object ∷ a.bit ∷ a.length ∷ 0 ∷ sixth ∷ seventh ∷ 0 ∷ []
 
-unfoldable pub answerSlots : Answer → List ℕ
-answerSlots a = slots a 0 0
+unfoldable pub answer_slots : Answer → List ℕ
+answer_slots a = slots a 0 0
 
 -- what a call that writes leaves: the eight numbers ns, and m for the output that was out
 abbrev pub LeavesSlots : Verdict (List ℕ) → List ℕ → List ℕ → List ℕ → Type 0
-LeavesSlots v out ns m = (ns ≡ answerSlots (settled v out).answer) × (m ≡ (settled v out).output)
+LeavesSlots v out ns m = (ns ≡ answer_slots (settled v out).answer) × (m ≡ (settled v out).output)
 
 -- the sixth is the state's kind
 unfoldable pub read_slots : Plain → List ℕ
 read_slots r = slots r.answer r.kind 0
 
 -- the fields at the end: those of the state that was read, or as they were
-unfoldable pub fieldsAfter : Verdict Element → List ℕ → List ℕ
-fieldsAfter (refused r) fields = fields
-fieldsAfter (done state) fields = (fields_of state).fields
+unfoldable pub fields_after : Verdict Element → List ℕ → List ℕ
+fields_after (refused r) fields = fields
+fields_after (done state) fields = (fields_of state).fields
 
 -- the sixth and the seventh are the label's first byte in the table and its size
-unfoldable pub labelSlots : LabelAt → List ℕ
-labelSlots l = slots l.answer l.offset l.size
+unfoldable pub label_slots : LabelAt → List ℕ
+label_slots l = slots l.answer l.offset l.size
 
 -- the sixth is how many lists were taken; a number that 32 bits don't hold is the highest that they do
 abbrev pub capped : ℕ → ℕ
 capped n = cond (ltb n full) n full
 
-unfoldable pub progressSlots : Progress → List ℕ
-progressSlots r = slots r.answer (capped r.taken) 0
+unfoldable pub progress_slots : Progress → List ℕ
+progress_slots r = slots r.answer (capped r.taken) 0
 
 -- a standing from its four tallies
-abbrev pub standingIn : List ℕ → Standing
-standingIn tallies =
+abbrev pub standing_in : List ℕ → Standing
+standing_in tallies =
     record { applied = get_or tallies 0 0; late = get_or tallies 1 0; gap = get_or tallies 2 0; other = get_or tallies 3 0 }

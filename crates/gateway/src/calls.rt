@@ -1,7 +1,7 @@
 // The call that only C has: the check of an element by itself.
 ghost use Rattle.std.specs.Prelude.{◌≡◌};
 ghost use Rattle.history.specs.Verdict.{told};
-ghost use Rattle.gateway.specs.Calls.{elementCall};
+ghost use Rattle.gateway.specs.Calls.{element_call};
 
 use history::Answer;
 use rows::Finding;
@@ -9,7 +9,7 @@ use tables::{accepted, is_catalogue, refused, refused_by};
 
 // Checks an element of a type under a catalogue. It names no object.
 pub fn check_element_alone(x: u8, y: u8, ty: u8, element: &[u8]) -> Answer
-    ensures { result ≡ told (elementCall x y ty element.now) }
+    ensures { result ≡ told (element_call x y ty element.now) }
 {
     if !is_catalogue(x, y) {
         return refused(3);

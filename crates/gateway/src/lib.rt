@@ -5,21 +5,21 @@ mod slots;
 
 ghost use Rattle.std.specs.Prelude.{◌≡◌};
 ghost use Rattle.history.specs.Verdict.{told};
-ghost use Rattle.history.specs.Calls.{tableCall, imageCall, listCall, readStateCall, labelCall, differenceCall};
-ghost use Rattle.history.specs.Calls.{applyCall, joinCall, turnCall};
-ghost use Rattle.tables.specs.LabelPlaces.{labelTold};
+ghost use Rattle.history.specs.Calls.{table_call, image_call, list_call, read_state_call, label_call, difference_call};
+ghost use Rattle.history.specs.Calls.{apply_call, join_call, turn_call};
+ghost use Rattle.tables.specs.LabelPlaces.{label_told};
 ghost use Rattle.panel.specs.Readings.{reading_of};
 ghost use Rattle.fields.specs.PlainFields.{plain_of};
-ghost use Rattle.fields.specs.Calls.{writeFieldsCall};
-ghost use Rattle.history.specs.Backlog.{backlogCall};
-ghost use Rattle.receiver.specs.Receive.{answer_of, outputOf, standingOf};
-ghost use Rattle.receiver.specs.Backlogs.{progressOf};
-ghost use Rattle.listing.specs.Listing.{listingCall};
-ghost use Rattle.history.specs.Standing.{talliesOf};
-ghost use Rattle.gateway.specs.Slots.{answerSlots, LeavesSlots, read_slots, fieldsAfter, labelSlots};
-ghost use Rattle.gateway.specs.Slots.{progressSlots};
-ghost use Rattle.gateway.specs.Slots.{standingIn};
-ghost use Rattle.gateway.specs.Calls.{elementCall};
+ghost use Rattle.fields.specs.Calls.{write_fields_call};
+ghost use Rattle.history.specs.Backlog.{backlog_call};
+ghost use Rattle.receiver.specs.Receive.{answer_of, output_of, standing_of};
+ghost use Rattle.receiver.specs.Backlogs.{progress_of};
+ghost use Rattle.listing.specs.Listing.{listing_call};
+ghost use Rattle.history.specs.Standing.{tallies_of};
+ghost use Rattle.gateway.specs.Slots.{answer_slots, LeavesSlots, read_slots, fields_after, label_slots};
+ghost use Rattle.gateway.specs.Slots.{progress_slots};
+ghost use Rattle.gateway.specs.Slots.{standing_in};
+ghost use Rattle.gateway.specs.Calls.{element_call};
 
 use calls::check_element_alone;
 use fields::{read_fields, write_fields};
@@ -38,28 +38,28 @@ pub extern "C" fn shefumbari_check_element(
     element: &[u8],
     answer: &mut [u32; 8],
 )
-    ensures { answer.new ≡ answerSlots (told (elementCall x y ty element.now)) }
+    ensures { answer.new ≡ answer_slots (told (element_call x y ty element.now)) }
 {
     *answer = answer_slots(check_element_alone(x, y, ty, element));
 }
 
 #[unsafe(no_mangle)]
 pub extern "C" fn shefumbari_check_table(table: &[u8], answer: &mut [u32; 8])
-    ensures { answer.new ≡ answerSlots (told (tableCall table.now)) }
+    ensures { answer.new ≡ answer_slots (told (table_call table.now)) }
 {
     *answer = answer_slots(check_table(table));
 }
 
 #[unsafe(no_mangle)]
 pub extern "C" fn shefumbari_check_image(table: &[u8], image: &[u8], answer: &mut [u32; 8])
-    ensures { answer.new ≡ answerSlots (told (imageCall table.now image.now)) }
+    ensures { answer.new ≡ answer_slots (told (image_call table.now image.now)) }
 {
     *answer = answer_slots(check_image(table, image));
 }
 
 #[unsafe(no_mangle)]
 pub extern "C" fn shefumbari_check_list(table: &[u8], list: &[u8], answer: &mut [u32; 8])
-    ensures { answer.new ≡ answerSlots (told (listCall table.now list.now)) }
+    ensures { answer.new ≡ answer_slots (told (list_call table.now list.now)) }
 {
     *answer = answer_slots(check_list(table, list));
 }
@@ -77,9 +77,9 @@ pub extern "C" fn shefumbari_read_state(
     answer: &mut [u32; 8],
 )
     ensures fields_after { fields.new
-        ≡ fieldsAfter (readStateCall table.now image.now object) fields.old }
+        ≡ fields_after (read_state_call table.now image.now object) fields.old }
     ensures answer_after { answer.new
-        ≡ read_slots (plain_of (reading_of (readStateCall table.now image.now object))) }
+        ≡ read_slots (plain_of (reading_of (read_state_call table.now image.now object))) }
 {
     let plain = read_fields(table, image, object);
     *answer = read_slots(plain.answer, plain.kind);
@@ -101,7 +101,7 @@ pub extern "C" fn shefumbari_write_state(
     answer: &mut [u32; 8],
 )
     ensures { LeavesSlots
-        (writeFieldsCall table.now image.now object kind fields.now position)
+        (write_fields_call table.now image.now object kind fields.now position)
         out.old answer.new out.new }
 {
     *answer = answer_slots(write_fields(table, image, object, kind, *fields, position, out));
@@ -110,7 +110,7 @@ pub extern "C" fn shefumbari_write_state(
 // The label's first byte in the table and its size are the sixth and the seventh number.
 #[unsafe(no_mangle)]
 pub extern "C" fn shefumbari_label(table: &[u8], object: u16, answer: &mut [u32; 8])
-    ensures { answer.new ≡ labelSlots (labelTold (labelCall table.now object)) }
+    ensures { answer.new ≡ label_slots (label_told (label_call table.now object)) }
 {
     *answer = label_slots(table, object);
 }
@@ -125,7 +125,7 @@ pub extern "C" fn shefumbari_difference(
     out: &mut [u8],
     answer: &mut [u32; 8],
 )
-    ensures { LeavesSlots (differenceCall table.now a.now b.now)
+    ensures { LeavesSlots (difference_call table.now a.now b.now)
         out.old answer.new out.new }
 {
     *answer = answer_slots(changes::difference(table, a, b, out));
@@ -139,7 +139,7 @@ pub extern "C" fn shefumbari_apply(
     out: &mut [u8],
     answer: &mut [u32; 8],
 )
-    ensures { LeavesSlots (applyCall table.now image.now list.now)
+    ensures { LeavesSlots (apply_call table.now image.now list.now)
         out.old answer.new out.new }
 {
     *answer = answer_slots(changes::apply(table, image, list, out));
@@ -153,7 +153,7 @@ pub extern "C" fn shefumbari_join(
     out: &mut [u8],
     answer: &mut [u32; 8],
 )
-    ensures { LeavesSlots (joinCall table.now first.now second.now)
+    ensures { LeavesSlots (join_call table.now first.now second.now)
         out.old answer.new out.new }
 {
     *answer = answer_slots(changes::join(table, first, second, out));
@@ -166,7 +166,7 @@ pub extern "C" fn shefumbari_turn_back(
     out: &mut [u8],
     answer: &mut [u32; 8],
 )
-    ensures { LeavesSlots (turnCall table.now list.now)
+    ensures { LeavesSlots (turn_call table.now list.now)
         out.old answer.new out.new }
 {
     *answer = answer_slots(changes::turn_back(table, list, out));
@@ -183,13 +183,13 @@ pub extern "C" fn shefumbari_receive(
     answer: &mut [u32; 8],
 )
     ensures answer_after { answer.new
-        ≡ answerSlots
+        ≡ answer_slots
         (answer_of table.now image.now list.now out.old) }
     ensures out_after { out.new
-        ≡ outputOf table.now image.now list.now out.old }
+        ≡ output_of table.now image.now list.now out.old }
     ensures standing_after { standing.new
-        ≡ talliesOf (standingOf table.now image.now list.now out.old
-        (standingIn standing.old)) }
+        ≡ tallies_of (standing_of table.now image.now list.now out.old
+        (standing_in standing.old)) }
 {
     let taken = received(table, image, list, out, standing_in(*standing));
     *standing = tallies_of(taken.standing);
@@ -207,17 +207,17 @@ pub extern "C" fn shefumbari_receive_backlog(
     answer: &mut [u32; 8],
 )
     ensures answer_after { answer.new
-        ≡ progressSlots
-        (progressOf
-        (backlogCall table.now image.now lists.now out.old
-        (standingIn standing.old))) }
+        ≡ progress_slots
+        (progress_of
+        (backlog_call table.now image.now lists.now out.old
+        (standing_in standing.old))) }
     ensures out_after { out.new
-        ≡ (backlogCall table.now image.now lists.now out.old
-        (standingIn standing.old)).output }
+        ≡ (backlog_call table.now image.now lists.now out.old
+        (standing_in standing.old)).output }
     ensures standing_after { standing.new
-        ≡ talliesOf
-        (backlogCall table.now image.now lists.now out.old
-        (standingIn standing.old)).standing }
+        ≡ tallies_of
+        (backlog_call table.now image.now lists.now out.old
+        (standing_in standing.old)).standing }
 {
     let advance = backlog_received(table, image, lists, out, standing_in(*standing));
     *standing = tallies_of(advance.standing);
@@ -229,7 +229,7 @@ pub extern "C" fn shefumbari_receive_backlog(
 // The text of a table followed by its image.
 #[unsafe(no_mangle)]
 pub extern "C" fn shefumbari_listing(input: &[u8], out: &mut [u8], answer: &mut [u32; 8])
-    ensures { LeavesSlots (listingCall input.now)
+    ensures { LeavesSlots (listing_call input.now)
         out.old answer.new out.new }
 {
     *answer = answer_slots(listing::list_into(input, out));

@@ -1,9 +1,9 @@
 // Answers, label places, backlogs and tallies as arrays of numbers.
 ghost use Rattle.std.specs.Prelude.{◌≡◌};
-ghost use Rattle.history.specs.Calls.{labelCall};
-ghost use Rattle.tables.specs.LabelPlaces.{labelTold};
-ghost use Rattle.history.specs.Standing.{talliesOf};
-ghost use Rattle.gateway.specs.Slots.{slots, answerSlots, labelSlots, capped, progressSlots, standingIn};
+ghost use Rattle.history.specs.Calls.{label_call};
+ghost use Rattle.tables.specs.LabelPlaces.{label_told};
+ghost use Rattle.history.specs.Standing.{tallies_of};
+ghost use Rattle.gateway.specs.Slots.{slots, answer_slots, label_slots, capped, progress_slots, standing_in};
 
 use history::{Answer, Standing};
 use receiver::Progress;
@@ -11,7 +11,7 @@ use tables::label_place;
 
 // An answer's four numbers, then zeros.
 pub fn answer_slots(answer: Answer) -> [u32; 8]
-    ensures { result ≡ answerSlots answer }
+    ensures { result ≡ answer_slots answer }
 {
     slots(answer, 0, 0)
 }
@@ -25,7 +25,7 @@ pub fn read_slots(answer: Answer, kind: u32) -> [u32; 8]
 
 // The answer of finding a label, and the label's offset and size.
 pub fn label_slots(table: &[u8], object: u16) -> [u32; 8]
-    ensures { result ≡ labelSlots (labelTold (labelCall table.now object)) }
+    ensures { result ≡ label_slots (label_told (label_call table.now object)) }
 {
     let found = label_place(table, object);
     slots(found.answer, found.offset as u32, found.size as u32)
@@ -33,7 +33,7 @@ pub fn label_slots(table: &[u8], object: u16) -> [u32; 8]
 
 // The answer of a backlog, and how many lists were taken.
 pub fn progress_slots(progress: Progress) -> [u32; 8]
-    ensures { result ≡ progressSlots progress }
+    ensures { result ≡ progress_slots progress }
 {
     slots(progress.answer, capped(progress.taken), 0)
 }
@@ -66,7 +66,7 @@ fn slots(answer: Answer, sixth: u32, seventh: u32) -> [u32; 8]
 
 // A standing from its tallies.
 pub fn standing_in(tallies: [u32; 4]) -> Standing
-    ensures { result ≡ standingIn tallies }
+    ensures { result ≡ standing_in tallies }
 {
     Standing {
         applied: tallies[0],
@@ -78,7 +78,7 @@ pub fn standing_in(tallies: [u32; 4]) -> Standing
 
 // A standing's tallies, in the same order.
 pub fn tallies_of(standing: Standing) -> [u32; 4]
-    ensures { result ≡ talliesOf standing }
+    ensures { result ≡ tallies_of standing }
 {
     [
         standing.applied,

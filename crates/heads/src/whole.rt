@@ -1,7 +1,7 @@
 // What the three forms share: a length that fills the slice, and X and Y.
 ghost use Rattle.std.specs.Prelude.{◌≡◌, ◌≤◌, ◌<◌, length, get_or};
 ghost use Rattle.history.specs.Form.{is_whole};
-ghost use Rattle.heads.specs.Heads.{isUnder, frontForm};
+ghost use Rattle.heads.specs.Heads.{is_under, front_form};
 
 // The byte at a place, widened for arithmetic.
 pub fn byte_at(s: &[u8], at: usize) -> usize
@@ -28,7 +28,7 @@ pub fn is_whole(form: &[u8], least: u32) -> bool
 // The form's X and Y are these, the table's.
 pub fn is_under(form: &[u8], x: u8, y: u8) -> bool
     requires { 7 ≤ length form.now }
-    ensures { result ≡ isUnder x y form.now }
+    ensures { result ≡ is_under x y form.now }
 {
     if form[5] != x {
         return false;
@@ -39,7 +39,7 @@ pub fn is_under(form: &[u8], x: u8, y: u8) -> bool
 // The first of several forms that lie end to end. Bytes that hold none in full are returned as
 // they are, and `is_whole` is false for them.
 pub fn front_form(forms: &[u8]) -> &[u8]
-    ensures { result.now ≡ frontForm forms.now }
+    ensures { result.now ≡ front_form forms.now }
 {
     if forms.len() < 4 {
         return forms;

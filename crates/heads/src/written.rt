@@ -1,19 +1,19 @@
 // What is written before a list's entries, and an image's position.
 ghost use Rattle.std.specs.Prelude.{◌≡◌, ◌≤◌, length};
-ghost use Rattle.heads.specs.Heads.{imageHead, elementsIn, entriesPlace};
-ghost use Rattle.heads.specs.Written.{opening, listHead, withElements};
+ghost use Rattle.heads.specs.Heads.{image_head, elements_in, entries_place};
+ghost use Rattle.heads.specs.Written.{opening, list_head, with_elements};
 
 // Where a list's entries begin.
 pub fn entries_place() -> usize
-    ensures { (result ≡ entriesPlace) × (result ≤ 17) }
+    ensures { (result ≡ entries_place) × (result ≤ 17) }
 {
     17
 }
 
 // Fills the part with a list's head, for `count` entries of `size` bytes together.
 pub fn put_list_head(part: &mut [u8], x: u8, y: u8, from: u32, to: u32, count: u32, size: u32)
-    requires { (length part.old ≡ entriesPlace) × (size ≤ 10240) }
-    ensures { part.new ≡ listHead x y from to count size }
+    requires { (length part.old ≡ entries_place) × (size ≤ 10240) }
+    ensures { part.new ≡ list_head x y from to count size }
 {
     put_opening(&mut part[0..7], 13 + size, x, y);
     octets::put(&mut part[7..11], from);
@@ -34,8 +34,8 @@ fn put_opening(part: &mut [u8], after: u32, x: u8, y: u8)
 
 // Writes a position into an image; all else stays.
 pub fn put_position(image: &mut [u8], position: u32)
-    requires { imageHead image.old ≤ length image.old }
-    ensures { image.new ≡ withElements image.old position (elementsIn image.old) }
+    requires { image_head image.old ≤ length image.old }
+    ensures { image.new ≡ with_elements image.old position (elements_in image.old) }
 {
     octets::put(&mut image[7..11], position);
 }

@@ -38,25 +38,25 @@ pub too_short : {v : Verdict (List ℕ)} {b : List ℕ} (out : List ℕ) → v �
 unfolding settled
 too_short {v} {b} out e h = rw (e, lt-leb (length b) (length out) h) (refl, refl)
 
-pub refusal-told : {v : Verdict (List ℕ)} (r : Refused) (out : List ℕ) → v ≡ refused r
+pub refusal_told : {v : Verdict (List ℕ)} (r : Refused) (out : List ℕ) → v ≡ refused r
     → ((settled v out).answer ≡ numbers r 0) × ((settled v out).output ≡ out)
 unfolding settled
-refusal-told r out e = rw e (refl, refl)
+refusal_told r out e = rw e (refl, refl)
 
 -- whatever is not success leaves the output as it was
-pub refusal-stays : (v : Verdict (List ℕ)) (out : List ℕ) → ((settled v out).answer.code ≡ 0 → ⊥)
+pub refusal_stays : (v : Verdict (List ℕ)) (out : List ℕ) → ((settled v out).answer.code ≡ 0 → ⊥)
     → (settled v out).output ≡ out
-refusal-stays (refused r) out h = (refusal-told r out refl).1
-refusal-stays (done b) out h = go (leb (length b) (length out)) refl
+refusal_stays (refused r) out h = (refusal_told r out refl).1
+refusal_stays (done b) out h = go (leb (length b) (length out)) refl
   where
     go : (u : Bool) → leb (length b) (length out) ≡ u → (settled (done b) out).output ≡ out
     go true e = absurd (h (ap (λ (a : Answer). a.code) (succeeds out refl (leb-true _ _ e)).answer))
     go false e = (too_short out refl (leb-false _ _ e)).1
 
 -- the output keeps its length
-pub length-output : (v : Verdict (List ℕ)) (out : List ℕ) → length (settled v out).output ≡ length out
-length-output (refused r) out = ap length (refusal-told r out refl).1
-length-output (done b) out = go (leb (length b) (length out)) refl
+pub length_output : (v : Verdict (List ℕ)) (out : List ℕ) → length (settled v out).output ≡ length out
+length_output (refused r) out = ap length (refusal_told r out refl).1
+length_output (done b) out = go (leb (length b) (length out)) refl
   where
     go : (u : Bool) → leb (length b) (length out) ≡ u → length (settled (done b) out).output ≡ length out
     go true e =
@@ -77,55 +77,55 @@ length-output (done b) out = go (leb (length b) (length out)) refl
 pub record Ran (v : Verdict (List ℕ)) (out : List ℕ) (r : Answer) (m : List ℕ) : Type 0 where
   pub leaves : Leaves v out r m
 
-pub leaves-as : {v w : Verdict (List ℕ)} (out : List ℕ) {r : Answer} {m : List ℕ} → v ≡ w → Leaves v out r m
+pub leaves_as : {v w : Verdict (List ℕ)} (out : List ℕ) {r : Answer} {m : List ℕ} → v ≡ w → Leaves v out r m
     → Leaves w out r m
-leaves-as out e q = rw e at q
+leaves_as out e q = rw e at q
 
-pub refused-leaves : (v : Verdict (List ℕ)) (out : List ℕ) {x : Refused} {r : Answer} → v ≡ refused x → r ≡ numbers x 0
+pub refused_leaves : (v : Verdict (List ℕ)) (out : List ℕ) {x : Refused} {r : Answer} → v ≡ refused x → r ≡ numbers x 0
     → Leaves v out r out
 unfolding settled
-refused-leaves v out e q = rw e (q, refl)
+refused_leaves v out e q = rw e (q, refl)
 
 -- a refused step that writes nothing leaves the output as it was ..
-pub told-leaves : (v : Verdict (List ℕ)) (out : List ℕ) {r : Answer} → r ≡ told v → (r.code ≡ 0 → ⊥)
+pub told_leaves : (v : Verdict (List ℕ)) (out : List ℕ) {r : Answer} → r ≡ told v → (r.code ≡ 0 → ⊥)
     → Leaves v out r out
 unfolding told
-told-leaves (refused r) out e n = refused-leaves _ out refl e
-told-leaves (done b) out e n = absurd (n (ap (λ (r : Answer). r.code) e))
+told_leaves (refused r) out e n = refused_leaves _ out refl e
+told_leaves (done b) out e n = absurd (n (ap (λ (r : Answer). r.code) e))
 
 -- .. and its answer is that of the whole call
-pub first-leaves : {A : Type 0} (v : Verdict A) (f : A → Verdict (List ℕ)) (out : List ℕ) {r : Answer} → r ≡ told v
+pub first_leaves : {A : Type 0} (v : Verdict A) (f : A → Verdict (List ℕ)) (out : List ℕ) {r : Answer} → r ≡ told v
     → (r.code ≡ 0 → ⊥) → Leaves (then v f) out r out
 unfolding told
-first-leaves (refused r) f out e n = refused-leaves _ out refl e
-first-leaves (done a) f out e n = absurd (n (ap (λ (r : Answer). r.code) e))
+first_leaves (refused r) f out e n = refused_leaves _ out refl e
+first_leaves (done a) f out e n = absurd (n (ap (λ (r : Answer). r.code) e))
 
 module _ (b out : List ℕ) {n : ℕ} (long : length b ≡ n) {r : Answer} where
   -- 21: too little room
-  pub short-leaves : length out < n → r ≡ unnamed 21 n → Leaves (done b) out r out
-  short-leaves h e =
+  pub short_leaves : length out < n → r ≡ unnamed 21 n → Leaves (done b) out r out
+  short_leaves h e =
       let s = too_short {b = b} out refl (rw long h) in (e ∙ ap (unnamed 21) (sym long) ∙ sym s.0, sym s.1)
 
-  pub written-leaves : n ≤ length out → r ≡ unnamed 0 n → {m : List ℕ} → m ≡ b ++ drop n out → Leaves (done b) out r m
+  pub written_leaves : n ≤ length out → r ≡ unnamed 0 n → {m : List ℕ} → m ≡ b ++ drop n out → Leaves (done b) out r m
   unfolding settled
-  written-leaves h e q = rw (le-leb (length b) (length out) (rw long h), long) (e, q)
+  written_leaves h e q = rw (le-leb (length b) (length out) (rw long h), long) (e, q)
 
   -- the front was lent as a part and came back as the result's bytes
-  pub front-leaves : n ≤ length out → r ≡ unnamed 0 n → {part : List ℕ} → part ≡ b
+  pub front_leaves : n ≤ length out → r ≡ unnamed 0 n → {part : List ℕ} → part ≡ b
       → Leaves (done b) out r (put_mid 0 (n - 0) out part)
-  front-leaves h e q =
+  front_leaves h e q =
       let all : n - 0 ≡ n = omega arith in
-      written-leaves h e (ap₂ (λ (p : List ℕ) (k : ℕ). p ++ drop k out) q all)
+      written_leaves h e (ap₂ (λ (p : List ℕ) (k : ℕ). p ++ drop k out) q all)
 
 -- ---- a copy cs of A at the front of an output, which is lent again as a part
 
 module _ (A out : List ℕ) {cs : List ℕ} (c : cs ≡ A) where
-  copy-long : length cs ≡ length A - 0
-  copy-long = ap length c ∙ omega arith
+  copy_long : length cs ≡ length A - 0
+  copy_long = ap length c ∙ omega arith
 
   pub copy_is : mid_of 0 (length A - 0) (put_mid 0 (length A - 0) out cs) ≡ A
-  copy_is = take_at cs _ (length A - 0) copy-long ∙ c
+  copy_is = take_at cs _ (length A - 0) copy_long ∙ c
 
   -- what follows it
   pub copy_rest : drop (length A - 0) (cs ++ drop (length A - 0) out) ≡ drop (length A - 0) out
-  copy_rest = drop_at cs _ (length A - 0) copy-long
+  copy_rest = drop_at cs _ (length A - 0) copy_long

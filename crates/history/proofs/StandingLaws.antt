@@ -13,43 +13,43 @@ use borrow.Author.Tests.{lt-ltb, le-ltb, ne_eqb}
 use Rattle.history.specs.declared.Answer.{Answer}
 use Rattle.history.specs.declared.Standing.{Standing}
 use Rattle.history.specs.Verdict.{settled}
-use Rattle.history.specs.Calls.{applyCall}
-use Rattle.history.specs.Standing.{talliesOf, fresh, full, oneMore, Tally, Applied, Late, Gap, Other, tally_of}
-use Rattle.history.specs.Standing.{oneMoreOn, counted, receiveCall, NoneFull, total}
+use Rattle.history.specs.Calls.{apply_call}
+use Rattle.history.specs.Standing.{tallies_of, fresh, full, one_more, Tally, Applied, Late, Gap, Other, tally_of}
+use Rattle.history.specs.Standing.{one_more_on, counted, receive_call, NoneFull, total}
 
 -- ---- one tally
 
-pub moves : (n : ℕ) → n < full → oneMore n ≡ n + 1
+pub moves : (n : ℕ) → n < full → one_more n ≡ n + 1
 moves n h = simp (lt-ltb _ _ h)
 
-pub full-stays : (n : ℕ) → full ≤ n → oneMore n ≡ n
-full-stays n h = simp (le-ltb _ _ h)
+pub full_stays : (n : ℕ) → full ≤ n → one_more n ≡ n
+full_stays n h = simp (le-ltb _ _ h)
 
 -- ---- one call
 
 -- one of the four is counted once more, and the others are as they were
 abbrev pub OneMoved : Standing → Standing → Type 0
-OneMoved s s' = (i : ℕ) × (i < 4) × (talliesOf s' ≡ set (talliesOf s) i (oneMore (get_or (talliesOf s) i 0)))
+OneMoved s s' = (i : ℕ) × (i < 4) × (tallies_of s' ≡ set (tallies_of s) i (one_more (get_or (tallies_of s) i 0)))
 
-on-moves : (t : Tally) (s : Standing) → OneMoved s (oneMoreOn t s)
-on-moves Applied s = (0, omega arith, refl)
-on-moves Late s = (1, omega arith, refl)
-on-moves Gap s = (2, omega arith, refl)
-on-moves Other s = (3, omega arith, refl)
+on_moves : (t : Tally) (s : Standing) → OneMoved s (one_more_on t s)
+on_moves Applied s = (0, omega arith, refl)
+on_moves Late s = (1, omega arith, refl)
+on_moves Gap s = (2, omega arith, refl)
+on_moves Other s = (3, omega arith, refl)
 
-pub one-moves : (code : ℕ) (s : Standing) → OneMoved s (counted code s)
+pub one_moves : (code : ℕ) (s : Standing) → OneMoved s (counted code s)
 unfolding counted
-one-moves code s = on-moves (tally_of code) s
+one_moves code s = on_moves (tally_of code) s
 
 module _ (T A L out : List ℕ) (s : Standing) where
   -- the answer doesn't depend on the standing; the standing depends on the answer's code
-  pub receive-answer : (receiveCall T A L out s).answer ≡ (settled (applyCall T A L) out).answer
-  unfolding receiveCall
-  receive-answer = refl
+  pub receive_answer : (receive_call T A L out s).answer ≡ (settled (apply_call T A L) out).answer
+  unfolding receive_call
+  receive_answer = refl
 
-  pub receive-counts : (receiveCall T A L out s).standing ≡ counted (receiveCall T A L out s).answer.code s
-  unfolding receiveCall
-  receive-counts = refl
+  pub receive_counts : (receive_call T A L out s).standing ≡ counted (receive_call T A L out s).answer.code s
+  unfolding receive_call
+  receive_counts = refl
 
 -- ---- receive calls since fresh
 
@@ -61,92 +61,92 @@ pub record Delivery : Type 0 where
   pub output : List ℕ
 
 -- the standing after these calls since fresh, the last call first in the list
-abbrev pub standingAfter : List Delivery → Standing
-standingAfter [] = fresh
-standingAfter (d ∷ ds) = (receiveCall d.table d.image d.list d.output (standingAfter ds)).standing
+abbrev pub standing_after : List Delivery → Standing
+standing_after [] = fresh
+standing_after (d ∷ ds) = (receive_call d.table d.image d.list d.output (standing_after ds)).standing
 
 -- a call's code
 abbrev pub code_of : Delivery → ℕ
-code_of d = (settled (applyCall d.table d.image d.list) d.output).answer.code
+code_of d = (settled (apply_call d.table d.image d.list) d.output).answer.code
 
 -- how many calls' codes pass a test
-abbrev pub howMany : (ℕ → Bool) → List Delivery → ℕ
-howMany test [] = 0
-howMany test (d ∷ ds) = cond (test (code_of d)) (howMany test ds + 1) (howMany test ds)
+abbrev pub how_many : (ℕ → Bool) → List Delivery → ℕ
+how_many test [] = 0
+how_many test (d ∷ ds) = cond (test (code_of d)) (how_many test ds + 1) (how_many test ds)
 
 -- a tally that is not full after a call was not full before
 up : (b : Bool) (n : ℕ) → n ≤ cond b (n + 1) n
 up true n = omega arith
 up false n = omega arith
 
-was : (n : ℕ) → oneMore n < full → n < full
+was : (n : ℕ) → one_more n < full → n < full
 was n h = omega (arith, up (ltb n full) n)
 
-on-was : (t : Tally) (s : Standing) → NoneFull (oneMoreOn t s) → NoneFull s
-on-was Applied s h = record { applied = was s.applied h.applied; late = h.late; gap = h.gap; other = h.other }
-on-was Late s h = record { applied = h.applied; late = was s.late h.late; gap = h.gap; other = h.other }
-on-was Gap s h = record { applied = h.applied; late = h.late; gap = was s.gap h.gap; other = h.other }
-on-was Other s h = record { applied = h.applied; late = h.late; gap = h.gap; other = was s.other h.other }
+on_was : (t : Tally) (s : Standing) → NoneFull (one_more_on t s) → NoneFull s
+on_was Applied s h = record { applied = was s.applied h.applied; late = h.late; gap = h.gap; other = h.other }
+on_was Late s h = record { applied = h.applied; late = was s.late h.late; gap = h.gap; other = h.other }
+on_was Gap s h = record { applied = h.applied; late = h.late; gap = was s.gap h.gap; other = h.other }
+on_was Other s h = record { applied = h.applied; late = h.late; gap = h.gap; other = was s.other h.other }
 
-pub was-none-full : (code : ℕ) (s : Standing) → NoneFull (counted code s) → NoneFull s
+pub was_none_full : (code : ℕ) (s : Standing) → NoneFull (counted code s) → NoneFull s
 unfolding counted
-was-none-full code s = on-was (tally_of code) s
+was_none_full code s = on_was (tally_of code) s
 
-on_total : (t : Tally) (s : Standing) → NoneFull s → total (oneMoreOn t s) ≡ total s + 1
+on_total : (t : Tally) (s : Standing) → NoneFull s → total (one_more_on t s) ≡ total s + 1
 on_total Applied s h = omega (arith, moves s.applied h.applied)
 on_total Late s h = omega (arith, moves s.late h.late)
 on_total Gap s h = omega (arith, moves s.gap h.gap)
 on_total Other s h = omega (arith, moves s.other h.other)
 
 -- while none is full, each call adds 1 to the four together
-pub total-grows : (code : ℕ) (s : Standing) → NoneFull s → total (counted code s) ≡ total s + 1
+pub total_grows : (code : ℕ) (s : Standing) → NoneFull s → total (counted code s) ≡ total s + 1
 unfolding counted
-total-grows code s = on_total (tally_of code) s
+total_grows code s = on_total (tally_of code) s
 
 delivered : (d : Delivery) (s : Standing)
-    → (receiveCall d.table d.image d.list d.output s).standing ≡ counted (code_of d) s
+    → (receive_call d.table d.image d.list d.output s).standing ≡ counted (code_of d) s
 delivered d s =
-    receive-counts d.table d.image d.list d.output s
-    ∙ ap (λ (a : Answer). counted a.code s) (receive-answer d.table d.image d.list d.output s)
+    receive_counts d.table d.image d.list d.output s
+    ∙ ap (λ (a : Answer). counted a.code s) (receive_answer d.table d.image d.list d.output s)
 
 -- the sum rule: while none is full, the four sum to the calls since fresh
-pub total-after : (ds : List Delivery) → NoneFull (standingAfter ds) → total (standingAfter ds) ≡ length ds
+pub total_after : (ds : List Delivery) → NoneFull (standing_after ds) → total (standing_after ds) ≡ length ds
 unfolding fresh
-total-after [] h = refl
-total-after (d ∷ ds) h =
-    let e = delivered d (standingAfter ds) in
-    let n : NoneFull (standingAfter ds) = was-none-full (code_of d) (standingAfter ds) (rw e at h) in
-    ap total e ∙ total-grows (code_of d) (standingAfter ds) n ∙ omega (arith, total-after ds n)
+total_after [] h = refl
+total_after (d ∷ ds) h =
+    let e = delivered d (standing_after ds) in
+    let n : NoneFull (standing_after ds) = was_none_full (code_of d) (standing_after ds) (rw e at h) in
+    ap total e ∙ total_grows (code_of d) (standing_after ds) n ∙ omega (arith, total_after ds n)
 
 -- ---- what each tally counts
 
-pub counts-applied : (s : Standing) → counted 0 s ≡ oneMoreOn Applied s
+pub counts_applied : (s : Standing) → counted 0 s ≡ one_more_on Applied s
 unfolding counted
-counts-applied s = refl
+counts_applied s = refl
 
-pub counts-late : (s : Standing) → counted 16 s ≡ oneMoreOn Late s
+pub counts_late : (s : Standing) → counted 16 s ≡ one_more_on Late s
 unfolding counted
-counts-late s = refl
+counts_late s = refl
 
-pub counts-gap : (s : Standing) → counted 17 s ≡ oneMoreOn Gap s
+pub counts_gap : (s : Standing) → counted 17 s ≡ one_more_on Gap s
 unfolding counted
-counts-gap s = refl
+counts_gap s = refl
 
 -- any other code, 21 too
-pub counts-other : (code : ℕ) (s : Standing) → (code ≡ 0 → ⊥) → (code ≡ 16 → ⊥) → (code ≡ 17 → ⊥)
-    → counted code s ≡ oneMoreOn Other s
+pub counts_other : (code : ℕ) (s : Standing) → (code ≡ 0 → ⊥) → (code ≡ 16 → ⊥) → (code ≡ 17 → ⊥)
+    → counted code s ≡ one_more_on Other s
 unfolding counted
-counts-other code s a l g = rw (ne_eqb code 0 a, ne_eqb code 16 l, ne_eqb code 17 g)
+counts_other code s a l g = rw (ne_eqb code 0 a, ne_eqb code 16 l, ne_eqb code 17 g)
 
-abbrev pub isOther : ℕ → Bool
-isOther code = not (eqb code 0 || (eqb code 16 || eqb code 17))
+abbrev pub is_other : ℕ → Bool
+is_other code = not (eqb code 0 || (eqb code 16 || eqb code 17))
 
 -- each tally counts its calls: applied, late, gap, and all others
 pub record Counts (ds : List Delivery) : Type 0 where
-  pub applied : (standingAfter ds).applied ≡ howMany (λ code. eqb code 0) ds
-  pub late : (standingAfter ds).late ≡ howMany (λ code. eqb code 16) ds
-  pub gap : (standingAfter ds).gap ≡ howMany (λ code. eqb code 17) ds
-  pub other : (standingAfter ds).other ≡ howMany isOther ds
+  pub applied : (standing_after ds).applied ≡ how_many (λ code. eqb code 0) ds
+  pub late : (standing_after ds).late ≡ how_many (λ code. eqb code 16) ds
+  pub gap : (standing_after ds).gap ≡ how_many (λ code. eqb code 17) ds
+  pub other : (standing_after ds).other ≡ how_many is_other ds
 
 -- the four kinds of code
 data Code : ℕ → Type 0 where
@@ -169,14 +169,14 @@ pub record Adds (code : ℕ) (s : Standing) : Type 0 where
   pub applied : (counted code s).applied ≡ cond (eqb code 0) (s.applied + 1) s.applied
   pub late : (counted code s).late ≡ cond (eqb code 16) (s.late + 1) s.late
   pub gap : (counted code s).gap ≡ cond (eqb code 17) (s.gap + 1) s.gap
-  pub other : (counted code s).other ≡ cond (isOther code) (s.other + 1) s.other
+  pub other : (counted code s).other ≡ cond (is_other code) (s.other + 1) s.other
 
-adds-by : {code : ℕ} → Code code → (s : Standing) → NoneFull s → Adds code s
+adds_by : {code : ℕ} → Code code → (s : Standing) → NoneFull s → Adds code s
 unfolding counted
-adds-by applied s h = record { applied = moves s.applied h.applied; late = refl; gap = refl; other = refl }
-adds-by late s h = record { applied = refl; late = moves s.late h.late; gap = refl; other = refl }
-adds-by gap s h = record { applied = refl; late = refl; gap = moves s.gap h.gap; other = refl }
-adds-by (other {code = code} a l g) s h =
+adds_by applied s h = record { applied = moves s.applied h.applied; late = refl; gap = refl; other = refl }
+adds_by late s h = record { applied = refl; late = moves s.late h.late; gap = refl; other = refl }
+adds_by gap s h = record { applied = refl; late = refl; gap = moves s.gap h.gap; other = refl }
+adds_by (other {code = code} a l g) s h =
     let z = ne_eqb code 0 a in
     let x = ne_eqb code 16 l in
     let y = ne_eqb code 17 g in
@@ -188,15 +188,15 @@ adds-by (other {code = code} a l g) s h =
     }
 
 pub adds : (code : ℕ) (s : Standing) → NoneFull s → Adds code s
-adds code s = adds-by (code_is code) s
+adds code s = adds_by (code_is code) s
 
-pub each_counts : (ds : List Delivery) → NoneFull (standingAfter ds) → Counts ds
+pub each_counts : (ds : List Delivery) → NoneFull (standing_after ds) → Counts ds
 unfolding fresh
 each_counts [] h = record { applied = refl; late = refl; gap = refl; other = refl }
 each_counts (d ∷ ds) h =
-    let s : Standing = standingAfter ds in
+    let s : Standing = standing_after ds in
     let e = delivered d s in
-    let n : NoneFull s = was-none-full (code_of d) s (rw e at h) in
+    let n : NoneFull s = was_none_full (code_of d) s (rw e at h) in
     let c = each_counts ds n in
     let m = adds (code_of d) s n in
     record {
@@ -206,5 +206,5 @@ each_counts (d ∷ ds) h =
       late = ap (λ (s : Standing). s.late) e ∙ m.late ∙ ap (λ (n : ℕ). cond (eqb (code_of d) 16) (n + 1) n) c.late;
       gap = ap (λ (s : Standing). s.gap) e ∙ m.gap ∙ ap (λ (n : ℕ). cond (eqb (code_of d) 17) (n + 1) n) c.gap;
       other =
-          ap (λ (s : Standing). s.other) e ∙ m.other ∙ ap (λ (n : ℕ). cond (isOther (code_of d)) (n + 1) n) c.other;
+          ap (λ (s : Standing). s.other) e ∙ m.other ∙ ap (λ (n : ℕ). cond (is_other (code_of d)) (n + 1) n) c.other;
     }

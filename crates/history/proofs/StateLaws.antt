@@ -10,56 +10,56 @@ use lib.Dec.{ltb}
 use lib.ListN.{length, take, get_or, set, length-set}
 use lib.Seq.{take_all, take-suc, take-suc-set, get_or-set_same, get_or-set_other, set-get_or}
 use borrow.Author.Tests.{lt-ltb, ltb-true}
-use Rattle.kinds.specs.Kinds.{kindIn}
+use Rattle.kinds.specs.Kinds.{kind_in}
 use Rattle.elements.specs.Elements.{state_of, word_of}
 use Rattle.kinds.specs.declared.Kind.{Kind}
 use Rattle.kinds.specs.declared.Element.{Element}
-use Rattle.elements.proofs.Laws.{state-kind}
+use Rattle.elements.proofs.Laws.{state_kind}
 use Rattle.elements.proofs.DatLaws.{Stale}
-use Rattle.history.specs.Verdict.{naming, Verdict, refused, done, then, refusalAt, ◌unless◌⨾◌}
+use Rattle.history.specs.Verdict.{naming, Verdict, refused, done, then, refusal_at, ◌unless◌⨾◌}
 use Rattle.history.specs.Table.{Plan, kind_at}
-use Rattle.history.specs.Image.{Image, element, ◌of◌⨾◌, imageBytes, isAccepted, admits, Every, nil, and}
+use Rattle.history.specs.Image.{Image, element, ◌of◌⨾◌, image_bytes, is_accepted, admits, Every, nil, and}
 use Rattle.history.specs.Image.{LegalImage, AcceptedImage}
-use Rattle.history.specs.Calls.{readPlan, placed, readStateUnder, readStateCall, checkState, writeStateUnder}
-use Rattle.history.specs.Calls.{writeStateCall}
-use Rattle.elements.specs.Elements.{sameKind}
+use Rattle.history.specs.Calls.{read_plan, placed, read_state_under, read_state_call, check_state, write_state_under}
+use Rattle.history.specs.Calls.{write_state_call}
+use Rattle.elements.specs.Elements.{same_kind}
 use Rattle.history.proofs.VerdictLaws.{held, used}
-use Rattle.history.proofs.ElementLaws.{was-accepted, is-accepted, admits-accepted, word-again, state-again}
-use Rattle.history.proofs.ElementLaws.{state-admitted, same_kind, is-same-kind, state-current, state-twelve}
-use Rattle.history.proofs.OperationLaws.{one-version}
-use Rattle.history.proofs.CallLaws.{legal-image}
+use Rattle.history.proofs.ElementLaws.{was_accepted, is_accepted_lem, admits_accepted, word_again, state_again}
+use Rattle.history.proofs.ElementLaws.{state_admitted, same_kind_lem, is_same_kind, state_current, state_twelve}
+use Rattle.history.proofs.OperationLaws.{one_version}
+use Rattle.history.proofs.CallLaws.{legal_image}
 
 -- object i's element as a state
-abbrev pub stateAt : Plan → Image → ℕ → Element
-stateAt p a i = state_of (kind_at p.kinds i) (get_or a.words i 0)
+abbrev pub state_at : Plan → Image → ℕ → Element
+state_at p a i = state_of (kind_at p.kinds i) (get_or a.words i 0)
 
 -- ---- all objects
 
 -- states turned back into words are the words that they were read from
-words-again : {ks : List Kind} {ws : List ℕ} → Every admits ks ws → map word_of (zip_with state_of ks ws) ≡ ws
+words_again : {ks : List Kind} {ws : List ℕ} → Every admits ks ws → map word_of (zip_with state_of ks ws) ≡ ws
 unfolding zip_with
-words-again nil = refl
-words-again (and {a = k} {b = w} h r) = ap₂ ◌∷◌ (word-again k w h) (words-again r)
+words_again nil = refl
+words_again (and {a = k} {b = w} h r) = ap₂ ◌∷◌ (word_again k w h) (words_again r)
 
-pub states-at : (d : Element) {ks : List Kind} {ws : List ℕ} → Every admits ks ws → (i : ℕ) → i < length ks
+pub states_at : (d : Element) {ks : List Kind} {ws : List ℕ} → Every admits ks ws → (i : ℕ) → i < length ks
     → get_or (zip_with state_of ks ws) i d ≡ state_of (kind_at ks i) (get_or ws i 0)
 unfolding zip_with
-states-at d nil i h = absurd (omega arith)
-states-at d (and p ps) zero h = refl
-states-at d (and p ps) (suc i) h = states-at d ps i (omega arith)
+states_at d nil i h = absurd (omega arith)
+states_at d (and p ps) zero h = refl
+states_at d (and p ps) (suc i) h = states_at d ps i (omega arith)
 
 -- ---- a test at each place
 
 module _ {A B : Type 0} {test : A → B → Bool} where
-  every-long : {xs : List A} {ys : List B} → Every test xs ys → length ys ≡ length xs
-  every-long nil = refl
-  every-long (and h r) = ap suc (every-long r)
+  every_long : {xs : List A} {ys : List B} → Every test xs ys → length ys ≡ length xs
+  every_long nil = refl
+  every_long (and h r) = ap suc (every_long r)
 
-  every-at : (d : A) (d' : B) {xs : List A} {ys : List B} → Every test xs ys → (i : ℕ) → i < length xs
+  every_at : (d : A) (d' : B) {xs : List A} {ys : List B} → Every test xs ys → (i : ℕ) → i < length xs
       → test (get_or xs i d) (get_or ys i d') ≡ true
-  every-at d d' nil i l = absurd (omega arith)
-  every-at d d' (and h r) zero l = h
-  every-at d d' (and h r) (suc i) l = every-at d d' r i (omega arith)
+  every_at d d' nil i l = absurd (omega arith)
+  every_at d d' (and h r) zero l = h
+  every_at d d' (and h r) (suc i) l = every_at d d' r i (omega arith)
 
   every_set : (d : A) {xs : List A} {ys : List B} → Every test xs ys → (i : ℕ) (b : B) → i < length xs
       → test (get_or xs i d) b ≡ true → Every test xs (set ys i b)
@@ -73,157 +73,157 @@ module _ (ks : List Kind) (i : ℕ) (e : Element) where
   -- accepted: the object exists and has the state's kind, and the word is the state's
   pub record Taken (w : ℕ) : Type 0 where
     pub inside : i < length ks
-    pub kind : kindIn e ≡ kind_at ks i
-    pub good : isAccepted (element (kind_at ks i) (word_of e)) ≡ true
+    pub kind : kind_in e ≡ kind_at ks i
+    pub good : is_accepted (element (kind_at ks i) (word_of e)) ≡ true
     pub word : word_of e ≡ w
 
-  pub state-taken : {w : ℕ} → checkState ks i e ≡ done w → Taken w
-  unfolding checkState
-  state-taken q =
+  pub state_taken : {w : ℕ} → check_state ks i e ≡ done w → Taken w
+  unfolding check_state
+  state_taken q =
       let q₁ = held (ltb i (length ks)) _ _ q in
-      let q₂ = held (sameKind (kindIn e) (kind_at ks i)) _ _ q₁.1 in
-      let q₃ = was-accepted (element (kind_at ks i) (word_of e)) i _ q₂.1 in
+      let q₂ = held (same_kind (kind_in e) (kind_at ks i)) _ _ q₁.1 in
+      let q₃ = was_accepted (element (kind_at ks i) (word_of e)) i _ q₂.1 in
       record {
         inside = ltb-true _ _ q₁.0;
-        kind = same_kind (kindIn e) (kind_at ks i) q₂.0;
+        kind = same_kind_lem (kind_in e) (kind_at ks i) q₂.0;
         good = q₃.0;
         word = cc q₃.1;
       }
 
-  state-checked : i < length ks → kindIn e ≡ kind_at ks i
-      → checkState ks i e ≡ (element (kind_at ks i) (word_of e) of i ⨾ done (word_of e))
-  unfolding checkState
-  state-checked l s = rw (lt-ltb i (length ks) l, is-same-kind (kindIn e) (kind_at ks i) s)
+  state_checked : i < length ks → kind_in e ≡ kind_at ks i
+      → check_state ks i e ≡ (element (kind_at ks i) (word_of e) of i ⨾ done (word_of e))
+  unfolding check_state
+  state_checked l s = rw (lt-ltb i (length ks) l, is_same_kind (kind_in e) (kind_at ks i) s)
 
 -- ---- the calls
 
 -- the states of A's objects from i on, each read and written into Z, one at each of the positions
-abbrev pub statesInto : List ℕ → List ℕ → ℕ → List ℕ → List ℕ → Verdict (List ℕ)
-statesInto T A i [] Z = done Z
-statesInto T A i (position ∷ rest) Z =
-    then (readStateCall T A i) λ e. then (writeStateCall T Z i e position) λ Y. statesInto T A (suc i) rest Y
+abbrev pub states_into : List ℕ → List ℕ → ℕ → List ℕ → List ℕ → Verdict (List ℕ)
+states_into T A i [] Z = done Z
+states_into T A i (position ∷ rest) Z =
+    then (read_state_call T A i) λ e. then (write_state_call T Z i e position) λ Y. states_into T A (suc i) rest Y
 
 abbrev pub AllBelow : ℕ → List ℕ → Type 0
 AllBelow n [] = Unit {0}
 AllBelow n (x ∷ xs) = (x < n) × AllBelow n xs
 
-module _ (T : List ℕ) {p : Plan} (t : readPlan T ≡ done p) where
+module _ (T : List ℕ) {p : Plan} (t : read_plan T ≡ done p) where
   -- what a read of object i gives in an accepted image
   abbrev answered : ℕ → Element → Verdict Element
-  answered i state = refusalAt 13 i unless ltb i (length p.kinds) ⨾ done state
+  answered i state = refusal_at 13 i unless ltb i (length p.kinds) ⨾ done state
 
-  read-any : {A : List ℕ} (a : AcceptedImage p A) (i : ℕ) → readStateCall T A i ≡ answered i (stateAt p a.image i)
-  unfolding readStateCall readStateUnder
-  read-any a i = rw (t, a.reads)
+  read_any : {A : List ℕ} (a : AcceptedImage p A) (i : ℕ) → read_state_call T A i ≡ answered i (state_at p a.image i)
+  unfolding read_state_call read_state_under
+  read_any a i = rw (t, a.reads)
 
   pub read_is : {A : List ℕ} (a : AcceptedImage p A) (i : ℕ) → i < length p.kinds
-      → readStateCall T A i ≡ done (stateAt p a.image i)
-  unfolding readStateCall readStateUnder
+      → read_state_call T A i ≡ done (state_at p a.image i)
+  unfolding read_state_call read_state_under
   read_is a i h = rw (t, a.reads, lt-ltb i (length p.kinds) h)
 
   -- what a successful write tells
   pub record Wrote {A : List ℕ} (a : AcceptedImage p A) (i : ℕ) (e : Element) (position : ℕ) (B : List ℕ) : Type 0 where
     pub inside : i < length p.kinds
-    pub kind : kindIn e ≡ kind_at p.kinds i
+    pub kind : kind_in e ≡ kind_at p.kinds i
     pub good : admits (kind_at p.kinds i) (word_of e) ≡ true
-    pub same : B ≡ imageBytes p (placed a.image i (word_of e) position)
+    pub same : B ≡ image_bytes p (placed a.image i (word_of e) position)
 
   pub wrote : {A B : List ℕ} (a : AcceptedImage p A) (i : ℕ) (e : Element) (position : ℕ)
-      → writeStateCall T A i e position ≡ done B → Wrote a i e position B
-  unfolding writeStateCall writeStateUnder
+      → write_state_call T A i e position ≡ done B → Wrote a i e position B
+  unfolding write_state_call write_state_under
   wrote {A} {B} a i e position q =
-      let c = used (checkState p.kinds i e) _ (rw (t, a.reads) at q) in
-      let k = state-taken p.kinds i e c.1 in
+      let c = used (check_state p.kinds i e) _ (rw (t, a.reads) at q) in
+      let k = state_taken p.kinds i e c.1 in
       record {
         inside = k.inside;
         kind = k.kind;
-        good = state-admitted (kind_at p.kinds i) e k.kind k.good;
+        good = state_admitted (kind_at p.kinds i) e k.kind k.good;
         same = cc (c.2, k.word);
       }
 
   -- the new image is legal
-  placed-legal : {z : Image} → LegalImage p z → (i w position : ℕ) → i < length p.kinds
+  placed_legal : {z : Image} → LegalImage p z → (i w position : ℕ) → i < length p.kinds
       → admits (kind_at p.kinds i) w ≡ true → position < 2 ^ 32 → LegalImage p (placed z i w position)
-  placed-legal h i w position inside good small =
+  placed_legal h i w position inside good small =
       record { version = h.version; position = omega arith; words = every_set Kind.Signal h.words i w inside good }
 
-  pub written-legal : {A B : List ℕ} (a : AcceptedImage p A) (i : ℕ) (e : Element) (position : ℕ) → position < 2 ^ 32
+  pub written_legal : {A B : List ℕ} (a : AcceptedImage p A) (i : ℕ) (e : Element) (position : ℕ) → position < 2 ^ 32
       → Wrote a i e position B
       → LegalImage p (placed a.image i (word_of e) position)
-  written-legal a i e position small w = placed-legal a.legal i (word_of e) position w.inside w.good small
+  written_legal a i e position small w = placed_legal a.legal i (word_of e) position w.inside w.good small
 
-  pub write-is : {A : List ℕ} (a : AcceptedImage p A) (i : ℕ) (e : Element) (position : ℕ) → i < length p.kinds
-      → kindIn e ≡ kind_at p.kinds i → isAccepted (element (kind_at p.kinds i) (word_of e)) ≡ true
-      → writeStateCall T A i e position ≡ done (imageBytes p (placed a.image i (word_of e) position))
-  unfolding writeStateCall writeStateUnder
-  write-is a i e position l s h =
+  pub write_is : {A : List ℕ} (a : AcceptedImage p A) (i : ℕ) (e : Element) (position : ℕ) → i < length p.kinds
+      → kind_in e ≡ kind_at p.kinds i → is_accepted (element (kind_at p.kinds i) (word_of e)) ≡ true
+      → write_state_call T A i e position ≡ done (image_bytes p (placed a.image i (word_of e) position))
+  unfolding write_state_call write_state_under
+  write_is a i e position l s h =
       rw (
         t,
         a.reads,
-        state-checked p.kinds i e l s,
-        is-accepted (element (kind_at p.kinds i) (word_of e)) i (done (word_of e)) h,
+        state_checked p.kinds i e l s,
+        is_accepted_lem (element (kind_at p.kinds i) (word_of e)) i (done (word_of e)) h,
       )
 
   -- a state of the object's kind is written, unless DAT is 0 and another bit is 1: then it is refused with 12
-  pub write-current : {A : List ℕ} (a : AcceptedImage p A) (i : ℕ) (e : Element) (position : ℕ) → i < length p.kinds
-      → kindIn e ≡ kind_at p.kinds i → (Stale (kindIn e) (word_of e) → ⊥)
-      → writeStateCall T A i e position ≡ done (imageBytes p (placed a.image i (word_of e) position))
-  write-current a i e position l s n =
-      write-is a i e position l s (ap isAccepted (state-current (kind_at p.kinds i) e s n))
+  pub write_current : {A : List ℕ} (a : AcceptedImage p A) (i : ℕ) (e : Element) (position : ℕ) → i < length p.kinds
+      → kind_in e ≡ kind_at p.kinds i → (Stale (kind_in e) (word_of e) → ⊥)
+      → write_state_call T A i e position ≡ done (image_bytes p (placed a.image i (word_of e) position))
+  write_current a i e position l s n =
+      write_is a i e position l s (ap is_accepted (state_current (kind_at p.kinds i) e s n))
 
-  pub write-stale : {A : List ℕ} (a : AcceptedImage p A) (i : ℕ) (e : Element) (position : ℕ) → i < length p.kinds
-      → kindIn e ≡ kind_at p.kinds i → Stale (kindIn e) (word_of e)
-      → writeStateCall T A i e position ≡ refused (naming 12 i 0)
-  unfolding writeStateCall writeStateUnder
-  write-stale a i e position l s h =
-      rw (t, a.reads, state-checked p.kinds i e l s, state-twelve (kind_at p.kinds i) e s h)
+  pub write_stale : {A : List ℕ} (a : AcceptedImage p A) (i : ℕ) (e : Element) (position : ℕ) → i < length p.kinds
+      → kind_in e ≡ kind_at p.kinds i → Stale (kind_in e) (word_of e)
+      → write_state_call T A i e position ≡ refused (naming 12 i 0)
+  unfolding write_state_call write_state_under
+  write_stale a i e position l s h =
+      rw (t, a.reads, state_checked p.kinds i e l s, state_twelve (kind_at p.kinds i) e s h)
 
-  abbrev pub written-image : {A B : List ℕ} (a : AcceptedImage p A) (i : ℕ) (e : Element) (position : ℕ)
+  abbrev pub written_image : {A B : List ℕ} (a : AcceptedImage p A) (i : ℕ) (e : Element) (position : ℕ)
       → position < 2 ^ 32 → Wrote a i e position B → AcceptedImage p B
-  written-image a i e position small w = legal-image T t (written-legal a i e position small w) w.same
+  written_image a i e position small w = legal_image T t (written_legal a i e position small w) w.same
 
   -- a state that was written is read back
   pub write_read : {A B : List ℕ} (a : AcceptedImage p A) (i : ℕ) (e : Element) (position : ℕ) → position < 2 ^ 32
-      → writeStateCall T A i e position ≡ done B → readStateCall T B i ≡ done e
+      → write_state_call T A i e position ≡ done B → read_state_call T B i ≡ done e
   write_read a i e position small q =
       let w = wrote a i e position q in
-      let long : i < length a.image.words = omega (arith, every-long a.legal.words, w.inside) in
-      read_is (written-image a i e position small w) i w.inside
+      let long : i < length a.image.words = omega (arith, every_long a.legal.words, w.inside) in
+      read_is (written_image a i e position small w) i w.inside
       ∙ ap done (ap (state_of (kind_at p.kinds i)) (get_or-set_same a.image.words i (word_of e) 0 long)
-      ∙ state-again (kind_at p.kinds i) e w.kind)
+      ∙ state_again (kind_at p.kinds i) e w.kind)
 
   -- other objects stay
-  pub write-other : {A B : List ℕ} (a : AcceptedImage p A) (i : ℕ) (e : Element) (position : ℕ) → position < 2 ^ 32
-      → writeStateCall T A i e position ≡ done B → (j : ℕ) → (j ≡ i → ⊥) → readStateCall T B j ≡ readStateCall T A j
-  write-other a i e position small q j n =
+  pub write_other : {A B : List ℕ} (a : AcceptedImage p A) (i : ℕ) (e : Element) (position : ℕ) → position < 2 ^ 32
+      → write_state_call T A i e position ≡ done B → (j : ℕ) → (j ≡ i → ⊥) → read_state_call T B j ≡ read_state_call T A j
+  write_other a i e position small q j n =
       let w = wrote a i e position q in
-      read-any (written-image a i e position small w) j
+      read_any (written_image a i e position small w) j
       ∙ ap (λ (w : ℕ). answered j (state_of (kind_at p.kinds j) w))
       (get_or-set_other a.image.words i j (word_of e) 0 n)
-      ∙ sym (read-any a j)
+      ∙ sym (read_any a j)
 
   -- a state read from image a and written into image z puts a's word there
   write_word : {A Z : List ℕ} (a : AcceptedImage p A) (z : AcceptedImage p Z) (i position : ℕ) → i < length p.kinds
-      → writeStateCall T Z i (stateAt p a.image i) position
-      ≡ done (imageBytes p (placed z.image i (get_or a.image.words i 0) position))
+      → write_state_call T Z i (state_at p a.image i) position
+      ≡ done (image_bytes p (placed z.image i (get_or a.image.words i 0) position))
   write_word a z i position l =
       let k : Kind = kind_at p.kinds i in
       let w : ℕ = get_or a.image.words i 0 in
-      let good = every-at Kind.Signal 0 a.legal.words i l in
-      let word : word_of (state_of k w) ≡ w = word-again k w good in
-      write-is z i (state_of k w) position l (state-kind k w) (rw word (admits-accepted k w good))
-      ∙ ap (λ (v : ℕ). done (imageBytes p (placed z.image i v position))) word
+      let good = every_at Kind.Signal 0 a.legal.words i l in
+      let word : word_of (state_of k w) ≡ w = word_again k w good in
+      write_is z i (state_of k w) position l (state_kind k w) (rw word (admits_accepted k w good))
+      ∙ ap (λ (v : ℕ). done (image_bytes p (placed z.image i v position))) word
 
   -- .. written into a itself, at a's position, it gives the same bytes
-  pub read-write : {A : List ℕ} (a : AcceptedImage p A) (i : ℕ) (e : Element)
-      → readStateCall T A i ≡ done e → writeStateCall T A i e a.image.position ≡ done A
-  read-write {A} a i e q =
-      let r = held (ltb i (length p.kinds)) _ _ (sym (read-any a i) ∙ q) in
+  pub read_write : {A : List ℕ} (a : AcceptedImage p A) (i : ℕ) (e : Element)
+      → read_state_call T A i ≡ done e → write_state_call T A i e a.image.position ≡ done A
+  read_write {A} a i e q =
+      let r = held (ltb i (length p.kinds)) _ _ (sym (read_any a i) ∙ q) in
       let l = ltb-true i (length p.kinds) r.0 in
-      let e-is : e ≡ stateAt p a.image i = cc (read_is a i l) in
-      ap (λ (s : Element). writeStateCall T A i s a.image.position) e-is
+      let e-is : e ≡ state_at p a.image i = cc (read_is a i l) in
+      ap (λ (s : Element). write_state_call T A i s a.image.position) e-is
       ∙ write_word a a i a.image.position l
-      ∙ ap done (ap (λ (ws : List ℕ). imageBytes p
+      ∙ ap done (ap (λ (ws : List ℕ). image_bytes p
       (record { version = a.image.version; position = a.image.position; words = ws }))
       (set-get_or a.image.words i 0)
       ∙ sym a.same)
@@ -231,61 +231,61 @@ module _ (T : List ℕ) {p : Plan} (t : readPlan T ≡ done p) where
   -- ---- all states of one image written into another: the words below i are there already, and the next is written
 
   module _ {A Z : List ℕ} (a : AcceptedImage p A) (z : AcceptedImage p Z) (i : ℕ) (inside : i < length p.kinds) where
-    abbrev next-image : (position : ℕ) → position < 2 ^ 32
-        → AcceptedImage p (imageBytes p (placed z.image i (get_or a.image.words i 0) position))
-    next-image position small =
-        legal-image T t
-        (placed-legal z.legal i (get_or a.image.words i 0) position inside
-        (every-at Kind.Signal 0 a.legal.words i inside) small) refl
+    abbrev next_image : (position : ℕ) → position < 2 ^ 32
+        → AcceptedImage p (image_bytes p (placed z.image i (get_or a.image.words i 0) position))
+    next_image position small =
+        legal_image T t
+        (placed_legal z.legal i (get_or a.image.words i 0) position inside
+        (every_at Kind.Signal 0 a.legal.words i inside) small) refl
 
     module _ (so : take i z.image.words ≡ take i a.image.words) where
       next_word : take (suc i) (set z.image.words i (get_or a.image.words i 0)) ≡ take (suc i) a.image.words
       next_word =
           let w : ℕ = get_or a.image.words i 0 in
-          take-suc-set z.image.words i w (omega (arith, every-long z.legal.words))
+          take-suc-set z.image.words i w (omega (arith, every_long z.legal.words))
           ∙ ap (λ (ws : List ℕ). ws ++ (w ∷ [])) so
-          ∙ sym (take-suc a.image.words i 0 (omega (arith, every-long a.legal.words)))
+          ∙ sym (take-suc a.image.words i 0 (omega (arith, every_long a.legal.words)))
 
-      last-image : suc i ≡ length p.kinds
-          → imageBytes p (placed z.image i (get_or a.image.words i 0) a.image.position) ≡ A
-      last-image n =
+      last_image : suc i ≡ length p.kinds
+          → image_bytes p (placed z.image i (get_or a.image.words i 0) a.image.position) ≡ A
+      last_image n =
           let w : ℕ = get_or a.image.words i 0 in
           let all-z =
           take_all (suc i) (set z.image.words i w)
-          (omega (arith, length-set z.image.words i w, every-long z.legal.words)) in
-          let all-a = take_all (suc i) a.image.words (omega (arith, every-long a.legal.words)) in
+          (omega (arith, length-set z.image.words i w, every_long z.legal.words)) in
+          let all-a = take_all (suc i) a.image.words (omega (arith, every_long a.legal.words)) in
           let words : set z.image.words i w ≡ a.image.words = sym all-z ∙ next_word ∙ all-a in
-          ap (imageBytes p)
+          ap (image_bytes p)
           (λ j. record {
-            version = one-version z.legal a.legal j;
+            version = one_version z.legal a.legal j;
             position = a.image.position;
             words = words j;
           })
           ∙ sym a.same
 
-  pub all-into : {A Z : List ℕ} (a : AcceptedImage p A) (z : AcceptedImage p Z) (i : ℕ) (ps : List ℕ)
+  pub all_into : {A Z : List ℕ} (a : AcceptedImage p A) (z : AcceptedImage p Z) (i : ℕ) (ps : List ℕ)
       → AllBelow (2 ^ 32) ps → i + suc (length ps) ≡ length p.kinds
       → take i z.image.words ≡ take i a.image.words
-      → statesInto T A i (ps ++ (a.image.position ∷ [])) Z ≡ done A
-  all-into a z i [] h n so =
+      → states_into T A i (ps ++ (a.image.position ∷ [])) Z ≡ done A
+  all_into a z i [] h n so =
       let l : i < length p.kinds = omega arith in
-      rw (read_is a i l, write_word a z i a.image.position l) (ap done (last-image a z i l so (omega arith)))
-  all-into a z i (position ∷ ps) h n so =
+      rw (read_is a i l, write_word a z i a.image.position l) (ap done (last_image a z i l so (omega arith)))
+  all_into a z i (position ∷ ps) h n so =
       let l : i < length p.kinds = omega arith in
-      let y = next-image a z i l position h.0 in
+      let y = next_image a z i l position h.0 in
       rw (read_is a i l, write_word a z i position l)
-      (all-into a y (suc i) ps h.1 (omega arith) (next_word a z i l so))
+      (all_into a y (suc i) ps h.1 (omega arith) (next_word a z i l so))
 
   -- the states of all objects, written as an image, give the image's bytes
-  pub states-written : {A : List ℕ} (a : AcceptedImage p A)
-      → imageBytes p
+  pub states_written : {A : List ℕ} (a : AcceptedImage p A)
+      → image_bytes p
       (record {
         version = a.image.version;
         position = a.image.position;
         words = map word_of (zip_with state_of p.kinds a.image.words);
       }) ≡ A
-  states-written a =
-      ap (λ (ws : List ℕ). imageBytes p
+  states_written a =
+      ap (λ (ws : List ℕ). image_bytes p
       (record { version = a.image.version; position = a.image.position; words = ws }))
-      (words-again a.legal.words)
+      (words_again a.legal.words)
       ∙ sym a.same

@@ -9,7 +9,7 @@ use mathlib.Core.Bool.{Bool, true, false, ◌&&◌, ◌||◌}
 use mathlib.Core.List.{List, [], ◌∷◌}
 use mathlib.Core.Logic.{◌⊎◌, inl, inr}
 use lib.ListN.{length, get_or}
-use Rattle.history.specs.Verdict.{Refused, naming, Verdict, refused, done, then, refusalAt, ◌unless◌⨾◌}
+use Rattle.history.specs.Verdict.{Refused, naming, Verdict, refused, done, then, refusal_at, ◌unless◌⨾◌}
 use Rattle.history.specs.Changes.{lowest}
 use Rattle.history.specs.Image.{Every, nil, and}
 
@@ -35,8 +35,8 @@ refuted true n = absurd (n refl)
 refuted false n = refl
 
 -- equal refused verdicts have the same refusal
-pub one-refusal : {A : Type 0} {x y : Refused} → ◌≡◌ {A = Verdict A} (refused x) (refused y) → x ≡ y
-one-refusal e = cc
+pub one_refusal : {A : Type 0} {x y : Refused} → ◌≡◌ {A = Verdict A} (refused x) (refused y) → x ≡ y
+one_refusal e = cc
 
 -- a verdict other than the test's refusal: the test held, and the rest gave it
 pub kept : {A : Type 0} (t : Bool) (x : Refused) (r : Verdict A) {v : Verdict A} → (refused x ≡ v → ⊥)
@@ -55,16 +55,16 @@ used (refused r) f e = absurd (let z : ◌≡◌ {A = ℕ} 0 1 = cc in omega ari
 used (done a) f e = (a, refl, e)
 
 -- a refusal comes from the first step or from the next
-pub either-refused : {A B : Type 0} (x : Verdict A) (f : A → Verdict B) {r : Refused} → then x f ≡ refused r
+pub either_refused : {A B : Type 0} (x : Verdict A) (f : A → Verdict B) {r : Refused} → then x f ≡ refused r
     → (x ≡ refused r) ⊎ ((a : A) × (x ≡ done a) × (f a ≡ refused r))
-either-refused (refused r) f e = inl cc
-either-refused (done a) f e = inr (a, refl, e)
+either_refused (refused r) f e = inl cc
+either_refused (done a) f e = inr (a, refl, e)
 
 -- if the next step can't refuse, the refusal is the first step's
-pub passed-up : {A B : Type 0} (x : Verdict A) (f : A → B) {r : Refused} → then x (λ a. done (f a)) ≡ refused r
+pub passed_up : {A B : Type 0} (x : Verdict A) (f : A → B) {r : Refused} → then x (λ a. done (f a)) ≡ refused r
     → x ≡ refused r
-passed-up (refused r) f e = cc
-passed-up (done a) f e = absurd (let z : ◌≡◌ {A = ℕ} 0 1 = cc in omega arith)
+passed_up (refused r) f e = cc
+passed_up (done a) f e = absurd (let z : ◌≡◌ {A = ℕ} 0 1 = cc in omega arith)
 
 -- a refusal of another code than the test's: the test held, and the rest gave it
 pub past : {A : Type 0} (t : Bool) (x : Refused) (r : Verdict A) {y : Refused} → (x.code ≡ y.code → ⊥)
@@ -87,13 +87,13 @@ module _ {A B : Type 0} (test : A → B → Bool) (x : A) (y : B) where
     pub fails : test (get_or xs n x) (get_or ys n y) ≡ false
     pub holds : (k : ℕ) → k < n → test (get_or xs k x) (get_or ys k y) ≡ true
 
-  lowest-here : (a : A) (b : B) (xs : List A) (ys : List B) → test a b ≡ false → Lowest (a ∷ xs) (b ∷ ys) 0
-  lowest-here a b xs ys e =
+  lowest_here : (a : A) (b : B) (xs : List A) (ys : List B) → test a b ≡ false → Lowest (a ∷ xs) (b ∷ ys) 0
+  lowest_here a b xs ys e =
       record { first = omega arith; second = omega arith; fails = e; holds = λ k h. absurd (omega arith) }
 
-  lowest-later : (a : A) (b : B) (xs : List A) (ys : List B) (n : ℕ) → test a b ≡ true → Lowest xs ys n
+  lowest_later : (a : A) (b : B) (xs : List A) (ys : List B) (n : ℕ) → test a b ≡ true → Lowest xs ys n
       → Lowest (a ∷ xs) (b ∷ ys) (suc n)
-  lowest-later a b xs ys n e l =
+  lowest_later a b xs ys n e l =
       record { first = omega (arith, l.first); second = omega (arith, l.second); fails = l.fails; holds = go }
     where
       go : (k : ℕ) → k < suc n → test (get_or (a ∷ xs) k x) (get_or (b ∷ ys) k y) ≡ true
@@ -107,37 +107,37 @@ module _ {A B : Type 0} (test : A → B → Bool) (x : A) (y : B) where
     pub named : r ≡ naming code (i + place) 255
 
   module _ {C : Type 0} (code : ℕ) (c : C) where
-    pub names-lowest : (i : ℕ) (xs : List A) (ys : List B) {r : Refused} → lowest code test i xs ys c ≡ refused r
+    pub names_lowest : (i : ℕ) (xs : List A) (ys : List B) {r : Refused} → lowest code test i xs ys c ≡ refused r
         → Names xs ys code i r
-    names-lowest i [] ys e = absurd (let z : ◌≡◌ {A = ℕ} 0 1 = cc in omega arith)
-    names-lowest i (a ∷ xs) [] e = absurd (let z : ◌≡◌ {A = ℕ} 0 1 = cc in omega arith)
-    names-lowest i (a ∷ xs) (b ∷ ys) {r} e = go (test a b) refl (names-lowest (suc i) xs ys) e
+    names_lowest i [] ys e = absurd (let z : ◌≡◌ {A = ℕ} 0 1 = cc in omega arith)
+    names_lowest i (a ∷ xs) [] e = absurd (let z : ◌≡◌ {A = ℕ} 0 1 = cc in omega arith)
+    names_lowest i (a ∷ xs) (b ∷ ys) {r} e = go (test a b) refl (names_lowest (suc i) xs ys) e
       where
         go : (u : Bool) → test a b ≡ u → (lowest code test (suc i) xs ys c ≡ refused r → Names xs ys code (suc i) r)
-            → (refusalAt code i unless u ⨾ lowest code test (suc i) xs ys c) ≡ refused r
+            → (refusal_at code i unless u ⨾ lowest code test (suc i) xs ys c) ≡ refused r
             → Names (a ∷ xs) (b ∷ ys) code i r
-        go false t later e = record { place = 0; lowest = lowest-here a b xs ys t; named = cc (add-zero i) }
+        go false t later e = record { place = 0; lowest = lowest_here a b xs ys t; named = cc (add-zero i) }
         go true t later e =
             let n = later e in
             record {
               place = suc n.place;
-              lowest = lowest-later a b xs ys n.place t n.lowest;
+              lowest = lowest_later a b xs ys n.place t n.lowest;
               named = n.named ∙ ap (λ (j : ℕ). naming code j 255) (suc-add i n.place ∙ sym (add-suc i n.place));
             }
 
   module _ {C : Type 0} (code : ℕ) (c : C) where
     -- .. no other code is given ..
-    pub other-code : (i : ℕ) (xs : List A) (ys : List B) {r : Refused} → (r.code ≡ code → ⊥)
+    pub other_code : (i : ℕ) (xs : List A) (ys : List B) {r : Refused} → (r.code ≡ code → ⊥)
         → lowest code test i xs ys c ≡ refused r → ⊥
-    other-code i xs ys n e = n (ap (λ (r : Refused). r.code) (names-lowest code c i xs ys e).named)
+    other_code i xs ys n e = n (ap (λ (r : Refused). r.code) (names_lowest code c i xs ys e).named)
 
     -- .. and where the test fails, the lowest such object is refused
-    pub refuses-lowest : (i : ℕ) (xs : List A) (ys : List B) (n : ℕ) → Lowest xs ys n
-        → lowest code test i xs ys c ≡ refusalAt code (i + n)
-    refuses-lowest i [] ys n l = absurd (omega (arith, l.first))
-    refuses-lowest i (a ∷ xs) [] n l = absurd (omega (arith, l.second))
-    refuses-lowest i (a ∷ xs) (b ∷ ys) zero l = rw (l.fails, add-zero i)
-    refuses-lowest i (a ∷ xs) (b ∷ ys) (suc n) l =
+    pub refuses_lowest : (i : ℕ) (xs : List A) (ys : List B) (n : ℕ) → Lowest xs ys n
+        → lowest code test i xs ys c ≡ refusal_at code (i + n)
+    refuses_lowest i [] ys n l = absurd (omega (arith, l.first))
+    refuses_lowest i (a ∷ xs) [] n l = absurd (omega (arith, l.second))
+    refuses_lowest i (a ∷ xs) (b ∷ ys) zero l = rw (l.fails, add-zero i)
+    refuses_lowest i (a ∷ xs) (b ∷ ys) (suc n) l =
         let next : Lowest xs ys n =
         record {
           first = omega (arith, l.first);
@@ -146,7 +146,7 @@ module _ {A B : Type 0} (test : A → B → Bool) (x : A) (y : B) where
           holds = λ k h. l.holds (suc k) (omega arith);
         } in
         rw (l.holds 0 (omega arith))
-        (refuses-lowest (suc i) xs ys n next ∙ ap (refusalAt code) (suc-add i n ∙ sym (add-suc i n)))
+        (refuses_lowest (suc i) xs ys n next ∙ ap (refusal_at code) (suc-add i n ∙ sym (add-suc i n)))
 
 module _ {A B : Type 0} where
   -- two lists of the same length

@@ -8,9 +8,9 @@ use Rattle.kinds.specs.declared.Kind.{Kind}
 use Rattle.octets.specs.Octets.{bytes, number}
 use Rattle.history.specs.declared.Change.{Change}
 use Rattle.history.specs.declared.Change.TheVariants.{Keep as keep, Swap as swap}
-use Rattle.history.specs.Verdict.{Verdict, done, then, refusal, refusalAt, ◌unless◌⨾◌}
-use Rattle.history.specs.Form.{formBytes, readForm}
-use Rattle.history.specs.Table.{Plan, kind_at, sameCatalogue}
+use Rattle.history.specs.Verdict.{Verdict, done, then, refusal, refusal_at, ◌unless◌⨾◌}
+use Rattle.history.specs.Form.{form_bytes, read_form}
+use Rattle.history.specs.Table.{Plan, kind_at, same_catalogue}
 use Rattle.history.specs.Image.{element, ◌of◌⨾◌, Image, admits, Every}
 
 -- two positions, and what the list says of each object, in table order.
@@ -21,18 +21,18 @@ pub record Changes : Type 0 where
   pub each : List Change
 
 -- lists have version byte 1
-unfoldable pub listVersion : ℕ
-listVersion = 1
+unfoldable pub list_version : ℕ
+list_version = 1
 
 -- ---- writing
 
 -- the entries of the objects from i on
-abbrev pub entriesBytes : ℕ → List Kind → List Change → List ℕ
-entriesBytes i [] cs = []
-entriesBytes i (k ∷ ks) [] = []
-entriesBytes i (k ∷ ks) (keep ∷ cs) = entriesBytes (suc i) ks cs
-entriesBytes i (k ∷ ks) (swap old new ∷ cs) =
-    bytes 2 i ++ (bytes (width_of k) old ++ (bytes (width_of k) new ++ entriesBytes (suc i) ks cs))
+abbrev pub entries_bytes : ℕ → List Kind → List Change → List ℕ
+entries_bytes i [] cs = []
+entries_bytes i (k ∷ ks) [] = []
+entries_bytes i (k ∷ ks) (keep ∷ cs) = entries_bytes (suc i) ks cs
+entries_bytes i (k ∷ ks) (swap old new ∷ cs) =
+    bytes 2 i ++ (bytes (width_of k) old ++ (bytes (width_of k) new ++ entries_bytes (suc i) ks cs))
 
 -- how many entries
 abbrev pub entries : List Change → ℕ
@@ -40,13 +40,13 @@ entries [] = 0
 entries (keep ∷ cs) = entries cs
 entries (swap old new ∷ cs) = suc (entries cs)
 
-unfoldable pub listBytes : Plan → Changes → List ℕ
-listBytes p l = formBytes (record {
-  version = listVersion;
+unfoldable pub list_bytes : Plan → Changes → List ℕ
+list_bytes p l = form_bytes (record {
+  version = list_version;
   x = p.x;
   y = p.y;
   contents =
-      bytes 4 l.from ++ (bytes 4 l.to ++ (bytes 2 (entries l.each) ++ entriesBytes 0 p.kinds l.each));
+      bytes 4 l.from ++ (bytes 4 l.to ++ (bytes 2 (entries l.each) ++ entries_bytes 0 p.kinds l.each));
 })
 
 -- ---- reading
@@ -70,43 +70,43 @@ entry_of i k b = record {
 }
 
 -- an entry's object number: 8 (cut), 13
-unfoldable pub readNumber : List Kind → List ℕ → Verdict ℕ
-readNumber ks b =
+unfoldable pub read_number : List Kind → List ℕ → Verdict ℕ
+read_number ks b =
     refusal 8 unless leb 2 (length b) ⨾
-    refusalAt 13 (number (take 2 b)) unless ltb (number (take 2 b)) (length ks) ⨾
+    refusal_at 13 (number (take 2 b)) unless ltb (number (take 2 b)) (length ks) ⨾
     done (number (take 2 b))
 
 -- the elements of object i: 8 (cut), old element, new element
-unfoldable pub readElements : ℕ → Kind → List ℕ → Verdict Entry
-readElements i k b =
+unfoldable pub read_elements : ℕ → Kind → List ℕ → Verdict Entry
+read_elements i k b =
     refusal 8 unless leb (width_of k + width_of k) (length b) ⨾
     element k (entry_of i k b).old of i ⨾
     element k (entry_of i k b).new of i ⨾
     done (entry_of i k b)
 
 -- an entry whose number must be at least low: number, 14, elements, 15
-unfoldable pub checkEntry : List Kind → ℕ → List ℕ → Verdict Entry
-checkEntry ks low b =
-    then (readNumber ks b) λ i.
-    refusalAt 14 i unless leb low i ⨾
-    then (readElements i (kind_at ks i) (drop 2 b)) λ e.
-    refusalAt 15 i unless not (eqb e.old e.new) ⨾
+unfoldable pub check_entry : List Kind → ℕ → List ℕ → Verdict Entry
+check_entry ks low b =
+    then (read_number ks b) λ i.
+    refusal_at 14 i unless leb low i ⨾
+    then (read_elements i (kind_at ks i) (drop 2 b)) λ e.
+    refusal_at 15 i unless not (eqb e.old e.new) ⨾
     done e
 
 -- what n entries say of each object from low on; at the end 8 (bytes left over)
-abbrev pub readEntries : List Kind → ℕ → ℕ → List ℕ → Verdict (List Change)
-readEntries ks low zero b = refusal 8 unless eqb (length b) 0 ⨾ done (replicate (length ks - low) keep)
-readEntries ks low (suc n) b =
-    then (checkEntry ks low b) λ e.
-    then (readEntries ks (suc e.object) n e.rest) λ cs.
+abbrev pub read_entries : List Kind → ℕ → ℕ → List ℕ → Verdict (List Change)
+read_entries ks low zero b = refusal 8 unless eqb (length b) 0 ⨾ done (replicate (length ks - low) keep)
+read_entries ks low (suc n) b =
+    then (check_entry ks low b) λ e.
+    then (read_entries ks (suc e.object) n e.rest) λ cs.
     done (replicate (e.object - low) keep ++ (swap e.old e.new ∷ cs))
 
 -- 1, 2, 9, then the entries
-unfoldable pub readList : Plan → List ℕ → Verdict Changes
-readList p b =
-    then (readForm 13 (eqb listVersion) b) λ f.
-    refusal 9 unless sameCatalogue f p ⨾
-    then (readEntries p.kinds 0 (number (take 2 (drop 8 f.contents))) (drop 10 f.contents)) λ cs.
+unfoldable pub read_list : Plan → List ℕ → Verdict Changes
+read_list p b =
+    then (read_form 13 (eqb list_version) b) λ f.
+    refusal 9 unless same_catalogue f p ⨾
+    then (read_entries p.kinds 0 (number (take 2 (drop 8 f.contents))) (drop 10 f.contents)) λ cs.
     done (record { from = number (take 4 f.contents); to = number (take 4 (drop 4 f.contents)); each = cs })
 
 -- ---- what a list may hold: "old differs from new"
@@ -125,8 +125,8 @@ pub record LegalList (p : Plan) (l : Changes) : Type 0 where
 pub record AcceptedList (p : Plan) (L : List ℕ) : Type 0 where
   pub list : Changes
   pub legal : LegalList p list
-  pub reads : readList p L ≡ done list
-  pub same : L ≡ listBytes p list
+  pub reads : read_list p L ≡ done list
+  pub same : L ≡ list_bytes p list
 
 -- "Meaning of a list: it applies to an image whose position is its from position and whose named elements are the old
 -- ones. The result has the to position and the new elements, all else equal." (Joins and turning back are quoted at
@@ -172,7 +172,7 @@ back (swap old new) = swap new old
 abbrev pub lowest : {A B C : Type 0} → ℕ → (A → B → Bool) → ℕ → List A → List B → C → Verdict C
 lowest code test i [] ys c = done c
 lowest code test i (x ∷ xs) [] c = done c
-lowest code test i (x ∷ xs) (y ∷ ys) c = refusalAt code i unless test x y ⨾ lowest code test (suc i) xs ys c
+lowest code test i (x ∷ xs) (y ∷ ys) c = refusal_at code i unless test x y ⨾ lowest code test (suc i) xs ys c
 
 -- ---- the four operations
 
@@ -192,14 +192,14 @@ applied l a =
     lowest 18 fits 0 l.each a.words (result_of l a)
 
 -- "the join of two lists goes from the first's start to the second's end"
-abbrev pub jointOf : Changes → Changes → Changes
-jointOf l m = record { from = l.from; to = m.to; each = zip_with joined l.each m.each }
+abbrev pub joint_of : Changes → Changes → Changes
+joint_of l m = record { from = l.from; to = m.to; each = zip_with joined l.each m.each }
 
 -- 19 (positions don't meet), 20 (elements don't meet)
 unfoldable pub join : Changes → Changes → Verdict Changes
 join l m =
     refusal 19 unless eqb l.to m.from ⨾
-    lowest 20 meets 0 l.each m.each (jointOf l m)
+    lowest 20 meets 0 l.each m.each (joint_of l m)
 
 -- "turning back swaps positions, and old with new"
 unfoldable pub turned : Changes → Changes

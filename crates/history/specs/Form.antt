@@ -10,16 +10,16 @@ pub record Form : Type 0 where
   pub y : ℕ
   pub contents : List ℕ
 
-unfoldable pub formBytes : Form → List ℕ
-formBytes f = bytes 4 (3 + length f.contents) ++ (f.version ∷ f.x ∷ f.y ∷ f.contents)
+unfoldable pub form_bytes : Form → List ℕ
+form_bytes f = bytes 4 (3 + length f.contents) ++ (f.version ∷ f.x ∷ f.y ∷ f.contents)
 
 -- 1: "slice under 4 bytes, not 4 + length, or length under the least"
 unfoldable pub is_whole : ℕ → List ℕ → Bool
 is_whole least b = leb 4 (length b) && (eqb (length b) (4 + number (take 4 b)) && leb least (number (take 4 b)))
 
 -- 1; 2 (version byte)
-unfoldable pub readForm : ℕ → (ℕ → Bool) → List ℕ → Verdict Form
-readForm least good b =
+unfoldable pub read_form : ℕ → (ℕ → Bool) → List ℕ → Verdict Form
+read_form least good b =
     refusal 1 unless is_whole least b ⨾
     refusal 2 unless good (get_or b 4 0) ⨾
     done (record { version = get_or b 4 0; x = get_or b 5 0; y = get_or b 6 0; contents = drop 7 b })
@@ -28,18 +28,18 @@ readForm least good b =
 
 -- the first, as long as its own first four bytes say, and what follows it. Bytes that hold none in full are all in the
 -- first, which is then no whole form
-unfoldable pub frontForm : List ℕ → List ℕ
-frontForm b = take (4 + number (take 4 b)) b
+unfoldable pub front_form : List ℕ → List ℕ
+front_form b = take (4 + number (take 4 b)) b
 
-unfoldable pub afterFront : List ℕ → List ℕ
-afterFront b = drop (4 + number (take 4 b)) b
+unfoldable pub after_front : List ℕ → List ℕ
+after_front b = drop (4 + number (take 4 b)) b
 
 -- the first n of them
-abbrev pub firstForms : ℕ → List ℕ → List (List ℕ)
-firstForms zero b = []
-firstForms (suc n) [] = []
-firstForms (suc n) (c ∷ b) = frontForm (c ∷ b) ∷ firstForms n (afterFront (c ∷ b))
+abbrev pub first_forms : ℕ → List ℕ → List (List ℕ)
+first_forms zero b = []
+first_forms (suc n) [] = []
+first_forms (suc n) (c ∷ b) = front_form (c ∷ b) ∷ first_forms n (after_front (c ∷ b))
 
 -- all: none is empty, so there are at most as many as bytes
-unfoldable pub formsIn : List ℕ → List (List ℕ)
-formsIn b = firstForms (length b) b
+unfoldable pub forms_in : List ℕ → List (List ℕ)
+forms_in b = first_forms (length b) b

@@ -29,15 +29,15 @@ decide (refused r) stop next = stop r
 decide (done a) stop next = next a
 
 -- the value; where it is refused, what there was before
-abbrev pub valueOr : {A : Type 0} → A → Verdict A → A
-valueOr before v = decide v (λ r. before) λ a. a
+abbrev pub value_or : {A : Type 0} → A → Verdict A → A
+value_or before v = decide v (λ r. before) λ a. a
 
 -- a refusal that names nothing (65535, 255); one that names an object
 abbrev pub refusal : {A : Type 0} → ℕ → Verdict A
 refusal code = refused (naming code 65535 255)
 
-abbrev pub refusalAt : {A : Type 0} → ℕ → ℕ → Verdict A
-refusalAt code object = refused (naming code object 255)
+abbrev pub refusal_at : {A : Type 0} → ℕ → ℕ → Verdict A
+refusal_at code object = refused (naming code object 255)
 
 -- the refusal, unless the test holds; then the rest decides
 infixr 5 ◌unless◌⨾◌
@@ -55,8 +55,8 @@ abbrev pub unnamed : ℕ → ℕ → Answer
 unnamed code n = numbers (naming code 65535 255) n
 
 -- an answer with another length
-abbrev pub ofLength : ℕ → Answer → Answer
-ofLength n r = record { code = r.code; object = r.object; bit = r.bit; length = n }
+abbrev pub of_length : ℕ → Answer → Answer
+of_length n r = record { code = r.code; object = r.object; bit = r.bit; length = n }
 
 -- a call that writes nothing: success is 0, 65535, 255, 0
 unfoldable pub told : {A : Type 0} → Verdict A → Answer

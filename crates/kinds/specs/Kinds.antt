@@ -2,15 +2,15 @@
 -- the state of any kind, from its fields' values and back.
 -- Written by catalogue/write.py.
 use Rattle.std.specs.Prelude.{cond, List, [], ◌∷◌, map, ℕ, eqb}
-use Rattle.rows.specs.Rows.{Row, layoutAt}
-use Rattle.rows.specs.Covering.{layoutRows}
+use Rattle.rows.specs.Rows.{Row, layout_at}
+use Rattle.rows.specs.Covering.{layout_rows}
 use Rattle.rows.specs.declared.Layout.{Layout}
-use Rattle.states.specs.States.{signalOf, signalValues, changerSignalOf, changerSignalValues, virtualBoardOf}
-use Rattle.states.specs.States.{virtualBoardValues, lineTrackCircuitOf, lineTrackCircuitValues, pointsTrackCircuitOf}
-use Rattle.states.specs.States.{pointsTrackCircuitValues, crossingTrackCircuitOf, crossingTrackCircuitValues}
-use Rattle.states.specs.States.{dualDetectionOf, dualDetectionValues, points_of, pointsValues, electricLockOf}
-use Rattle.states.specs.States.{electricLockValues, generalNoticesOf, generalNoticesValues, controlBoundaryOf}
-use Rattle.states.specs.States.{controlBoundaryValues, signalV3Of, signalV3Values}
+use Rattle.states.specs.States.{signal_of, signal_values, changer_signal_of, changer_signal_values, virtual_board_of}
+use Rattle.states.specs.States.{virtual_board_values, line_track_circuit_of, line_track_circuit_values, points_track_circuit_of}
+use Rattle.states.specs.States.{points_track_circuit_values, crossing_track_circuit_of, crossing_track_circuit_values}
+use Rattle.states.specs.States.{dual_detection_of, dual_detection_values, points_of, points_values, electric_lock_of}
+use Rattle.states.specs.States.{electric_lock_values, general_notices_of, general_notices_values, control_boundary_of}
+use Rattle.states.specs.States.{control_boundary_values, signal_v3_of, signal_v3_values}
 use Rattle.kinds.specs.declared.Kind.{Kind}
 use Rattle.kinds.specs.declared.Element.{Element}
 use Rattle.kinds.specs.declared.OptionalKind.{OptionalKind}
@@ -37,75 +37,75 @@ place Kind.ControlBoundary = 10
 place Kind.SignalV3 = 11
 
 abbrev pub layout_of : Kind → Layout
-layout_of k = layoutAt (place k)
+layout_of k = layout_at (place k)
 
-abbrev pub layoutNo : Kind → ℕ
-layoutNo k = (layout_of k).number
+abbrev pub layout_no : Kind → ℕ
+layout_no k = (layout_of k).number
 
 abbrev pub width_of : Kind → ℕ
 width_of k = (layout_of k).bytes
 
 abbrev pub rows_of : Kind → List Row
-rows_of k = layoutRows (layout_of k)
+rows_of k = layout_rows (layout_of k)
 
 -- a number, and the kind that it stands for
 pub record KindLine : Type 0 where
   pub number : ℕ
   pub kind : Kind
 
-abbrev pub kindLine : ℕ → Kind → KindLine
-kindLine number kind = record { number = number; kind = kind }
+abbrev pub kind_line : ℕ → Kind → KindLine
+kind_line number kind = record { number = number; kind = kind }
 
 -- the kind that a number stands for, by the first line that has it
-abbrev pub findIn : ℕ → List KindLine → OptionalKind
-findIn n [] = OptionalKind.None
-findIn n (l ∷ ls) = cond (eqb n l.number) (OptionalKind.Some l.kind) (findIn n ls)
+abbrev pub find_in : ℕ → List KindLine → OptionalKind
+find_in n [] = OptionalKind.None
+find_in n (l ∷ ls) = cond (eqb n l.number) (OptionalKind.Some l.kind) (find_in n ls)
 
 -- a line for each kind, with the number of its layout
-abbrev pub kindLines : List KindLine
-kindLines = map (λ (k : Kind). kindLine (layoutNo k) k) kinds
+abbrev pub kind_lines : List KindLine
+kind_lines = map (λ (k : Kind). kind_line (layout_no k) k) kinds
 
-abbrev pub findByNumber : ℕ → OptionalKind
-findByNumber n = findIn n kindLines
+abbrev pub find_by_number : ℕ → OptionalKind
+find_by_number n = find_in n kind_lines
 
-abbrev pub elementOf : Kind → List ℕ → Element
-elementOf Kind.Signal vs = Element.Signal (signalOf vs)
-elementOf Kind.ChangerSignal vs = Element.ChangerSignal (changerSignalOf vs)
-elementOf Kind.VirtualBoard vs = Element.VirtualBoard (virtualBoardOf vs)
-elementOf Kind.LineTrackCircuit vs = Element.LineTrackCircuit (lineTrackCircuitOf vs)
-elementOf Kind.PointsTrackCircuit vs = Element.PointsTrackCircuit (pointsTrackCircuitOf vs)
-elementOf Kind.CrossingTrackCircuit vs = Element.CrossingTrackCircuit (crossingTrackCircuitOf vs)
-elementOf Kind.DualDetection vs = Element.DualDetection (dualDetectionOf vs)
-elementOf Kind.Points vs = Element.Points (points_of vs)
-elementOf Kind.ElectricLock vs = Element.ElectricLock (electricLockOf vs)
-elementOf Kind.GeneralNotices vs = Element.GeneralNotices (generalNoticesOf vs)
-elementOf Kind.ControlBoundary vs = Element.ControlBoundary (controlBoundaryOf vs)
-elementOf Kind.SignalV3 vs = Element.SignalV3 (signalV3Of vs)
+abbrev pub element_of : Kind → List ℕ → Element
+element_of Kind.Signal vs = Element.Signal (signal_of vs)
+element_of Kind.ChangerSignal vs = Element.ChangerSignal (changer_signal_of vs)
+element_of Kind.VirtualBoard vs = Element.VirtualBoard (virtual_board_of vs)
+element_of Kind.LineTrackCircuit vs = Element.LineTrackCircuit (line_track_circuit_of vs)
+element_of Kind.PointsTrackCircuit vs = Element.PointsTrackCircuit (points_track_circuit_of vs)
+element_of Kind.CrossingTrackCircuit vs = Element.CrossingTrackCircuit (crossing_track_circuit_of vs)
+element_of Kind.DualDetection vs = Element.DualDetection (dual_detection_of vs)
+element_of Kind.Points vs = Element.Points (points_of vs)
+element_of Kind.ElectricLock vs = Element.ElectricLock (electric_lock_of vs)
+element_of Kind.GeneralNotices vs = Element.GeneralNotices (general_notices_of vs)
+element_of Kind.ControlBoundary vs = Element.ControlBoundary (control_boundary_of vs)
+element_of Kind.SignalV3 vs = Element.SignalV3 (signal_v3_of vs)
 
-abbrev pub elementValues : Element → List ℕ
-elementValues (Element.Signal s) = signalValues s
-elementValues (Element.ChangerSignal s) = changerSignalValues s
-elementValues (Element.VirtualBoard s) = virtualBoardValues s
-elementValues (Element.LineTrackCircuit s) = lineTrackCircuitValues s
-elementValues (Element.PointsTrackCircuit s) = pointsTrackCircuitValues s
-elementValues (Element.CrossingTrackCircuit s) = crossingTrackCircuitValues s
-elementValues (Element.DualDetection s) = dualDetectionValues s
-elementValues (Element.Points s) = pointsValues s
-elementValues (Element.ElectricLock s) = electricLockValues s
-elementValues (Element.GeneralNotices s) = generalNoticesValues s
-elementValues (Element.ControlBoundary s) = controlBoundaryValues s
-elementValues (Element.SignalV3 s) = signalV3Values s
+abbrev pub element_values : Element → List ℕ
+element_values (Element.Signal s) = signal_values s
+element_values (Element.ChangerSignal s) = changer_signal_values s
+element_values (Element.VirtualBoard s) = virtual_board_values s
+element_values (Element.LineTrackCircuit s) = line_track_circuit_values s
+element_values (Element.PointsTrackCircuit s) = points_track_circuit_values s
+element_values (Element.CrossingTrackCircuit s) = crossing_track_circuit_values s
+element_values (Element.DualDetection s) = dual_detection_values s
+element_values (Element.Points s) = points_values s
+element_values (Element.ElectricLock s) = electric_lock_values s
+element_values (Element.GeneralNotices s) = general_notices_values s
+element_values (Element.ControlBoundary s) = control_boundary_values s
+element_values (Element.SignalV3 s) = signal_v3_values s
 
-abbrev pub kindIn : Element → Kind
-kindIn (Element.Signal s) = Kind.Signal
-kindIn (Element.ChangerSignal s) = Kind.ChangerSignal
-kindIn (Element.VirtualBoard s) = Kind.VirtualBoard
-kindIn (Element.LineTrackCircuit s) = Kind.LineTrackCircuit
-kindIn (Element.PointsTrackCircuit s) = Kind.PointsTrackCircuit
-kindIn (Element.CrossingTrackCircuit s) = Kind.CrossingTrackCircuit
-kindIn (Element.DualDetection s) = Kind.DualDetection
-kindIn (Element.Points s) = Kind.Points
-kindIn (Element.ElectricLock s) = Kind.ElectricLock
-kindIn (Element.GeneralNotices s) = Kind.GeneralNotices
-kindIn (Element.ControlBoundary s) = Kind.ControlBoundary
-kindIn (Element.SignalV3 s) = Kind.SignalV3
+abbrev pub kind_in : Element → Kind
+kind_in (Element.Signal s) = Kind.Signal
+kind_in (Element.ChangerSignal s) = Kind.ChangerSignal
+kind_in (Element.VirtualBoard s) = Kind.VirtualBoard
+kind_in (Element.LineTrackCircuit s) = Kind.LineTrackCircuit
+kind_in (Element.PointsTrackCircuit s) = Kind.PointsTrackCircuit
+kind_in (Element.CrossingTrackCircuit s) = Kind.CrossingTrackCircuit
+kind_in (Element.DualDetection s) = Kind.DualDetection
+kind_in (Element.Points s) = Kind.Points
+kind_in (Element.ElectricLock s) = Kind.ElectricLock
+kind_in (Element.GeneralNotices s) = Kind.GeneralNotices
+kind_in (Element.ControlBoundary s) = Kind.ControlBoundary
+kind_in (Element.SignalV3 s) = Kind.SignalV3

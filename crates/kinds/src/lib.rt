@@ -4,7 +4,7 @@
 ghost use Rattle.std.specs.Prelude.{◌≡◌, ◌+◌, ◌≤◌, T, length};
 ghost use Rattle.rows.specs.Values.{padded};
 ghost use Rattle.rows.specs.Marks.{marked, Shows};
-ghost use Rattle.kinds.specs.Kinds.{layout_of, width_of, rows_of, findByNumber, kindIn, elementOf, elementValues};
+ghost use Rattle.kinds.specs.Kinds.{layout_of, width_of, rows_of, find_by_number, kind_in, element_of, element_values};
 ghost use Rattle.kinds.specs.Glances.{Glanced};
 
 use rows::{Layout, Marks};
@@ -250,7 +250,7 @@ fn glance_by(s: &[u8], at: usize, kind: Kind, width: usize) -> Glance
 
 // The kind whose layout has this number, if there is one.
 pub fn find_by_number(number: u8) -> OptionalKind
-    ensures { result ≡ findByNumber number }
+    ensures { result ≡ find_by_number number }
 {
     match number {
         1 => return OptionalKind::Some(Kind::Signal),
@@ -271,7 +271,7 @@ pub fn find_by_number(number: u8) -> OptionalKind
 
 // The kind of a state.
 pub fn kind_in(element: Element) -> Kind
-    ensures { result ≡ kindIn element }
+    ensures { result ≡ kind_in element }
 {
     match element {
         Element::Signal(_) => return Kind::Signal,
@@ -291,7 +291,7 @@ pub fn kind_in(element: Element) -> Kind
 
 // A kind's state from its fields' values in the rows' order.
 pub fn element_of(kind: Kind, values: [u32; 24]) -> Element
-    ensures { result ≡ elementOf kind values }
+    ensures { result ≡ element_of kind values }
 {
     match kind {
         Kind::Signal => return Element::Signal(Signal::of_values(values)),
@@ -319,7 +319,7 @@ pub fn element_of(kind: Kind, values: [u32; 24]) -> Element
 
 // A state's fields' values in the rows' order, padded with zeros.
 pub fn values_of(element: Element) -> [u32; 24]
-    ensures { result ≡ padded (elementValues element) }
+    ensures { result ≡ padded (element_values element) }
 {
     match element {
         Element::Signal(state) => return state.values(),

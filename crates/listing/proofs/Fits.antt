@@ -13,24 +13,24 @@ use mir.Syntax.{w32}
 use mir.Val.{Fits}
 use borrow.Author.Tests.{ltb-true, ltb-false}
 use Rattle.octets.specs.Octets.{bytes}
-use Rattle.octets.proofs.NumberLaws.{length-bytes}
+use Rattle.octets.proofs.NumberLaws.{length_bytes}
 use Rattle.rows.specs.Rows.{layouts}
 use Rattle.kinds.specs.Kinds.{width_of}
 use Rattle.kinds.specs.declared.Kind.{Kind}
 use Rattle.elements.specs.Elements.{carried, kind_of}
-use Rattle.elements.proofs.TypeLaws.{every-carried}
+use Rattle.elements.proofs.TypeLaws.{every_carried}
 use Rattle.history.specs.Verdict.{Verdict, refused, done}
-use Rattle.history.specs.Table.{Object, Table, object, labelLimit, plan_of, readTable, LegalTable}
-use Rattle.history.specs.Image.{Image, readImage}
+use Rattle.history.specs.Table.{Object, Table, object, label_limit, plan_of, read_table, LegalTable}
+use Rattle.history.specs.Image.{Image, read_image}
 use Rattle.history.proofs.TableLaws.{nobody, table_is}
 use Rattle.history.proofs.VerdictLaws.{used, held}
-use Rattle.text.specs.Decimal.{decimalIn, decimal}
+use Rattle.text.specs.Decimal.{decimal_in, decimal}
 use Rattle.text.specs.Wrote.{Wrote}
-use Rattle.text.proofs.Laws.{decimal-fits}
-use Rattle.listing.specs.Listing.{Panel, readBoth, tableSize, readPanel, firstLine, objectLine, lines_of}
-use Rattle.listing.specs.Listing.{refusedLine, panelText, text_of, listingCall, printed, listingOf}
-use Rattle.listing.specs.Walk.{linesIn}
-use Rattle.listing.proofs.LineLaws.{first-length, refused-length, object-length}
+use Rattle.text.proofs.Laws.{decimal_fits}
+use Rattle.listing.specs.Listing.{Panel, read_both, table_size, read_panel, first_line, object_line, lines_of}
+use Rattle.listing.specs.Listing.{refused_line, panel_text, text_of, listing_call, printed, listing_of}
+use Rattle.listing.specs.Walk.{lines_in}
+use Rattle.listing.proofs.LineLaws.{first_length, refused_length, object_length}
 
 -- ---- numbers: of n objects, the last below 1,024, each number has a digit, at most 1,014 a
 -- second, 924 a third, 24 a fourth
@@ -45,57 +45,57 @@ up_more c n = omega arith
 up_one : (c n : ℕ) → n < c → up_to c (suc n) ≡ suc (up_to c n)
 up_one c n h = omega arith
 
-digitsOf : ℕ → ℕ
-digitsOf n = n + (up_to 1014 n + (up_to 924 n + up_to 24 n))
+digits_of : ℕ → ℕ
+digits_of n = n + (up_to 1014 n + (up_to 924 n + up_to 24 n))
 
 -- by whether the number is below each power of ten
-digits-at : (s t u : Bool) (i n : ℕ) → ltb i 10 ≡ s → ltb i 100 ≡ t → ltb i 1000 ≡ u → i + suc n ≤ 1024
-    → length (decimal i) + digitsOf n ≤ digitsOf (suc n)
-unfolding digitsOf
-digits-at true t u i n e f g h =
+digits_at : (s t u : Bool) (i n : ℕ) → ltb i 10 ≡ s → ltb i 100 ≡ t → ltb i 1000 ≡ u → i + suc n ≤ 1024
+    → length (decimal i) + digits_of n ≤ digits_of (suc n)
+unfolding digits_of
+digits_at true t u i n e f g h =
     let l : i < 10 = ltb-true i 10 e in
-    omega (arith, decimal-fits 0 i (omega arith) (omega arith), up_more 1014 n, up_more 924 n, up_more 24 n)
-digits-at false true u i n e f g h =
+    omega (arith, decimal_fits 0 i (omega arith) (omega arith), up_more 1014 n, up_more 924 n, up_more 24 n)
+digits_at false true u i n e f g h =
     let m : 10 ≤ i = ltb-false i 10 e in
     let l : i < 100 = ltb-true i 100 f in
     omega (
       arith,
-      decimal-fits 1 i (omega arith) (omega arith),
+      decimal_fits 1 i (omega arith) (omega arith),
       up_one 1014 n (omega arith),
       up_more 924 n,
       up_more 24 n,
     )
-digits-at false false true i n e f g h =
+digits_at false false true i n e f g h =
     let m : 100 ≤ i = ltb-false i 100 f in
     let l : i < 1000 = ltb-true i 1000 g in
     omega (
       arith,
-      decimal-fits 2 i (omega arith) (omega arith),
+      decimal_fits 2 i (omega arith) (omega arith),
       up_one 1014 n (omega arith),
       up_one 924 n (omega arith),
       up_more 24 n,
     )
-digits-at false false false i n e f g h =
+digits_at false false false i n e f g h =
     let m : 1000 ≤ i = ltb-false i 1000 g in
     omega (
       arith,
-      decimal-fits 3 i (omega arith) (omega arith),
+      decimal_fits 3 i (omega arith) (omega arith),
       up_one 1014 n (omega arith),
       up_one 924 n (omega arith),
       up_one 24 n (omega arith),
     )
 
-digits-next : (i n : ℕ) → i + suc n ≤ 1024 → length (decimal i) + digitsOf n ≤ digitsOf (suc n)
-digits-next i n h = digits-at (ltb i 10) (ltb i 100) (ltb i 1000) i n refl refl refl h
+digits_next : (i n : ℕ) → i + suc n ≤ 1024 → length (decimal i) + digits_of n ≤ digits_of (suc n)
+digits_next i n h = digits_at (ltb i 10) (ltb i 100) (ltb i 1000) i n refl refl refl h
 
 -- ---- a type and its element: at most nine digits together, since only types of one digit have four bytes
 
 abbrev few : ℕ → ℕ → Kind → Bool
 few x type k = leb (length (decimal type) + 2 * width_of k) 9
 
-type-few : (x type : ℕ) → carried x type ≡ true → length (decimal type) + 2 * width_of (kind_of x type) ≤ 9
-unfolding layouts decimal decimalIn
-type-few x type e = leb→le _ _ (every-carried few tt x type e)
+type_few : (x type : ℕ) → carried x type ≡ true → length (decimal type) + 2 * width_of (kind_of x type) ≤ 9
+unfolding layouts decimal decimal_in
+type_few x type e = leb→le _ _ (every_carried few tt x type e)
 
 -- ---- lines
 
@@ -104,134 +104,134 @@ record Few (x : ℕ) (o : Object) : Type 0 where
   type : carried x o.type ≡ true
   label : length o.label ≤ 48
 
-line-few : (x i : ℕ) (o : Object) (w : ℕ) → Few x o
-    → length (objectLine i o.type o.label (bytes (width_of (kind_of x o.type)) w)) ≤ length (decimal i) + 61
-line-few x i o w h =
+line_few : (x i : ℕ) (o : Object) (w : ℕ) → Few x o
+    → length (object_line i o.type o.label (bytes (width_of (kind_of x o.type)) w)) ≤ length (decimal i) + 61
+line_few x i o w h =
     let k = kind_of x o.type in
     omega (
       arith,
-      object-length i o.type o.label (bytes (width_of k) w),
-      type-few x o.type h.type,
-      length-bytes (width_of k) w,
+      object_length i o.type o.label (bytes (width_of k) w),
+      type_few x o.type h.type,
+      length_bytes (width_of k) w,
       h.label,
     )
 
-lines-few : (x i : ℕ) (os : List Object) (ws : List ℕ) → i + length os ≤ 1024
+lines_few : (x i : ℕ) (os : List Object) (ws : List ℕ) → i + length os ≤ 1024
     → ((j : ℕ) → j < length os → Few x (get_or os j nobody))
-    → length (lines_of i os (map (λ (o : Object). kind_of x o.type) os) ws) ≤ digitsOf (length os) + 61 * length os
-lines-few x i [] ws h l = omega arith
-lines-few x i (o ∷ os) [] h l = omega arith
-lines-few x i (o ∷ os) (w ∷ ws) h l =
+    → length (lines_of i os (map (λ (o : Object). kind_of x o.type) os) ws) ≤ digits_of (length os) + 61 * length os
+lines_few x i [] ws h l = omega arith
+lines_few x i (o ∷ os) [] h l = omega arith
+lines_few x i (o ∷ os) (w ∷ ws) h l =
     let ks : List Kind = map (λ (o : Object). kind_of x o.type) os in
     omega (
       arith,
-      length-append (objectLine i o.type o.label (bytes (width_of (kind_of x o.type)) w))
+      length-append (object_line i o.type o.label (bytes (width_of (kind_of x o.type)) w))
           (lines_of (suc i) os ks ws),
-      line-few x i o w (l 0 (omega arith)),
-      digits-next i (length os) (omega arith),
-      lines-few x (suc i) os ws (omega arith) (λ j m. l (suc j) (omega arith)),
+      line_few x i o w (l 0 (omega arith)),
+      digits_next i (length os) (omega arith),
+      lines_few x (suc i) os ws (omega arith) (λ j m. l (suc j) (omega arith)),
     )
 
-digits-all : (n : ℕ) → n ≤ 1024 → digitsOf n ≤ 2986
-unfolding digitsOf
-digits-all n h = omega arith
+digits_all : (n : ℕ) → n ≤ 1024 → digits_of n ≤ 2986
+unfolding digits_of
+digits_all n h = omega arith
 
 -- of each object of a table that is read
-each-few : {t : Table} → LegalTable t → (j : ℕ) → j < length t.objects → Few t.x (get_or t.objects j nobody)
-unfolding labelLimit
-each-few h j m = record { type = (h.each j m).type; label = omega (arith, (h.each j m).few) }
+each_few : {t : Table} → LegalTable t → (j : ℕ) → j < length t.objects → Few t.x (get_or t.objects j nobody)
+unfolding label_limit
+each_few h j m = record { type = (h.each j m).type; label = omega (arith, (h.each j m).few) }
 
-table-few : {t : Table} (a : Image) → LegalTable t
+table_few : {t : Table} (a : Image) → LegalTable t
     → length (lines_of 0 t.objects (plan_of t).kinds a.words) ≤ 65450
 unfolding plan_of
-table-few {t} a h =
+table_few {t} a h =
     omega (
       arith,
-      lines-few t.x 0 t.objects a.words (omega (arith, h.count)) (each-few h),
-      digits-all (length t.objects) h.count,
+      lines_few t.x 0 t.objects a.words (omega (arith, h.count)) (each_few h),
+      digits_all (length t.objects) h.count,
       h.count,
     )
 
-panel-few : {t : Table} (a : Image) → LegalTable t → length (panelText t a) ≤ 65494
-panel-few {t} a h =
+panel_few : {t : Table} (a : Image) → LegalTable t → length (panel_text t a) ≤ 65494
+panel_few {t} a h =
     omega (
       arith,
-      length-append (firstLine t.x t.y a.position (length t.objects))
+      length-append (first_line t.x t.y a.position (length t.objects))
           (lines_of 0 t.objects (plan_of t).kinds a.words),
-      first-length t.x t.y a.position (length t.objects),
-      table-few a h,
+      first_length t.x t.y a.position (length t.objects),
+      table_few a h,
     )
 
-both-legal : (b a : List ℕ) {p : Panel} → readBoth b a ≡ done p → LegalTable p.table
-unfolding readBoth
-both-legal b a {p} e =
-    let t = used (readTable b) _ e in
-    let i = used (readImage (plan_of t.0) a) _ t.2 in
+both_legal : (b a : List ℕ) {p : Panel} → read_both b a ≡ done p → LegalTable p.table
+unfolding read_both
+both_legal b a {p} e =
+    let t = used (read_table b) _ e in
+    let i = used (read_image (plan_of t.0) a) _ t.2 in
     let same : record { table = t.0; image = i.0 } ≡ p = cc i.2 in
     rw (ap (λ (v : Panel). v.table) same) at (table_is b t.1).legal
 
-text-few : (v : Verdict Panel) → ((p : Panel) → v ≡ done p → LegalTable p.table)
+text_few : (v : Verdict Panel) → ((p : Panel) → v ≡ done p → LegalTable p.table)
     → length (printed (text_of v)) ≤ 65536
 unfolding printed
-text-few (refused r) h = omega (arith, refused-length r.code r.object r.bit)
-text-few (done p) h = omega (arith, panel-few p.image (h p refl))
+text_few (refused r) h = omega (arith, refused_length r.code r.object r.bit)
+text_few (done p) h = omega (arith, panel_few p.image (h p refl))
 
-below-few : (v : Verdict Panel) → ((p : Panel) → v ≡ done p → LegalTable p.table) → length (linesIn v) ≤ 65450
-unfolding linesIn
-below-few (refused r) h = omega arith
-below-few (done p) h = table-few p.image (h p refl)
+below_few : (v : Verdict Panel) → ((p : Panel) → v ≡ done p → LegalTable p.table) → length (lines_in v) ≤ 65450
+unfolding lines_in
+below_few (refused r) h = omega arith
+below_few (done p) h = table_few p.image (h p refl)
 
 -- once the first line is written: the room for the lines below, and where they end
 module _ (b a : List ℕ) (x y position count : ℕ) {l m : List ℕ} {p : ℕ}
-    (w : Wrote l 0 (firstLine x y position count) m p) where
-  pub lines-room : 65536 ≤ length l → p + length (linesIn (readBoth b a)) ≤ length m
-  lines-room h =
-      let first : List ℕ = firstLine x y position count in
+    (w : Wrote l 0 (first_line x y position count) m p) where
+  pub lines_room : 65536 ≤ length l → p + length (lines_in (read_both b a)) ≤ length m
+  lines_room h =
+      let first : List ℕ = first_line x y position count in
       omega (
         arith,
         w.next,
         ap length w.text ∙ length-sets l 0 first,
-        first-length x y position count,
-        below-few (readBoth b a) (λ p e. both-legal b a e),
+        first_length x y position count,
+        below_few (read_both b a) (λ p e. both_legal b a e),
       )
 
-  module _ {n : List ℕ} {q : ℕ} (v : Wrote m p (linesIn (readBoth b a)) n q) where
+  module _ {n : List ℕ} {q : ℕ} (v : Wrote m p (lines_in (read_both b a)) n q) where
     pub lines_end : q ≤ 65536
     lines_end =
         omega (
           arith,
           w.next,
           v.next,
-          first-length x y position count,
-          below-few (readBoth b a) (λ p e. both-legal b a e),
+          first_length x y position count,
+          below_few (read_both b a) (λ p e. both_legal b a e),
         )
 
-    pub lines-cast : Fits w32 q
-    lines-cast = record { fits = omega (arith, lines_end) }
+    pub lines_cast : Fits w32 q
+    lines_cast = record { fits = omega (arith, lines_end) }
 
-panel-legal : (input : List ℕ) {p : Panel} → readPanel input ≡ done p → LegalTable p.table
-unfolding readPanel
-panel-legal input e =
+panel_legal : (input : List ℕ) {p : Panel} → read_panel input ≡ done p → LegalTable p.table
+unfolding read_panel
+panel_legal input e =
     let h₁ = held (leb (length input) 65536) _ _ e in
     let h₂ = held (leb 4 (length input)) _ _ h₁.1 in
-    let h₃ = held (leb (tableSize input) (length input)) _ _ h₂.1 in
-    both-legal (take (tableSize input) input) (drop (tableSize input) input) h₃.1
+    let h₃ = held (leb (table_size input) (length input)) _ _ h₂.1 in
+    both_legal (take (table_size input) input) (drop (table_size input) input) h₃.1
 
 -- ---- every listing
 
-pub listing-fits : (input : List ℕ) → length (listingOf input) ≤ 65536
-unfolding listingOf listingCall
-listing-fits input = text-few (readPanel input) (λ p e. panel-legal input e)
+pub listing_fits : (input : List ℕ) → length (listing_of input) ≤ 65536
+unfolding listing_of listing_call
+listing_fits input = text_few (read_panel input) (λ p e. panel_legal input e)
 
-pub text-fits : (input : List ℕ) {text : List ℕ} → listingCall input ≡ done text → length text ≤ 65536
-unfolding listingOf printed
-text-fits input e = omega (arith, listing-fits input, ap (λ (v : Verdict (List ℕ)). length (printed v)) e)
+pub text_fits : (input : List ℕ) {text : List ℕ} → listing_call input ≡ done text → length text ≤ 65536
+unfolding listing_of printed
+text_fits input e = omega (arith, listing_fits input, ap (λ (v : Verdict (List ℕ)). length (printed v)) e)
 
 some : (v : Verdict Panel) → 1 ≤ length (printed (text_of v))
-unfolding printed firstLine refusedLine
+unfolding printed first_line refused_line
 some (refused r) = omega arith
 some (done p) = simp length-append (omega arith)
 
-pub listing-some : (input : List ℕ) → 1 ≤ length (listingOf input)
-unfolding listingOf listingCall
-listing-some input = some (readPanel input)
+pub listing_some : (input : List ℕ) → 1 ≤ length (listing_of input)
+unfolding listing_of listing_call
+listing_some input = some (read_panel input)

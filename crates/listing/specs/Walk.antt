@@ -5,9 +5,9 @@ use Rattle.text.specs.Decimal.{decimal}
 use Rattle.text.specs.Wrote.{Wrote}
 use Rattle.history.specs.Verdict.{Verdict, refused, done, told}
 use Rattle.history.specs.Table.{plan_of}
-use Rattle.history.specs.Image.{readImage}
-use Rattle.history.specs.Calls.{readPlan}
-use Rattle.tables.specs.Outlines.{planAs}
+use Rattle.history.specs.Image.{read_image}
+use Rattle.history.specs.Calls.{read_plan}
+use Rattle.tables.specs.Outlines.{plan_as}
 use Rattle.listing.specs.Listing.{Panel, lines_of}
 
 -- a number and the byte after it were written
@@ -17,18 +17,18 @@ pub record Numbered (l : List ℕ) (at n mark : ℕ) (m : List ℕ) (r : ℕ) : 
   pub few : r ≤ at + 11
 
 -- how long an object's line is
-abbrev pub lineSize : ℕ → ℕ → List ℕ → List ℕ → ℕ
-lineSize i type label element =
+abbrev pub line_size : ℕ → ℕ → List ℕ → List ℕ → ℕ
+line_size i type label element =
     (length (decimal i) + 1) + ((length (decimal type) + 1) + (length label + (1 + (2 * length element + 1))))
 
 -- the table and the image are accepted, and these are the layout numbers of the table's objects
 pub record Ready (b a ns : List ℕ) : Type 0 where
   pub x : ℕ
   pub y : ℕ
-  pub plan : readPlan b ≡ done (planAs x y ns)
-  pub image : (told (readImage (planAs x y ns) a)).code ≡ 0
+  pub plan : read_plan b ≡ done (plan_as x y ns)
+  pub image : (told (read_image (plan_as x y ns) a)).code ≡ 0
 
 -- the lines below the first
-unfoldable pub linesIn : Verdict Panel → List ℕ
-linesIn (refused r) = []
-linesIn (done p) = lines_of 0 p.table.objects (plan_of p.table).kinds p.image.words
+unfoldable pub lines_in : Verdict Panel → List ℕ
+lines_in (refused r) = []
+lines_in (done p) = lines_of 0 p.table.objects (plan_of p.table).kinds p.image.words

@@ -2,8 +2,8 @@
 ghost use Rattle.std.specs.Prelude.{◌≡◌, ◌+◌, ◌≤◌, ◌<◌, length, get_or};
 ghost use Rattle.history.specs.Verdict.{Leaves};
 ghost use Rattle.text.specs.Wrote.{Wrote};
-ghost use Rattle.listing.specs.Listing.{readBoth, text_of};
-ghost use Rattle.listing.specs.Walk.{Ready, linesIn};
+ghost use Rattle.listing.specs.Listing.{read_both, text_of};
+ghost use Rattle.listing.specs.Walk.{Ready, lines_in};
 
 use super::lines::{put_first_line, put_object_line};
 use forms::{check_image_under, kind_at};
@@ -14,7 +14,7 @@ use tables::{outline, written};
 // Writes the lines of both, or returns the first refusal.
 pub fn put_panel(table: &[u8], image: &[u8], out: &mut [u8]) -> Answer
     requires { 65536 ≤ length out.old }
-    ensures { Leaves (text_of (readBoth table.now image.now))
+    ensures { Leaves (text_of (read_both table.now image.now))
         out.old result out.new }
 {
     let known = outline(table);
@@ -37,7 +37,7 @@ pub fn put_panel(table: &[u8], image: &[u8], out: &mut [u8]) -> Answer
 fn put_accepted(table: &[u8], image: &[u8], kinds: &[u8], out: &mut [u8]) -> Answer
     requires ready { Ready table.now image.now kinds.now }
     requires in_bounds { 65536 ≤ length out.old }
-    ensures { Leaves (text_of (readBoth table.now image.now))
+    ensures { Leaves (text_of (read_both table.now image.now))
         out.old result out.new }
 {
     let position = position_of(image);
@@ -49,8 +49,8 @@ fn put_accepted(table: &[u8], image: &[u8], kinds: &[u8], out: &mut [u8]) -> Ans
 // Writes a line for each object: `entry` moves along the table's entries, `place` along the image's elements.
 fn put_objects(table: &[u8], image: &[u8], kinds: &[u8], out: &mut [u8], at: usize) -> usize
     requires ready { Ready table.now image.now kinds.now }
-    requires image_in_bounds { at + length (linesIn (readBoth table.now image.now)) ≤ length out.old }
-    ensures { Wrote out.old at (linesIn (readBoth table.now image.now))
+    requires image_in_bounds { at + length (lines_in (read_both table.now image.now)) ≤ length out.old }
+    ensures { Wrote out.old at (lines_in (read_both table.now image.now))
         out.new result }
 {
     let elements = elements_of(image);

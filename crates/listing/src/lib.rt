@@ -5,7 +5,7 @@ mod lines;
 
 ghost use Rattle.std.specs.Prelude.{◌≤◌, length};
 ghost use Rattle.history.specs.Verdict.{done, Leaves};
-ghost use Rattle.listing.specs.Listing.{listingCall};
+ghost use Rattle.listing.specs.Listing.{listing_call};
 ghost use Rattle.listing.specs.Output.{ListedInto};
 
 use both::put_panel;
@@ -19,7 +19,7 @@ const MOST: usize = 65536;
 // Writes the text of a table and its image to the front of `out`. For a short `out` the text is first made in a buffer
 // that every listing fits in.
 pub fn list_into(input: &[u8], out: &mut [u8]) -> Answer
-    ensures { Leaves (listingCall input.now) out.old result out.new }
+    ensures { Leaves (listing_call input.now) out.old result out.new }
 {
     if MOST <= out.len() {
         return put_listing(input, out);
@@ -50,7 +50,7 @@ pub fn print_into(input: &[u8], out: &mut [u8]) -> usize
 // Splits the input by the table's length, and lists the two parts.
 fn put_listing(input: &[u8], out: &mut [u8]) -> Answer
     requires { 65536 ≤ length out.old }
-    ensures { Leaves (listingCall input.now) out.old result out.new }
+    ensures { Leaves (listing_call input.now) out.old result out.new }
 {
     let all = input.len();
     if MOST < all {

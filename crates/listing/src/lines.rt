@@ -2,8 +2,8 @@
 ghost use Rattle.std.specs.Prelude.{◌+◌, ◌≤◌, length};
 ghost use Rattle.text.specs.Decimal.{decimal};
 ghost use Rattle.text.specs.Wrote.{Wrote};
-ghost use Rattle.listing.specs.Listing.{firstLine, objectLine, refusedLine};
-ghost use Rattle.listing.specs.Walk.{Numbered, lineSize};
+ghost use Rattle.listing.specs.Listing.{first_line, object_line, refused_line};
+ghost use Rattle.listing.specs.Walk.{Numbered, line_size};
 
 use history::Answer;
 
@@ -16,7 +16,7 @@ const DOT: u8 = 46;
 // Catalogue version, position, count.
 pub fn put_first_line(out: &mut [u8], x: u8, y: u8, position: u32, count: u32) -> usize
     requires { 65536 ≤ length out.old }
-    ensures { Wrote out.old 0 (firstLine x y position count) out.new result }
+    ensures { Wrote out.old 0 (first_line x y position count) out.new result }
 {
     let major = put_number(out, 0, x as u32, DOT);
     let minor = put_number(out, major, y as u32, SPACE);
@@ -33,8 +33,8 @@ pub fn put_object_line(
     label: &[u8],
     element: &[u8],
 ) -> usize
-    requires { at + lineSize number ty label.now element.now ≤ length out.old }
-    ensures { Wrote out.old at (objectLine number ty label.now element.now)
+    requires { at + line_size number ty label.now element.now ≤ length out.old }
+    ensures { Wrote out.old at (object_line number ty label.now element.now)
         out.new result }
 {
     let typed = put_number(out, at, number, SPACE);
@@ -48,7 +48,7 @@ pub fn put_object_line(
 // "refused", code, object, bit.
 pub fn put_refusal(out: &mut [u8], answer: Answer) -> usize
     requires { 65536 ≤ length out.old }
-    ensures { Wrote out.old 0 (refusedLine answer.code answer.object answer.bit) out.new result }
+    ensures { Wrote out.old 0 (refused_line answer.code answer.object answer.bit) out.new result }
 {
     let code = text::put_bytes(out, 0, b"refused ");
     let object = put_number(out, code, answer.code as u32, SPACE);

@@ -8,8 +8,8 @@ use lib.ListN.{length, drop, set, get_or, length-append, length-take, length-dro
 use lib.Seq.{take_at, drop_at, drop-drop, set_at, drop-length}
 use borrow.Rule.Slice.PartMut.{put_mid, mid_of}
 use Rattle.octets.specs.Octets.{bytes}
-use Rattle.octets.proofs.NumberLaws.{length-bytes}
-use Rattle.octets.proofs.Cursors.{drop-next}
+use Rattle.octets.proofs.NumberLaws.{length_bytes}
+use Rattle.octets.proofs.Cursors.{drop_next}
 
 -- `out` is what `out₀` was, with `done` at its front, up to the cursor `o`
 pub record Written (out₀ done : List ℕ) (o : ℕ) (out : List ℕ) : Type 0 where
@@ -22,8 +22,8 @@ pub start : (out : List ℕ) → Written out [] 0 out
 start out = record { is = refl; len = refl; room = omega arith }
 
 module _ {out₀ done : List ℕ} {o : ℕ} {out : List ℕ} (w : Written out₀ done o out) where
-  same-long : length out ≡ length out₀
-  same-long = ap length w.is ∙ rw (length-append, length-drop) (omega arith)
+  same_long : length out ≡ length out₀
+  same_long = ap length w.is ∙ rw (length-append, length-drop) (omega arith)
 
   -- the part from o to e was lent and came back as zs
   pub append_at : {ys zs : List ℕ} → ys ≡ zs → (e : ℕ) → o + length zs ≡ e → e ≤ length out₀
@@ -46,22 +46,22 @@ module _ {out₀ done : List ℕ} {o : ℕ} {out : List ℕ} (w : Written out₀
       }
 
   -- a number was written by `put` in the part from o to e
-  pub append-put : {ys : List ℕ} (v e : ℕ) → ys ≡ bytes (length (mid_of o (e - o) out)) v → o ≤ e → e ≤ length out₀
+  pub append_put : {ys : List ℕ} (v e : ℕ) → ys ≡ bytes (length (mid_of o (e - o) out)) v → o ≤ e → e ≤ length out₀
       → Written out₀ (done ++ bytes (e - o) v) e (put_mid o (e - o) out ys)
-  append-put v e q s h =
-      let n : length (mid_of o (e - o) out) ≡ e - o = rw (length-take, length-drop, same-long) (omega arith) in
-      append_at (q ∙ ap (λ (m : ℕ). bytes m v) n) e (rw (length-bytes (e - o) v) (omega arith)) h
+  append_put v e q s h =
+      let n : length (mid_of o (e - o) out) ≡ e - o = rw (length-take, length-drop, same_long) (omega arith) in
+      append_at (q ∙ ap (λ (m : ℕ). bytes m v) n) e (rw (length_bytes (e - o) v) (omega arith)) h
 
   -- one byte was stored at the cursor
-  pub append-store : (v : ℕ) → o < length out₀ → Written out₀ (done ++ (v ∷ [])) (o + 1) (set out o v)
-  append-store v h = record {
-    is = rw (w.is, drop-next out₀ o h, set_at done (get_or out₀ o 0) (drop (o + 1) out₀) v o w.len, append_assoc);
+  pub append_store : (v : ℕ) → o < length out₀ → Written out₀ (done ++ (v ∷ [])) (o + 1) (set out o v)
+  append_store v h = record {
+    is = rw (w.is, drop_next out₀ o h, set_at done (get_or out₀ o 0) (drop (o + 1) out₀) v o w.len, append_assoc);
     len = length-append done (v ∷ []) ∙ (omega arith);
     room = omega arith;
   }
 
-  pub as-done : {d : List ℕ} → done ≡ d → Written out₀ d o out
-  as-done e = rw e at w
+  pub as_done : {d : List ℕ} → done ≡ d → Written out₀ d o out
+  as_done e = rw e at w
 
   -- all is written
   pub filled : o ≡ length out₀ → out ≡ done
@@ -92,7 +92,7 @@ module _ {whole part₀ : List ℕ} {o : ℕ} {part : List ℕ} where
       }
 
   pub keeps : {r : List ℕ} → Filling whole part₀ r o part → length part ≡ length part₀
-  keeps f = same-long f.written
+  keeps f = same_long f.written
 
   -- what is left to write fills exactly the room that is left
   pub has_room : {r : List ℕ} → Filling whole part₀ r o part → o + length r ≡ length part₀

@@ -16,8 +16,8 @@ abbrev pub Bytes : List ℕ → Type 0
 Bytes b = (i : ℕ) → get_or b i 0 < 256
 
 -- whether two lists are the same bytes
-abbrev pub sameBytes : List ℕ → List ℕ → Bool
-sameBytes [] [] = true
-sameBytes [] (b ∷ bs) = false
-sameBytes (a ∷ as') [] = false
-sameBytes (a ∷ as') (b ∷ bs) = eqb a b && sameBytes as' bs
+abbrev pub same_bytes : List ℕ → List ℕ → Bool
+same_bytes [] [] = true
+same_bytes [] (b ∷ bs) = false
+same_bytes (a ∷ as') [] = false
+same_bytes (a ∷ as') (b ∷ bs) = eqb a b && same_bytes as' bs

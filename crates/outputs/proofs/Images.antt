@@ -9,138 +9,138 @@ use lib.ListN.{length, take, drop, length-drop, take-append-drop}
 use lib.Seq.{take_at, drop_at, drop-drop, drop-length, length-take-le}
 use borrow.Rule.Slice.PartMut.{put_mid, mid_of, mid_len}
 use Rattle.octets.specs.Octets.{bytes}
-use Rattle.octets.proofs.NumberLaws.{length-bytes}
+use Rattle.octets.proofs.NumberLaws.{length_bytes}
 use Rattle.kinds.specs.Kinds.{width_of}
 use Rattle.kinds.specs.declared.Kind.{Kind}
 use Rattle.history.specs.declared.Answer.{Answer}
 use Rattle.history.specs.Verdict.{done, unnamed, Leaves}
 use Rattle.history.specs.Table.{kind_at}
 use Rattle.history.specs.Image.{widths}
-use Rattle.history.proofs.ImageLaws.{widths-few}
-use Rattle.history.proofs.OutputLaws.{front-leaves}
-use Rattle.heads.specs.Heads.{imageHead, elementsIn}
-use Rattle.heads.specs.Written.{withElements}
-use Rattle.heads.proofs.Places.{head_few, elements-from}
-use Rattle.heads.proofs.WrittenLaws.{renewed-inside, renewed-with, with-long}
-use Rattle.tables.specs.Outlines.{kindsOf}
+use Rattle.history.proofs.ImageLaws.{widths_few}
+use Rattle.history.proofs.OutputLaws.{front_leaves}
+use Rattle.heads.specs.Heads.{image_head, elements_in}
+use Rattle.heads.specs.Written.{with_elements}
+use Rattle.heads.proofs.Places.{head_few, elements_from_lem}
+use Rattle.heads.proofs.WrittenLaws.{renewed_inside, renewed_with, with_long}
+use Rattle.tables.specs.Outlines.{kinds_of}
 use Rattle.forms.specs.Places.{place_in, Sized, over}
-use Rattle.forms.proofs.KindLaws.{length-kinds}
-use Rattle.forms.proofs.ElementPlaces.{over-past, over-long, place-within, own-width, element-inside}
+use Rattle.forms.proofs.KindLaws.{length_kinds}
+use Rattle.forms.proofs.ElementPlaces.{over_past, over_long, place_within, own_width, element_inside}
 use Rattle.walks.specs.Walks.{renewal}
-use Rattle.walks.proofs.Application.{length-renewal}
-use Rattle.outputs.specs.Outputs.{imageAfter, imageWith}
+use Rattle.walks.proofs.Application.{length_renewal}
+use Rattle.outputs.specs.Outputs.{image_after, image_with}
 
 -- ---- the parts
 
 -- ys put over everything from n on
-put-end : (n : ℕ) (l ys : List ℕ) → n ≤ length l → put_mid n (length l - n) l ys ≡ take n l ++ ys
-put-end n l ys h =
+put_end : (n : ℕ) (l ys : List ℕ) → n ≤ length l → put_mid n (length l - n) l ys ≡ take n l ++ ys
+put_end n l ys h =
     let m : n + (length l - n) ≡ length l = omega arith in
     ap (λ (r : List ℕ). take n l ++ (ys ++ r))
     (drop-drop (length l - n) n l ∙ ap (λ (k : ℕ). drop k l) m ∙ drop-length l)
     ∙ ap (λ (r : List ℕ). take n l ++ r) (append-nil ys)
 
 -- a part lent from the middle and filled with a number
-put-part : (l b : List ℕ) (from to v : ℕ) → from ≤ to → to ≤ length l → b ≡ bytes (length (mid_of from (to - from) l)) v
+put_part : (l b : List ℕ) (from to v : ℕ) → from ≤ to → to ≤ length l → b ≡ bytes (length (mid_of from (to - from) l)) v
     → put_mid from (to - from) l b ≡ over from (bytes (to - from) v) l
-put-part l b from to v s h q =
+put_part l b from to v s h q =
     let b-is : b ≡ bytes (to - from) v = q ∙ ap (λ (n : ℕ). bytes n v) (mid_len from to l h) in
     ap₂ (λ (b r : List ℕ). take from l ++ (b ++ r)) b-is
-    (drop-drop (to - from) from l ∙ ap (λ (n : ℕ). drop (from + n) l) (sym (length-bytes (to - from) v)))
+    (drop-drop (to - from) from l ∙ ap (λ (n : ℕ). drop (from + n) l) (sym (length_bytes (to - from) v)))
 
 -- ---- an image of a table's elements, and where the code has them begin
 
-module _ (ns b : List ℕ) (h : length b ≡ imageHead b + widths (kindsOf ns)) where
-  inside : imageHead b ≤ length b
+module _ (ns b : List ℕ) (h : length b ≡ image_head b + widths (kinds_of ns)) where
+  inside : image_head b ≤ length b
   inside = omega arith
 
-  elements-long : length (elementsIn b) ≡ widths (kindsOf ns)
-  unfolding elementsIn
-  elements-long = length-drop (imageHead b) b ∙ omega arith
+  elements_long : length (elements_in b) ≡ widths (kinds_of ns)
+  unfolding elements_in
+  elements_long = length-drop (image_head b) b ∙ omega arith
 
   -- the length of an image of at most 1,024 objects fits in 32 bits
   pub few_bytes : length ns ≤ 1024 → length b < 2 ^ 32
-  few_bytes few = omega (arith, head_few b, length-kinds ns, widths-few (kindsOf ns))
+  few_bytes few = omega (arith, head_few b, length_kinds ns, widths_few (kinds_of ns))
 
-  module _ (place : ℕ) (e : place ≡ imageHead b) where
-    begins-inside : place ≤ length b
-    begins-inside = omega arith
+  module _ (place : ℕ) (e : place ≡ image_head b) where
+    begins_inside : place ≤ length b
+    begins_inside = omega arith
 
     -- a list's entries are taken into the elements
     module _ (to : ℕ) (entries : List ℕ) {es : List ℕ}
-        (q : es ≡ renewal 0 (kindsOf ns) entries (mid_of place (length b - place) b)) where
+        (q : es ≡ renewal 0 (kinds_of ns) entries (mid_of place (length b - place) b)) where
       after : put_mid place (length b - place) b es
-          ≡ take (imageHead b) b ++ renewal 0 (kindsOf ns) entries (elementsIn b)
+          ≡ take (image_head b) b ++ renewal 0 (kinds_of ns) entries (elements_in b)
       after =
-          put-end place b es begins-inside
+          put_end place b es begins_inside
           ∙ ap₂ (λ (n : ℕ) (r : List ℕ). take n b ++ r) e
-          (q ∙ ap (renewal 0 (kindsOf ns) entries) (elements-from b place e))
+          (q ∙ ap (renewal 0 (kinds_of ns) entries) (elements_from_lem b place e))
 
-      pub taken-inside : imageHead (put_mid place (length b - place) b es)
+      pub taken_inside : image_head (put_mid place (length b - place) b es)
           ≤ length (put_mid place (length b - place) b es)
-      taken-inside = rw after (renewed-inside b (renewal 0 (kindsOf ns) entries (elementsIn b)) inside)
+      taken_inside = rw after (renewed_inside b (renewal 0 (kinds_of ns) entries (elements_in b)) inside)
 
       pub taken : {r : List ℕ}
-          → r ≡ withElements (put_mid place (length b - place) b es) to
-          (elementsIn (put_mid place (length b - place) b es))
-          → r ≡ imageAfter (kindsOf ns) to entries b
-      unfolding imageAfter
-      taken f = f ∙ ap (λ (m : List ℕ). withElements m to (elementsIn m)) after ∙ renewed-with b _ inside to
+          → r ≡ with_elements (put_mid place (length b - place) b es) to
+          (elements_in (put_mid place (length b - place) b es))
+          → r ≡ image_after (kinds_of ns) to entries b
+      unfolding image_after
+      taken f = f ∙ ap (λ (m : List ℕ). with_elements m to (elements_in m)) after ∙ renewed_with b _ inside to
 
     -- one object's element is put
-    module _ {i : ℕ} (l : i < length ns) (few : length ns ≤ 1024) {o : ℕ} (o_is : o ≡ place_in (kindsOf ns) i)
-        {kind : Kind} (kind-is : kind ≡ kind_at (kindsOf ns) i) {w : ℕ} (w-is : w ≡ width_of kind) where
-      own : Sized ns (elementsIn b) i
-      own = record { below = l; few = few; long = elements-long }
+    module _ {i : ℕ} (l : i < length ns) (few : length ns ≤ 1024) {o : ℕ} (o_is : o ≡ place_in (kinds_of ns) i)
+        {kind : Kind} (kind_is_lem : kind ≡ kind_at (kinds_of ns) i) {w : ℕ} (w-is : w ≡ width_of kind) where
+      own : Sized ns (elements_in b) i
+      own = record { below = l; few = few; long = elements_long }
 
-      pub put-inside : place + o + w ≤ length b
-      put-inside = omega (arith, element-inside own o_is kind-is w-is, elements-long)
+      pub put_inside : place + o + w ≤ length b
+      put_inside = omega (arith, element_inside own o_is kind_is_lem w-is, elements_long)
 
       module _ (to word : ℕ) {ws : List ℕ}
           (q : ws ≡ bytes (length (mid_of (place + o) (place + o + w - (place + o)) b)) word) where
         abbrev renewed : List ℕ
-        renewed = over (place_in (kindsOf ns) i) (bytes (width_of (kind_at (kindsOf ns) i)) word) (elementsIn b)
+        renewed = over (place_in (kinds_of ns) i) (bytes (width_of (kind_at (kinds_of ns) i)) word) (elements_in b)
 
-        with-element : put_mid (place + o) (place + o + w - (place + o)) b ws ≡ take (imageHead b) b ++ renewed
-        unfolding elementsIn
-        with-element =
-            let n : place + o + w - (place + o) ≡ width_of (kind_at (kindsOf ns) i) =
-            omega (arith, own-width own o_is kind-is w-is) in
-            let long : length (take (imageHead b) b) ≡ imageHead b = length-take-le (imageHead b) b inside in
-            put-part b ws (place + o) (place + o + w) word (omega arith) put-inside q
-            ∙ ap₂ (λ (n : ℕ) (c : List ℕ). over (place + o) (bytes n word) c) n (sym (take-append-drop (imageHead b) b))
-            ∙ over-past (take (imageHead b) b) (bytes (width_of (kind_at (kindsOf ns) i)) word) (drop (imageHead b) b)
-            (place + o) (place_in (kindsOf ns) i) (omega (arith, long))
+        with_element : put_mid (place + o) (place + o + w - (place + o)) b ws ≡ take (image_head b) b ++ renewed
+        unfolding elements_in
+        with_element =
+            let n : place + o + w - (place + o) ≡ width_of (kind_at (kinds_of ns) i) =
+            omega (arith, own_width own o_is kind_is_lem w-is) in
+            let long : length (take (image_head b) b) ≡ image_head b = length-take-le (image_head b) b inside in
+            put_part b ws (place + o) (place + o + w) word (omega arith) put_inside q
+            ∙ ap₂ (λ (n : ℕ) (c : List ℕ). over (place + o) (bytes n word) c) n (sym (take-append-drop (image_head b) b))
+            ∙ over_past (take (image_head b) b) (bytes (width_of (kind_at (kinds_of ns) i)) word) (drop (image_head b) b)
+            (place + o) (place_in (kinds_of ns) i) (omega (arith, long))
 
-        pub put-head : imageHead (put_mid (place + o) (place + o + w - (place + o)) b ws)
+        pub put_head : image_head (put_mid (place + o) (place + o + w - (place + o)) b ws)
             ≤ length (put_mid (place + o) (place + o + w - (place + o)) b ws)
-        put-head = rw with-element (renewed-inside b renewed inside)
+        put_head = rw with_element (renewed_inside b renewed inside)
 
-        pub put-done : {r : List ℕ}
-            → r ≡ withElements (put_mid (place + o) (place + o + w - (place + o)) b ws) to
-            (elementsIn (put_mid (place + o) (place + o + w - (place + o)) b ws))
-            → r ≡ imageWith (kindsOf ns) to i word b
-        unfolding imageWith
-        put-done f = f ∙ ap (λ (m : List ℕ). withElements m to (elementsIn m)) with-element ∙ renewed-with b _ inside to
+        pub put_done : {r : List ℕ}
+            → r ≡ with_elements (put_mid (place + o) (place + o + w - (place + o)) b ws) to
+            (elements_in (put_mid (place + o) (place + o + w - (place + o)) b ws))
+            → r ≡ image_with (kinds_of ns) to i word b
+        unfolding image_with
+        put_done f = f ∙ ap (λ (m : List ℕ). with_elements m to (elements_in m)) with_element ∙ renewed_with b _ inside to
 
   -- ---- how long the changed images are
 
-  pub length-after : (to : ℕ) (entries : List ℕ) → length (imageAfter (kindsOf ns) to entries b) ≡ length b
-  unfolding imageAfter
-  length-after to entries =
-      with-long b _ to inside
-      ∙ ap (λ (n : ℕ). imageHead b + n) (length-renewal (kindsOf ns) 0 entries (elementsIn b) elements-long) ∙ sym h
+  pub length_after : (to : ℕ) (entries : List ℕ) → length (image_after (kinds_of ns) to entries b) ≡ length b
+  unfolding image_after
+  length_after to entries =
+      with_long b _ to inside
+      ∙ ap (λ (n : ℕ). image_head b + n) (length_renewal (kinds_of ns) 0 entries (elements_in b) elements_long) ∙ sym h
 
-  pub length-with : (to : ℕ) {i : ℕ} (word : ℕ) → i < length ns → length (imageWith (kindsOf ns) to i word b) ≡ length b
-  unfolding imageWith
-  length-with to {i} word l =
-      let w : ℕ = width_of (kind_at (kindsOf ns) i) in
-      let room : place_in (kindsOf ns) i + w ≤ length (elementsIn b) =
-      omega (arith, place-within (kindsOf ns) i (omega (arith, length-kinds ns)), elements-long) in
-      with-long b _ to inside
-      ∙ ap (λ (n : ℕ). imageHead b + n)
-      (over-long (place_in (kindsOf ns) i) (bytes w word) (elementsIn b) (rw (length-bytes w word) room)
-      ∙ elements-long) ∙ sym h
+  pub length_with : (to : ℕ) {i : ℕ} (word : ℕ) → i < length ns → length (image_with (kinds_of ns) to i word b) ≡ length b
+  unfolding image_with
+  length_with to {i} word l =
+      let w : ℕ = width_of (kind_at (kinds_of ns) i) in
+      let room : place_in (kinds_of ns) i + w ≤ length (elements_in b) =
+      omega (arith, place_within (kinds_of ns) i (omega (arith, length_kinds ns)), elements_long) in
+      with_long b _ to inside
+      ∙ ap (λ (n : ℕ). image_head b + n)
+      (over_long (place_in (kinds_of ns) i) (bytes w word) (elements_in b) (rw (length_bytes w word) room)
+      ∙ elements_long) ∙ sym h
 
 -- ---- a copy at the front of the output, changed there
 
@@ -151,17 +151,17 @@ module _ (A out : List ℕ) (room : length A ≤ length out) {cs : List ℕ} (c 
   copy_is : mid_of 0 (length A - 0) (put_mid 0 (length A - 0) out cs) ≡ A
   copy_is = take_at cs _ (length A - 0) long ∙ c
 
-  pub copied-sized : (ks : List Kind) → length A ≡ imageHead A + widths ks
+  pub copied_sized : (ks : List Kind) → length A ≡ image_head A + widths ks
       → length (mid_of 0 (length A - 0) (put_mid 0 (length A - 0) out cs))
-      ≡ imageHead (mid_of 0 (length A - 0) (put_mid 0 (length A - 0) out cs)) + widths ks
-  copied-sized ks h = rw copy_is h
+      ≡ image_head (mid_of 0 (length A - 0) (put_mid 0 (length A - 0) out cs)) + widths ks
+  copied_sized ks h = rw copy_is h
 
   -- what is left is the changed image
-  pub copied-leaves : (f : List ℕ → List ℕ) → length (f A) ≡ length A → {r : Answer} → r ≡ unnamed 0 (length A)
+  pub copied_leaves : (f : List ℕ → List ℕ) → length (f A) ≡ length A → {r : Answer} → r ≡ unnamed 0 (length A)
       → {bs : List ℕ} → bs ≡ f (mid_of 0 (length A - 0) (put_mid 0 (length A - 0) out cs))
       → Leaves (done (f A)) out r (put_mid 0 (length A - 0) (put_mid 0 (length A - 0) out cs) bs)
-  copied-leaves f same {r} e {bs} q =
-      let front = front-leaves (f A) out same room e (q ∙ ap f copy_is) in
+  copied_leaves f same {r} e {bs} q =
+      let front = front_leaves (f A) out same room e (q ∙ ap f copy_is) in
       let rest : drop (length A - 0) (cs ++ drop (length A - 0) out) ≡ drop (length A - 0) out =
       drop_at cs _ (length A - 0) long in
       (front.0, ap (λ (l : List ℕ). bs ++ l) rest ∙ front.1)

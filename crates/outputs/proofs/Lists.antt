@@ -6,48 +6,48 @@ use mathlib.Core.Path.{◌≡◌, refl, sym, ap, ap₂, ◌∙◌}
 use mathlib.Core.List.{List, ◌++◌}
 use lib.ListN.{length, length-append}
 use borrow.Rule.Slice.PartMut.{put_mid}
-use Rattle.octets.proofs.Writing.{start, append_at, as-done}
+use Rattle.octets.proofs.Writing.{start, append_at, as_done}
 use Rattle.history.specs.declared.Answer.{Answer}
 use Rattle.history.specs.Verdict.{done, unnamed, settled}
-use Rattle.history.proofs.OutputLaws.{short-leaves, written-leaves}
-use Rattle.heads.specs.Heads.{entriesPlace}
-use Rattle.heads.specs.Written.{listHead}
-use Rattle.heads.proofs.WrittenLaws.{length-head, list-split}
+use Rattle.history.proofs.OutputLaws.{short_leaves, written_leaves}
+use Rattle.heads.specs.Heads.{entries_place}
+use Rattle.heads.specs.Written.{list_head}
+use Rattle.heads.proofs.WrittenLaws.{length_head, list_split}
 use Rattle.steps.specs.declared.Walk.{Walk}
-use Rattle.tables.specs.Outlines.{kindsOf}
-use Rattle.walks.specs.Walks.{walked, walkBytes, Measured}
-use Rattle.outputs.specs.Outputs.{walkList}
+use Rattle.tables.specs.Outlines.{kinds_of}
+use Rattle.walks.specs.Walks.{walked, walk_bytes, Measured}
+use Rattle.outputs.specs.Outputs.{walk_list}
 
 module _ (walk : Walk) (x y : ℕ) (ns : List ℕ) (from to : ℕ) (f s : List ℕ) {count size : ℕ}
-    (m : Measured walk (kindsOf ns) f s count size) {place : ℕ} (p : place ≡ entriesPlace) where
-  list-is : walkList walk x y ns from to f s ≡ listHead x y from to count size ++ walkBytes walk 0 (kindsOf ns) f s
-  unfolding walkList
-  list-is = rw (m.entries, m.bytes) (list-split x y (kindsOf ns) from to (walked walk 0 (kindsOf ns) f s))
+    (m : Measured walk (kinds_of ns) f s count size) {place : ℕ} (p : place ≡ entries_place) where
+  list_is : walk_list walk x y ns from to f s ≡ list_head x y from to count size ++ walk_bytes walk 0 (kinds_of ns) f s
+  unfolding walk_list
+  list_is = rw (m.entries, m.bytes) (list_split x y (kinds_of ns) from to (walked walk 0 (kinds_of ns) f s))
 
-  length-list : length (walkList walk x y ns from to f s) ≡ place + size
-  length-list =
-      ap length list-is ∙ length-append (listHead x y from to count size) _
-      ∙ ap₂ ◌+◌ (length-head x y from to count size ∙ sym p) (sym m.bytes)
+  length_list : length (walk_list walk x y ns from to f s) ≡ place + size
+  length_list =
+      ap length list_is ∙ length-append (list_head x y from to count size) _
+      ∙ ap₂ ◌+◌ (length_head x y from to count size ∙ sym p) (sym m.bytes)
 
   module _ (out : List ℕ) where
     -- there is no room
-    pub short-answer : {r : Answer} → length out < place + size → r ≡ unnamed 21 (place + size)
-        → r ≡ (settled (done (walkList walk x y ns from to f s)) out).answer
-    short-answer room e = (short-leaves _ out length-list room e).0
+    pub short_answer : {r : Answer} → length out < place + size → r ≡ unnamed 21 (place + size)
+        → r ≡ (settled (done (walk_list walk x y ns from to f s)) out).answer
+    short_answer room e = (short_leaves _ out length_list room e).0
 
-    pub short-output : length out < place + size → out ≡ (settled (done (walkList walk x y ns from to f s)) out).output
-    short-output room = (short-leaves _ out length-list room refl).1
+    pub short_output : length out < place + size → out ≡ (settled (done (walk_list walk x y ns from to f s)) out).output
+    short_output room = (short_leaves _ out length_list room refl).1
 
-    pub list-answer : {r : Answer} → place + size ≤ length out → r ≡ unnamed 0 (place + size)
-        → r ≡ (settled (done (walkList walk x y ns from to f s)) out).answer
-    list-answer room e = (written-leaves _ out length-list room e refl).0
+    pub list_answer : {r : Answer} → place + size ≤ length out → r ≡ unnamed 0 (place + size)
+        → r ≡ (settled (done (walk_list walk x y ns from to f s)) out).answer
+    list_answer room e = (written_leaves _ out length_list room e refl).0
 
     -- the head, then the entries
-    pub list-output : place + size ≤ length out → {hs es : List ℕ} → hs ≡ listHead x y from to count size
-        → es ≡ walkBytes walk 0 (kindsOf ns) f s
+    pub list_output : place + size ≤ length out → {hs es : List ℕ} → hs ≡ list_head x y from to count size
+        → es ≡ walk_bytes walk 0 (kinds_of ns) f s
         → put_mid place (place + size - place) (put_mid 0 (place - 0) out hs) es
-        ≡ (settled (done (walkList walk x y ns from to f s)) out).output
-    list-output room eh ee =
-        let w₁ = append_at (start out) eh place (omega (arith, length-head x y from to count size)) (omega arith) in
+        ≡ (settled (done (walk_list walk x y ns from to f s)) out).output
+    list_output room eh ee =
+        let w₁ = append_at (start out) eh place (omega (arith, length_head x y from to count size)) (omega arith) in
         let w₂ = append_at w₁ ee (place + size) (omega (arith, m.bytes)) room in
-        (written-leaves _ out length-list room refl (as-done w₂ (sym list-is)).is).1
+        (written_leaves _ out length_list room refl (as_done w₂ (sym list_is)).is).1

@@ -4,23 +4,23 @@ use Rattle.octets.specs.Octets.{bytes}
 use Rattle.kinds.specs.Kinds.{width_of}
 use Rattle.kinds.specs.declared.Kind.{Kind}
 use Rattle.history.specs.Table.{kind_at}
-use Rattle.history.specs.Changes.{listBytes}
-use Rattle.heads.specs.Heads.{elementsIn}
-use Rattle.heads.specs.Written.{withElements}
+use Rattle.history.specs.Changes.{list_bytes}
+use Rattle.heads.specs.Heads.{elements_in}
+use Rattle.heads.specs.Written.{with_elements}
 use Rattle.steps.specs.declared.Walk.{Walk}
-use Rattle.tables.specs.Outlines.{kindsOf, planAs}
+use Rattle.tables.specs.Outlines.{kinds_of, plan_as}
 use Rattle.forms.specs.Places.{place_in, over}
 use Rattle.walks.specs.Walks.{walked, renewal}
 
 -- the list of a walk's changes
-unfoldable pub walkList : Walk → ℕ → ℕ → List ℕ → ℕ → ℕ → List ℕ → List ℕ → List ℕ
-walkList walk x y ns from to f s =
-    listBytes (planAs x y ns) (record { from = from; to = to; each = walked walk 0 (kindsOf ns) f s })
+unfoldable pub walk_list : Walk → ℕ → ℕ → List ℕ → ℕ → ℕ → List ℕ → List ℕ → List ℕ
+walk_list walk x y ns from to f s =
+    list_bytes (plan_as x y ns) (record { from = from; to = to; each = walked walk 0 (kinds_of ns) f s })
 
 -- the image b after the entries e, at the position to
-unfoldable pub imageAfter : List Kind → ℕ → List ℕ → List ℕ → List ℕ
-imageAfter ks to e b = withElements b to (renewal 0 ks e (elementsIn b))
+unfoldable pub image_after : List Kind → ℕ → List ℕ → List ℕ → List ℕ
+image_after ks to e b = with_elements b to (renewal 0 ks e (elements_in b))
 
 -- the image b with the number w for object i's element, at the position to
-unfoldable pub imageWith : List Kind → ℕ → ℕ → ℕ → List ℕ → List ℕ
-imageWith ks to i w b = withElements b to (over (place_in ks i) (bytes (width_of (kind_at ks i)) w) (elementsIn b))
+unfoldable pub image_with : List Kind → ℕ → ℕ → ℕ → List ℕ → List ℕ
+image_with ks to i w b = with_elements b to (over (place_in ks i) (bytes (width_of (kind_at ks i)) w) (elements_in b))

@@ -3,10 +3,10 @@
 ghost use Rattle.std.specs.Prelude.{◌≡◌, ◌+◌, ◌≤◌, ◌<◌, length};
 ghost use Rattle.history.specs.Verdict.{done, Leaves};
 ghost use Rattle.history.specs.Image.{widths};
-ghost use Rattle.heads.specs.Heads.{imageHead, elementsIn};
-ghost use Rattle.heads.specs.Written.{withElements};
-ghost use Rattle.tables.specs.Outlines.{kindsOf};
-ghost use Rattle.outputs.specs.Outputs.{imageAfter, imageWith};
+ghost use Rattle.heads.specs.Heads.{image_head, elements_in};
+ghost use Rattle.heads.specs.Written.{with_elements};
+ghost use Rattle.tables.specs.Outlines.{kinds_of};
+ghost use Rattle.outputs.specs.Outputs.{image_after, image_with};
 
 use forms::{kind_at, place_of};
 use history::Answer;
@@ -15,8 +15,8 @@ use tables::{short, written};
 // Writes the image after the entries, at position `to`, to the front of the output.
 pub fn write_image(kinds: &[u8], image: &[u8], to: u32, entries: &[u8], out: &mut [u8]) -> Answer
     requires kinds_len_bound { length kinds.now ≤ 1024 }
-    requires image_len { length image.now ≡ imageHead image.now + widths (kindsOf kinds.now) }
-    ensures { Leaves (done (imageAfter (kindsOf kinds.now) to entries.now image.now))
+    requires image_len { length image.now ≡ image_head image.now + widths (kinds_of kinds.now) }
+    ensures { Leaves (done (image_after (kinds_of kinds.now) to entries.now image.now))
         out.old result out.new }
 {
     let size = image.len();
@@ -38,8 +38,8 @@ pub fn write_element(
     out: &mut [u8],
 ) -> Answer
     requires object_in_bounds { (object < length kinds.now) × (length kinds.now ≤ 1024) }
-    requires image_len { length image.now ≡ imageHead image.now + widths (kindsOf kinds.now) }
-    ensures { Leaves (done (imageWith (kindsOf kinds.now) to object word image.now))
+    requires image_len { length image.now ≡ image_head image.now + widths (kinds_of kinds.now) }
+    ensures { Leaves (done (image_with (kinds_of kinds.now) to object word image.now))
         out.old result out.new }
 {
     let size = image.len();
@@ -54,9 +54,9 @@ pub fn write_element(
 // Takes a list's entries, and the position that it reaches, into the image.
 pub fn take_entries(image: &mut [u8], kinds: &[u8], to: u32, entries: &[u8])
     requires kinds_len_bound { length kinds.now ≤ 1024 }
-    requires image_len { length image.old ≡ imageHead image.old + widths (kindsOf kinds.now) }
+    requires image_len { length image.old ≡ image_head image.old + widths (kinds_of kinds.now) }
     ensures { image.new
-        ≡ imageAfter (kindsOf kinds.now) to entries.now image.old }
+        ≡ image_after (kinds_of kinds.now) to entries.now image.old }
 {
     let place = heads::image_head(&image[..]);
     let size = image.len();
@@ -67,8 +67,8 @@ pub fn take_entries(image: &mut [u8], kinds: &[u8], to: u32, entries: &[u8])
 // Puts an object's element, and a position, into the image.
 pub fn put_element(image: &mut [u8], kinds: &[u8], to: u32, object: usize, word: u32)
     requires object_in_bounds { (object < length kinds.now) × (length kinds.now ≤ 1024) }
-    requires image_len { length image.old ≡ imageHead image.old + widths (kindsOf kinds.now) }
-    ensures { image.new ≡ imageWith (kindsOf kinds.now) to object word image.old }
+    requires image_len { length image.old ≡ image_head image.old + widths (kinds_of kinds.now) }
+    ensures { image.new ≡ image_with (kinds_of kinds.now) to object word image.old }
 {
     let place = heads::image_head(&image[..]);
     let at = place + place_of(kinds, object);
@@ -79,8 +79,8 @@ pub fn put_element(image: &mut [u8], kinds: &[u8], to: u32, object: usize, word:
 
 // Sets the position, as every change of an image does last.
 fn finish(image: &mut [u8], to: u32)
-    requires { imageHead image.old ≤ length image.old }
-    ensures { image.new ≡ withElements image.old to (elementsIn image.old) }
+    requires { image_head image.old ≤ length image.old }
+    ensures { image.new ≡ with_elements image.old to (elements_in image.old) }
 {
     heads::put_position(image, to);
 }

@@ -1,9 +1,9 @@
 // A list at the front of the output: its head, then its entries.
 ghost use Rattle.std.specs.Prelude.{◌≤◌, length};
 ghost use Rattle.history.specs.Verdict.{done, Leaves};
-ghost use Rattle.tables.specs.Outlines.{kindsOf};
+ghost use Rattle.tables.specs.Outlines.{kinds_of};
 ghost use Rattle.walks.specs.Walks.{Asked, Measured};
-ghost use Rattle.outputs.specs.Outputs.{walkList};
+ghost use Rattle.outputs.specs.Outputs.{walk_list};
 
 use history::Answer;
 use steps::Walk;
@@ -25,8 +25,8 @@ pub fn write_list(
 ) -> Answer
     requires kinds_len_bound { length kinds.now ≤ 1024 }
     requires asked { Asked walk kinds.now first.now second.now }
-    requires measured { Measured walk (kindsOf kinds.now) first.now second.now size.count size.bytes }
-    ensures { Leaves (done (walkList walk x y kinds.now from to first.now second.now))
+    requires measured { Measured walk (kinds_of kinds.now) first.now second.now size.count size.bytes }
+    ensures { Leaves (done (walk_list walk x y kinds.now from to first.now second.now))
         out.old result out.new }
 {
     let count = size.count as u32;

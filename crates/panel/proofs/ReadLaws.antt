@@ -15,118 +15,118 @@ use Rattle.octets.specs.Octets.{number}
 use Rattle.kinds.specs.Kinds.{width_of}
 use Rattle.kinds.specs.declared.Kind.{Kind}
 use Rattle.kinds.specs.declared.Element.{Element}
-use Rattle.elements.specs.Elements.{stateRead, state_of}
+use Rattle.elements.specs.Elements.{state_read, state_of}
 use Rattle.history.specs.declared.Answer.{Answer}
-use Rattle.history.specs.Verdict.{naming, Verdict, refused, done, then, refusalAt, ◌unless◌⨾◌, numbers, told}
+use Rattle.history.specs.Verdict.{naming, Verdict, refused, done, then, refusal_at, ◌unless◌⨾◌, numbers, told}
 use Rattle.history.specs.Table.{kind_at}
-use Rattle.history.specs.Image.{readImage, admits, Every, nil, and, AcceptedImage}
-use Rattle.history.specs.Calls.{readStateUnder, readStateCall}
-use Rattle.history.proofs.ElementLaws.{admits-read}
-use Rattle.history.proofs.StateLaws.{stateAt}
-use Rattle.tables.specs.Outlines.{kindsOf, planAs, Outlined}
+use Rattle.history.specs.Image.{read_image, admits, Every, nil, and, AcceptedImage}
+use Rattle.history.specs.Calls.{read_state_under, read_state_call}
+use Rattle.history.proofs.ElementLaws.{admits_read}
+use Rattle.history.proofs.StateLaws.{state_at}
+use Rattle.tables.specs.Outlines.{kinds_of, plan_as, Outlined}
 use Rattle.tables.specs.declared.answers.Outline.{Outline}
-use Rattle.tables.proofs.AnswerLaws.{told-first}
-use Rattle.forms.proofs.Accepted.{image-accepted}
-use Rattle.heads.specs.Heads.{imageHead, elementsIn}
-use Rattle.heads.proofs.Parts.{elements-in, image-inside, elements-length}
+use Rattle.tables.proofs.AnswerLaws.{told_first}
+use Rattle.forms.proofs.Accepted.{image_accepted}
+use Rattle.heads.specs.Heads.{image_head, elements_in}
+use Rattle.heads.proofs.Parts.{elements_in_lem, image_inside, elements_length}
 use Rattle.forms.specs.Places.{place_in, Sized}
-use Rattle.forms.proofs.KindLaws.{length-kinds}
-use Rattle.forms.proofs.ElementPlaces.{words-number}
-use Rattle.forms.proofs.UnderPlan.{Starts, table-refused, under-plan}
+use Rattle.forms.proofs.KindLaws.{length_kinds}
+use Rattle.forms.proofs.ElementPlaces.{words_number}
+use Rattle.forms.proofs.UnderPlan.{Starts, table_refused, under_plan}
 use Rattle.panel.specs.declared.read.Reading.{Reading}
 use Rattle.panel.specs.Readings.{reading_of, answer_in}
 
 -- an answer that refuses is the answer, whatever comes after
-pub first-told : {A B : Type 0} (v : Verdict A) (f : A → Verdict B) {r : Answer} → r ≡ told v → (r.code ≡ 0 → ⊥)
+pub first_told : {A B : Type 0} (v : Verdict A) (f : A → Verdict B) {r : Answer} → r ≡ told v → (r.code ≡ 0 → ⊥)
     → r ≡ told (then v f)
-first-told v f e bad = e ∙ told-first v f (λ z. bad (ap (λ (a : Answer). a.code) e ∙ z))
+first_told v f e bad = e ∙ told_first v f (λ z. bad (ap (λ (a : Answer). a.code) e ∙ z))
 
 -- a refusal is the reading
-refusal-read : {r : Answer} (v : Verdict Element) → r ≡ told v → (r.code ≡ 0 → ⊥) → Reading.Refused r ≡ reading_of v
+refusal_read : {r : Answer} (v : Verdict Element) → r ≡ told v → (r.code ≡ 0 → ⊥) → Reading.Refused r ≡ reading_of v
 unfolding told reading_of
-refusal-read (refused r) e n = ap Reading.Refused e
-refusal-read (done s) e n = absurd (n (ap (λ (r : Answer). r.code) e))
+refusal_read (refused r) e n = ap Reading.Refused e
+refusal_read (done s) e n = absurd (n (ap (λ (r : Answer). r.code) e))
 
 -- a reading's numbers are the call's
-pub reading-told : (v : Verdict Element) → answer_in (reading_of v) ≡ told v
+pub reading_told : (v : Verdict Element) → answer_in (reading_of v) ≡ told v
 unfolding told reading_of
-reading-told (refused r) = refl
-reading-told (done s) = refl
+reading_told (refused r) = refl
+reading_told (done s) = refl
 
 -- ---- the table
 
-read-starts : (T A : List ℕ) (i : ℕ) → Starts T (readStateCall T A i) (λ p. readStateUnder p A i)
-unfolding readStateCall
-read-starts T A i = record { is = refl }
+read_starts : (T A : List ℕ) (i : ℕ) → Starts T (read_state_call T A i) (λ p. read_state_under p A i)
+unfolding read_state_call
+read_starts T A i = record { is = refl }
 
 module _ {T : List ℕ} {r : Outline} (o : Outlined T r) (A : List ℕ) (i : ℕ) where
-  pub table-read : (r.answer.code ≡ 0 → ⊥) → Reading.Refused r.answer ≡ reading_of (readStateCall T A i)
-  table-read bad = refusal-read _ (table-refused o bad (read-starts T A i)) bad
+  pub table_read : (r.answer.code ≡ 0 → ⊥) → Reading.Refused r.answer ≡ reading_of (read_state_call T A i)
+  table_read bad = refusal_read _ (table_refused o bad (read_starts T A i)) bad
 
-  pub read-by-plan : r.answer.code ≡ 0 → {ns : List ℕ} → ns ≡ take r.count r.kinds
-      → reading_of (readStateUnder (planAs r.x r.y ns) A i) ≡ reading_of (readStateCall T A i)
-  read-by-plan good n = ap reading_of (under-plan o good n (read-starts T A i))
+  pub read_by_plan : r.answer.code ≡ 0 → {ns : List ℕ} → ns ≡ take r.count r.kinds
+      → reading_of (read_state_under (plan_as r.x r.y ns) A i) ≡ reading_of (read_state_call T A i)
+  read_by_plan good n = ap reading_of (under_plan o good n (read_starts T A i))
 
 -- ---- the image
 
-admitted-at : {ks : List Kind} {ws : List ℕ} → Every admits ks ws → (i : ℕ) → i < length ks
+admitted_at : {ks : List Kind} {ws : List ℕ} → Every admits ks ws → (i : ℕ) → i < length ks
     → admits (kind_at ks i) (get_or ws i 0) ≡ true
-admitted-at nil i l = absurd (omega arith)
-admitted-at (and h r) zero l = h
-admitted-at (and h r) (suc i) l = admitted-at r i (omega arith)
+admitted_at nil i l = absurd (omega arith)
+admitted_at (and h r) zero l = h
+admitted_at (and h r) (suc i) l = admitted_at r i (omega arith)
 
-module _ (x y : ℕ) (ns A : List ℕ) (i : ℕ) {r : Answer} (r-is : r ≡ told (readImage (planAs x y ns) A)) where
-  pub image-read : (r.code ≡ 0 → ⊥) → Reading.Refused r ≡ reading_of (readStateUnder (planAs x y ns) A i)
-  unfolding readStateUnder
-  image-read bad = refusal-read _ (first-told (readImage (planAs x y ns) A) _ r-is bad) bad
+module _ (x y : ℕ) (ns A : List ℕ) (i : ℕ) {r : Answer} (r-is : r ≡ told (read_image (plan_as x y ns) A)) where
+  pub image_read : (r.code ≡ 0 → ⊥) → Reading.Refused r ≡ reading_of (read_state_under (plan_as x y ns) A i)
+  unfolding read_state_under
+  image_read bad = refusal_read _ (first_told (read_image (plan_as x y ns) A) _ r-is bad) bad
 
   -- h: each number in A fits in a byte, as in any slice
   module _ (h : (n : ℕ) → Fits w8 (get_or A n 0)) (good : r.code ≡ 0) where
-    pub taken : AcceptedImage (planAs x y ns) A
-    taken = image-accepted (planAs x y ns) A h good r-is
+    pub taken : AcceptedImage (plan_as x y ns) A
+    taken = image_accepted (plan_as x y ns) A h good r-is
 
-    pub head-inside : imageHead A ≤ length A
-    head-inside = image-inside taken
+    pub head_inside : image_head A ≤ length A
+    head_inside = image_inside taken
 
-    under : readStateUnder (planAs x y ns) A i
-        ≡ (refusalAt 13 i unless ltb i (length (kindsOf ns)) ⨾ done (stateAt (planAs x y ns) taken.image i))
-    unfolding readStateUnder
+    under : read_state_under (plan_as x y ns) A i
+        ≡ (refusal_at 13 i unless ltb i (length (kinds_of ns)) ⨾ done (state_at (plan_as x y ns) taken.image i))
+    unfolding read_state_under
     under = rw taken.reads
 
     -- 13: there is no such object
-    pub other-object : length ns ≤ i → {s : Answer} → s ≡ numbers (naming 13 i 255) 0
-        → Reading.Refused s ≡ reading_of (readStateUnder (planAs x y ns) A i)
+    pub other_object : length ns ≤ i → {s : Answer} → s ≡ numbers (naming 13 i 255) 0
+        → Reading.Refused s ≡ reading_of (read_state_under (plan_as x y ns) A i)
     unfolding reading_of
-    other-object l {s} e =
-        let none : readStateUnder (planAs x y ns) A i ≡ refusalAt 13 i =
-        under ∙ rw (le-ltb i (length (kindsOf ns)) (omega (arith, length-kinds ns))) in
+    other_object l {s} e =
+        let none : read_state_under (plan_as x y ns) A i ≡ refusal_at 13 i =
+        under ∙ rw (le-ltb i (length (kinds_of ns)) (omega (arith, length_kinds ns))) in
         ap Reading.Refused e ∙ sym (ap reading_of none)
 
     module _ (l : i < length ns) where
-      pub image-sized : length ns ≤ 1024 → {es : List ℕ} → es ≡ elementsIn A → Sized ns es i
-      image-sized few e = record { below = l; few = few; long = elements-length taken e }
+      pub image_sized : length ns ≤ 1024 → {es : List ℕ} → es ≡ elements_in A → Sized ns es i
+      image_sized few e = record { below = l; few = few; long = elements_length taken e }
 
-      inside-kinds : i < length (kindsOf ns)
-      inside-kinds = omega (arith, length-kinds ns)
+      inside_kinds : i < length (kinds_of ns)
+      inside_kinds = omega (arith, length_kinds ns)
 
-      module _ {kind : Kind} (kind-is : kind ≡ kind_at (kindsOf ns) i) {es : List ℕ} (es-is : es ≡ elementsIn A)
+      module _ {kind : Kind} (kind_is_lem : kind ≡ kind_at (kinds_of ns) i) {es : List ℕ} (es-is : es ≡ elements_in A)
           {word : ℕ}
-          (word-is : word ≡ number (take (width_of (kind_at (kindsOf ns) i)) (drop (place_in (kindsOf ns) i) es))) where
-        own-word : word ≡ get_or taken.image.words i 0
-        own-word =
+          (word-is : word ≡ number (take (width_of (kind_at (kinds_of ns) i)) (drop (place_in (kinds_of ns) i) es))) where
+        own_word : word ≡ get_or taken.image.words i 0
+        own_word =
             word-is ∙ ap (λ (b : List ℕ). number
-            (take (width_of (kind_at (kindsOf ns) i)) (drop (place_in (kindsOf ns) i) b)))
-            (es-is ∙ elements-in taken)
-            ∙ words-number taken.legal.words i inside-kinds
+            (take (width_of (kind_at (kinds_of ns) i)) (drop (place_in (kinds_of ns) i) b)))
+            (es-is ∙ elements_in_lem taken)
+            ∙ words_number taken.legal.words i inside_kinds
 
         admitted : admits kind word ≡ true
-        admitted = rw (kind-is, own-word) (admitted-at taken.legal.words i inside-kinds)
+        admitted = rw (kind_is_lem, own_word) (admitted_at taken.legal.words i inside_kinds)
 
-        pub state-is : {e : Element} → e ≡ stateRead kind word
-            → Reading.State e ≡ reading_of (readStateUnder (planAs x y ns) A i)
+        pub state_is : {e : Element} → e ≡ state_read kind word
+            → Reading.State e ≡ reading_of (read_state_under (plan_as x y ns) A i)
         unfolding reading_of
-        state-is {e} e-is =
-            let own : readStateUnder (planAs x y ns) A i ≡ done (stateAt (planAs x y ns) taken.image i) =
-            under ∙ rw (lt-ltb i (length (kindsOf ns)) inside-kinds) in
-            ap Reading.State (e-is ∙ admits-read kind word admitted ∙ ap₂ state_of kind-is own-word)
+        state_is {e} e-is =
+            let own : read_state_under (plan_as x y ns) A i ≡ done (state_at (plan_as x y ns) taken.image i) =
+            under ∙ rw (lt-ltb i (length (kinds_of ns)) inside_kinds) in
+            ap Reading.State (e-is ∙ admits_read kind word admitted ∙ ap₂ state_of kind_is_lem own_word)
             ∙ sym (ap reading_of own)

@@ -1,7 +1,7 @@
 // Reading an object's state: the table's refusals, the image's, 13.
 ghost use Rattle.std.specs.Prelude.{◌≡◌, ◌≤◌, length};
-ghost use Rattle.history.specs.Calls.{readStateUnder, readStateCall};
-ghost use Rattle.tables.specs.Outlines.{planAs};
+ghost use Rattle.history.specs.Calls.{read_state_under, read_state_call};
+ghost use Rattle.tables.specs.Outlines.{plan_as};
 ghost use Rattle.panel.specs.Readings.{reading_of, answer_in};
 
 use super::place::word_at;
@@ -30,7 +30,7 @@ pub fn answer_of(reading: Reading) -> Answer
 
 // Reads the state of an object in an image, under its table.
 pub fn read_state(table: &[u8], image: &[u8], object: u16) -> Reading
-    ensures { result ≡ reading_of (readStateCall table.now image.now object) }
+    ensures { result ≡ reading_of (read_state_call table.now image.now object) }
 {
     let known = outline(table);
     let answer = known.answer;
@@ -46,7 +46,7 @@ pub fn read_state(table: &[u8], image: &[u8], object: u16) -> Reading
 // Takes X, Y and the layout numbers of an accepted table: checks the image, then the object's number.
 fn read_under(x: u8, y: u8, kinds: &[u8], image: &[u8], object: u16) -> Reading
     requires { length kinds.now ≤ 1024 }
-    ensures { result ≡ reading_of (readStateUnder (planAs x y kinds.now) image.now object) }
+    ensures { result ≡ reading_of (read_state_under (plan_as x y kinds.now) image.now object) }
 {
     let answer = check_image_under(x, y, kinds, image);
     if answer.code != 0 {

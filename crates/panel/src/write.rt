@@ -1,8 +1,8 @@
 // Writing an object's state, with the image's new position: the table's refusals, the image's, 13, 22, 12, 21.
 ghost use Rattle.std.specs.Prelude.{◌≡◌, ◌≤◌, length};
 ghost use Rattle.history.specs.Verdict.{told, Leaves};
-ghost use Rattle.history.specs.Calls.{checkState, writeStateUnder, writeStateCall};
-ghost use Rattle.tables.specs.Outlines.{kindsOf, planAs};
+ghost use Rattle.history.specs.Calls.{check_state, write_state_under, write_state_call};
+ghost use Rattle.tables.specs.Outlines.{kinds_of, plan_as};
 
 use forms::{check_image_under, kind_at};
 use history::Answer;
@@ -20,7 +20,7 @@ pub fn write_state(
     position: u32,
     out: &mut [u8],
 ) -> Answer
-    ensures { Leaves (writeStateCall table.now image.now object state position)
+    ensures { Leaves (write_state_call table.now image.now object state position)
         out.old result out.new }
 {
     let known = outline(table);
@@ -55,7 +55,7 @@ fn write_under(
     out: &mut [u8],
 ) -> Answer
     requires { length kinds.now ≤ 1024 }
-    ensures { Leaves (writeStateUnder (planAs x y kinds.now) image.now object state position)
+    ensures { Leaves (write_state_under (plan_as x y kinds.now) image.now object state position)
         out.old result out.new }
 {
     let answer = check_image_under(x, y, kinds, image);
@@ -72,7 +72,7 @@ fn write_under(
 
 // Checks a state handed in for an object: 13, 22, 12.
 fn check_state(kinds: &[u8], object: u16, state: Element) -> Answer
-    ensures { result ≡ told (checkState (kindsOf kinds.now) object state) }
+    ensures { result ≡ told (check_state (kinds_of kinds.now) object state) }
 {
     let index = object as usize;
     if kinds.len() <= index {

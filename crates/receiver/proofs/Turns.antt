@@ -9,51 +9,51 @@ use lib.ListN.{length, take, drop, get_or, length-drop}
 use lib.Seq.{take_all, drop-drop, drop-length}
 use mir.Syntax.{w8}
 use mir.Val.{Fits}
-use Rattle.octets.proofs.NumberLaws.{drop-is}
+use Rattle.octets.proofs.NumberLaws.{drop_is}
 use Rattle.history.specs.declared.Answer.{Answer}
 use Rattle.history.specs.declared.Standing.{Standing}
-use Rattle.history.specs.Verdict.{Verdict, refused, done, decide, valueOr, unnamed, told, ofLength}
-use Rattle.history.specs.Form.{frontForm, formsIn}
+use Rattle.history.specs.Verdict.{Verdict, refused, done, decide, value_or, unnamed, told, of_length}
+use Rattle.history.specs.Form.{front_form, forms_in}
 use Rattle.history.specs.Table.{Plan}
 use Rattle.history.specs.Image.{AcceptedImage}
-use Rattle.history.specs.Calls.{applyUnder}
+use Rattle.history.specs.Calls.{apply_under}
 use Rattle.history.specs.Standing.{counted}
-use Rattle.history.specs.Backlog.{ended, takeLists}
-use Rattle.history.proofs.FrontLaws.{after_is, front-some, front-short, front_bytes, forms-none, forms-more}
-use Rattle.history.proofs.ImageLaws.{widths-few, image-long}
-use Rattle.history.proofs.CodeLaws.{apply-coded, zero-told}
+use Rattle.history.specs.Backlog.{ended, take_lists}
+use Rattle.history.proofs.FrontLaws.{after_is, front_some, front_short, front_bytes, forms_none, forms_more}
+use Rattle.history.proofs.ImageLaws.{widths_few, image_long}
+use Rattle.history.proofs.CodeLaws.{apply_coded, zero_told}
 use Rattle.history.proofs.AcceptedLaws.{after_list}
-use Rattle.tables.specs.Outlines.{kindsOf, planAs}
-use Rattle.forms.proofs.KindLaws.{length-kinds}
+use Rattle.tables.specs.Outlines.{kinds_of, plan_as}
+use Rattle.forms.proofs.KindLaws.{length_kinds}
 use Rattle.receiver.specs.declared.backlog.Turn.{Turn}
 use Rattle.receiver.specs.Backlogs.{Advances, Turned}
 
 -- the length of an accepted image fits in 32 bits
-pub image-small : {x y : ℕ} (ns : List ℕ) {A : List ℕ} → AcceptedImage (planAs x y ns) A → length ns ≤ 1024
+pub image_small : {x y : ℕ} (ns : List ℕ) {A : List ℕ} → AcceptedImage (plan_as x y ns) A → length ns ≤ 1024
     → length A < 2 ^ 32
-image-small ns {A} a few =
-    omega (arith, ap length a.same ∙ image-long a.legal, widths-few (kindsOf ns), length-kinds ns)
+image_small ns {A} a few =
+    omega (arith, ap length a.same ∙ image_long a.legal, widths_few (kinds_of ns), length_kinds ns)
 
 -- one turn, from what its two calls ensure
 pub turned : {p : Plan} (b : List ℕ) (at : ℕ) {A L : List ℕ} → at ≤ length b
-    → L ≡ frontForm (take (length b - at) (drop at b))
+    → L ≡ front_form (take (length b - at) (drop at b))
     → {r : Answer} {m : List ℕ}
-    → (r ≡ told (applyUnder p A L)) × (m ≡ valueOr A (applyUnder p A L))
+    → (r ≡ told (apply_under p A L)) × (m ≡ value_or A (apply_under p A L))
     → Turned p (drop at b) A (record { answer = r; size = length L }) m
 turned b at {L = L} h e q =
-    let f : L ≡ frontForm (drop at b) =
-    e ∙ ap frontForm (take_all (length b - at) (drop at b) (rw (length-drop at b) (omega arith))) in
+    let f : L ≡ front_form (drop at b) =
+    e ∙ ap front_form (take_all (length b - at) (drop at b) (rw (length-drop at b) (omega arith))) in
     record { answer = rw f at q.0; size = ap length f; image = rw f at q.1 }
 
 -- n lists and `at` bytes of b are taken, which led to the image A and the standing s
 pub record Taking (x y : ℕ) (ns b A₀ : List ℕ) (s₀ : Standing) (A : List ℕ) (s : Standing) (n at : ℕ) : Type 0 where
-  pub same : takeLists (planAs x y ns) A₀ (formsIn b) s₀ 0 ≡ takeLists (planAs x y ns) A (formsIn (drop at b)) s n
-  pub accepted : AcceptedImage (planAs x y ns) A
+  pub same : take_lists (plan_as x y ns) A₀ (forms_in b) s₀ 0 ≡ take_lists (plan_as x y ns) A (forms_in (drop at b)) s n
+  pub accepted : AcceptedImage (plan_as x y ns) A
   pub inside : at ≤ length b
   pub few : n ≤ at
   pub long : length A ≡ length A₀
 
-pub none_yet : {x y : ℕ} {ns A : List ℕ} (b : List ℕ) (s : Standing) → AcceptedImage (planAs x y ns) A
+pub none_yet : {x y : ℕ} {ns A : List ℕ} (b : List ℕ) (s : Standing) → AcceptedImage (plan_as x y ns) A
     → Taking x y ns b A s A s 0 0
 none_yet b s a = record { same = refl; accepted = a; inside = omega arith; few = omega arith; long = refl }
 
@@ -63,86 +63,86 @@ module _ {x y : ℕ} {ns b A₀ : List ℕ} {s₀ : Standing} {A : List ℕ} {s 
   keeps = z.long
 
   -- no byte is left
-  pub all-taken : length b ≤ at → {q : Answer} {size : ℕ} → size ≡ length A₀ → q ≡ unnamed 0 size
-      → Advances (takeLists (planAs x y ns) A₀ (formsIn b) s₀ 0)
+  pub all_taken : length b ≤ at → {q : Answer} {size : ℕ} → size ≡ length A₀ → q ≡ unnamed 0 size
+      → Advances (take_lists (plan_as x y ns) A₀ (forms_in b) s₀ 0)
       (record { progress = record { answer = q; taken = n }; standing = s }) A
-  all-taken h {q} {size} es eq =
+  all_taken h {q} {size} es eq =
       let all : at ≡ length b = omega (arith, z.inside) in
       let over : drop at b ≡ [] = ap (λ (n : ℕ). drop n b) all ∙ drop-length b in
       let whole =
-      z.same ∙ ap (λ (c : List ℕ). takeLists (planAs x y ns) A (formsIn c) s n) over
-      ∙ ap (λ (Ls : List (List ℕ)). takeLists (planAs x y ns) A Ls s n) forms-none in
+      z.same ∙ ap (λ (c : List ℕ). take_lists (plan_as x y ns) A (forms_in c) s n) over
+      ∙ ap (λ (Ls : List (List ℕ)). take_lists (plan_as x y ns) A Ls s n) forms_none in
       rw (whole, eq, es ∙ sym z.long) (refl, refl)
 
   -- the next list is taken or refused
-  module _ (h : at < length b) {r : Turn} {m : List ℕ} (t : Turned (planAs x y ns) (drop at b) A r m) where
+  module _ (h : at < length b) {r : Turn} {m : List ℕ} (t : Turned (plan_as x y ns) (drop at b) A r m) where
     left : 0 < length (drop at b)
     left = rw (length-drop at b) (omega arith)
 
     pub turn_on : 0 < r.size
-    turn_on = rw t.size (front-some (drop at b) left)
+    turn_on = rw t.size (front_some (drop at b) left)
 
     pub turn_inside : at + r.size ≤ length b
-    turn_inside = omega (arith, t.size, front-short (drop at b), length-drop at b)
+    turn_inside = omega (arith, t.size, front_short (drop at b), length-drop at b)
 
-    whole : takeLists (planAs x y ns) A₀ (formsIn b) s₀ 0
-        ≡ decide (applyUnder (planAs x y ns) A (frontForm (drop at b))) (ended A s n)
-        (λ B. takeLists (planAs x y ns) B (formsIn (drop (at + r.size) b)) (counted 0 s) (suc n))
+    whole : take_lists (plan_as x y ns) A₀ (forms_in b) s₀ 0
+        ≡ decide (apply_under (plan_as x y ns) A (front_form (drop at b))) (ended A s n)
+        (λ B. take_lists (plan_as x y ns) B (forms_in (drop (at + r.size) b)) (counted 0 s) (suc n))
     whole =
-        let rest = after_is (drop at b) ∙ drop-drop (length (frontForm (drop at b))) at b
+        let rest = after_is (drop at b) ∙ drop-drop (length (front_form (drop at b))) at b
         ∙ ap (λ (k : ℕ). drop (at + k) b) (sym t.size) in
         z.same
-        ∙ ap (λ (Ls : List (List ℕ)). takeLists (planAs x y ns) A Ls s n)
-        (forms-more (drop at b) left ∙ ap (λ (c : List ℕ). frontForm (drop at b) ∷ formsIn c) rest)
+        ∙ ap (λ (Ls : List (List ℕ)). take_lists (plan_as x y ns) A Ls s n)
+        (forms_more (drop at b) left ∙ ap (λ (c : List ℕ). front_form (drop at b) ∷ forms_in c) rest)
 
     -- the image after the list, whether it is taken or refused, is accepted and as long
     module _ (few : length ns ≤ 1024) (bytes : (i : ℕ) → Fits w8 (get_or b i 0)) where
-      after : AcceptedImage (planAs x y ns) m × (length m ≡ length A)
-      after = rw t.image (go (applyUnder (planAs x y ns) A (frontForm (drop at b))) refl)
+      after : AcceptedImage (plan_as x y ns) m × (length m ≡ length A)
+      after = rw t.image (go (apply_under (plan_as x y ns) A (front_form (drop at b))) refl)
         where
-          go : (v : Verdict (List ℕ)) → applyUnder (planAs x y ns) A (frontForm (drop at b)) ≡ v
-              → AcceptedImage (planAs x y ns) (valueOr A v) × (length (valueOr A v) ≡ length A)
+          go : (v : Verdict (List ℕ)) → apply_under (plan_as x y ns) A (front_form (drop at b)) ≡ v
+              → AcceptedImage (plan_as x y ns) (value_or A v) × (length (value_or A v) ≡ length A)
           go (refused f) e = (z.accepted, refl)
           go (done B) e =
-              after_list (record { count = omega (arith, length-kinds ns) }) (frontForm (drop at b)) z.accepted
-              (front_bytes (drop at b) (drop-is at b λ i. (bytes i).fits)) e
+              after_list (record { count = omega (arith, length_kinds ns) }) (front_form (drop at b)) z.accepted
+              (front_bytes (drop at b) (drop_is at b λ i. (bytes i).fits)) e
 
-      pub turn-keeps : length m ≡ length A₀
-      turn-keeps = after.1 ∙ z.long
+      pub turn_keeps : length m ≡ length A₀
+      turn_keeps = after.1 ∙ z.long
 
     module _ {k : Standing} (c : k ≡ counted r.answer.code s) where
-      pub turn-refused : (r.answer.code ≡ 0 → ⊥) → {q : Answer} {size : ℕ} → size ≡ length A₀
-          → q ≡ ofLength size r.answer
-          → Advances (takeLists (planAs x y ns) A₀ (formsIn b) s₀ 0)
+      pub turn_refused : (r.answer.code ≡ 0 → ⊥) → {q : Answer} {size : ℕ} → size ≡ length A₀
+          → q ≡ of_length size r.answer
+          → Advances (take_lists (plan_as x y ns) A₀ (forms_in b) s₀ 0)
           (record { progress = record { answer = q; taken = n }; standing = k }) m
       unfolding told
-      turn-refused bad {q} {size} es eq =
-          go (applyUnder (planAs x y ns) A (frontForm (drop at b))) whole t.answer t.image
+      turn_refused bad {q} {size} es eq =
+          go (apply_under (plan_as x y ns) A (front_form (drop at b))) whole t.answer t.image
         where
           go : (v : Verdict (List ℕ))
-              → takeLists (planAs x y ns) A₀ (formsIn b) s₀ 0
+              → take_lists (plan_as x y ns) A₀ (forms_in b) s₀ 0
               ≡ decide v (ended A s n)
-              (λ B. takeLists (planAs x y ns) B (formsIn (drop (at + r.size) b)) (counted 0 s) (suc n))
-              → r.answer ≡ told v → m ≡ valueOr A v
-              → Advances (takeLists (planAs x y ns) A₀ (formsIn b) s₀ 0)
+              (λ B. take_lists (plan_as x y ns) B (forms_in (drop (at + r.size) b)) (counted 0 s) (suc n))
+              → r.answer ≡ told v → m ≡ value_or A v
+              → Advances (take_lists (plan_as x y ns) A₀ (forms_in b) s₀ 0)
               (record { progress = record { answer = q; taken = n }; standing = k }) m
           go (refused f) w e i = rw (w, i, c, eq, es ∙ sym z.long, e) (refl, refl)
           go (done B) w e i = absurd (bad (ap (λ (r : Answer). r.code) e))
 
-      pub turn-taken : length ns ≤ 1024 → ((i : ℕ) → Fits w8 (get_or b i 0)) → r.answer.code ≡ 0
+      pub turn_taken : length ns ≤ 1024 → ((i : ℕ) → Fits w8 (get_or b i 0)) → r.answer.code ≡ 0
           → Taking x y ns b A₀ s₀ m k (n + 1) (at + r.size)
-      turn-taken few bytes good =
-          let p = planAs x y ns in
-          let L : List ℕ = frontForm (drop at b) in
+      turn_taken few bytes good =
+          let p = plan_as x y ns in
+          let L : List ℕ = front_form (drop at b) in
           let f =
-          zero-told (applyUnder p A L) (apply-coded p A L)
+          zero_told (apply_under p A L) (apply_coded p A L)
           (ap (λ (r : Answer). r.code) (sym t.answer) ∙ good) in
-          let m-is : m ≡ f.0 = t.image ∙ ap (valueOr A) f.1 in
+          let m-is : m ≡ f.0 = t.image ∙ ap (value_or A) f.1 in
           let k-is : k ≡ counted 0 s = c ∙ ap (λ (code : ℕ). counted code s) good in
           record {
             same = rw (m-is, k-is) (rw (f.1, ← (add-one n)) at whole);
             accepted = (after few bytes).0;
             inside = turn_inside;
             few = omega (arith, z.few, turn_on);
-            long = turn-keeps few bytes;
+            long = turn_keeps few bytes;
           }

@@ -1,11 +1,11 @@
 // A backlog under an accepted table: the lists that lie end to end in one slice are taken in turn into a copy of the
 // image, up to the first that is refused.
 ghost use Rattle.std.specs.Prelude.{◌≡◌, ◌≤◌, [], length, drop};
-ghost use Rattle.history.specs.Form.{formsIn};
+ghost use Rattle.history.specs.Form.{forms_in};
 ghost use Rattle.history.specs.Image.{AcceptedImage};
-ghost use Rattle.history.specs.Backlog.{nothingTaken, takeLists, backlogUnder};
-ghost use Rattle.tables.specs.Outlines.{planAs};
-ghost use Rattle.receiver.specs.Backlogs.{advanceOf, Advances, Turned};
+ghost use Rattle.history.specs.Backlog.{nothing_taken, take_lists, backlog_under};
+ghost use Rattle.tables.specs.Outlines.{plan_as};
+ghost use Rattle.receiver.specs.Backlogs.{advance_of, Advances, Turned};
 
 use super::{Advance, Progress, count};
 use changes::take_under;
@@ -26,7 +26,7 @@ pub fn backlog_under(
 ) -> Advance
     requires { length kinds.now ≤ 1024 }
     ensures { Advances
-        (backlogUnder (planAs x y kinds.now) image.now lists.now out.old
+        (backlog_under (plan_as x y kinds.now) image.now lists.now out.old
         standing) result out.new }
 {
     let answer = check_image_under(x, y, kinds, image);
@@ -43,7 +43,7 @@ pub fn backlog_under(
 
 // Nothing is taken or counted.
 pub fn none_taken(answer: Answer, standing: Standing) -> Advance
-    ensures { result ≡ advanceOf (nothingTaken [] standing answer) }
+    ensures { result ≡ advance_of (nothing_taken [] standing answer) }
 {
     Advance {
         progress: Progress { answer, taken: 0 },
@@ -61,9 +61,9 @@ fn take_lists(
     standing: Standing,
 ) -> Advance
     requires kinds_len_bound { length kinds.now ≤ 1024 }
-    requires accepted_image { AcceptedImage (planAs x y kinds.now) image.old }
+    requires accepted_image { AcceptedImage (plan_as x y kinds.now) image.old }
     ensures { Advances
-        (takeLists (planAs x y kinds.now) image.old (formsIn lists.now) standing 0) result
+        (take_lists (plan_as x y kinds.now) image.old (forms_in lists.now) standing 0) result
         image.new }
 {
     let size = image.len() as u32;
@@ -105,8 +105,8 @@ struct Turn {
 // Takes the list at a place into the image. Bytes that hold none in full are refused as a list is.
 fn take_next(x: u8, y: u8, kinds: &[u8], lists: &[u8], at: usize, image: &mut [u8]) -> Turn
     requires at_in_bounds { (at ≤ length lists.now) × (length kinds.now ≤ 1024) }
-    requires accepted_image { AcceptedImage (planAs x y kinds.now) image.old }
-    ensures { Turned (planAs x y kinds.now) (drop at lists.now) image.old result
+    requires accepted_image { AcceptedImage (plan_as x y kinds.now) image.old }
+    ensures { Turned (plan_as x y kinds.now) (drop at lists.now) image.old result
         image.new }
 {
     let list = front_form(&lists[at..]);

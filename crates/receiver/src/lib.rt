@@ -5,10 +5,10 @@
 mod backlog;
 
 ghost use Rattle.std.specs.Prelude.{◌≡◌};
-ghost use Rattle.history.specs.Standing.{fresh, oneMore, counted};
-ghost use Rattle.history.specs.Backlog.{backlogCall};
-ghost use Rattle.receiver.specs.Receive.{taken_of, answer_of, outputOf, standingOf};
-ghost use Rattle.receiver.specs.Backlogs.{progressOf, Advances};
+ghost use Rattle.history.specs.Standing.{fresh, one_more, counted};
+ghost use Rattle.history.specs.Backlog.{backlog_call};
+ghost use Rattle.receiver.specs.Receive.{taken_of, answer_of, output_of, standing_of};
+ghost use Rattle.receiver.specs.Backlogs.{progress_of, Advances};
 
 use backlog::{backlog_under, none_taken};
 use history::{Answer, Standing};
@@ -56,9 +56,9 @@ pub fn receive(
     standing: &mut Standing,
 ) -> Answer
     ensures { (result ≡ answer_of table.now image.now list.now out.old)
-        × ((out.new ≡ outputOf table.now image.now list.now out.old)
+        × ((out.new ≡ output_of table.now image.now list.now out.old)
         × (standing.new
-        ≡ standingOf table.now image.now list.now out.old
+        ≡ standing_of table.now image.now list.now out.old
         standing.old)) }
 {
     let r = received(table, image, list, out, *standing);
@@ -76,7 +76,7 @@ pub fn received(
 ) -> Taken
     ensures { (result ≡ taken_of table.now image.now list.now out.old standing)
         × (out.new
-        ≡ outputOf table.now image.now list.now out.old) }
+        ≡ output_of table.now image.now list.now out.old) }
 {
     let answer = changes::apply(table, image, list, out);
     Taken {
@@ -94,14 +94,14 @@ pub fn receive_backlog(
     out: &mut [u8],
     standing: &mut Standing,
 ) -> Progress
-    ensures { (result ≡ progressOf
-        (backlogCall table.now image.now lists.now out.old
+    ensures { (result ≡ progress_of
+        (backlog_call table.now image.now lists.now out.old
         standing.old))
         × ((out.new
-        ≡ (backlogCall table.now image.now lists.now out.old
+        ≡ (backlog_call table.now image.now lists.now out.old
         standing.old).output)
         × (standing.new
-        ≡ (backlogCall table.now image.now lists.now out.old
+        ≡ (backlog_call table.now image.now lists.now out.old
         standing.old).standing)) }
 {
     let r = backlog_received(table, image, lists, out, *standing);
@@ -118,7 +118,7 @@ pub fn backlog_received(
     standing: Standing,
 ) -> Advance
     ensures { Advances
-        (backlogCall table.now image.now lists.now out.old standing) result
+        (backlog_call table.now image.now lists.now out.old standing) result
         out.new }
 {
     let known = outline(table);
@@ -178,7 +178,7 @@ fn count(standing: Standing, code: u8) -> Standing
 
 // Adds one; a full tally stays full.
 fn one_more(tally: u32) -> u32
-    ensures { result ≡ oneMore tally }
+    ensures { result ≡ one_more tally }
 {
     if tally < 4294967295 {
         return tally + 1;

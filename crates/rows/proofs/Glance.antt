@@ -12,14 +12,14 @@ use lib.Dec.{T, leb, eqb, eqb→eq}
 use lib.Pow.{pow_pos, pow-add, shl-shr, split, high, mod-pow-add}
 use Rattle.rows.specs.Rows.{Row}
 use Rattle.rows.specs.Values.{field_of, values_of}
-use Rattle.rows.specs.Marks.{admitsAll, marks, marked, carriesNone, Shows}
+use Rattle.rows.specs.Marks.{admits_all, marks, marked, carries_none, Shows}
 use Rattle.rows.proofs.Tests.{both_left, both_right}
 use Rattle.rows.proofs.Words.{Within}
-use Rattle.rows.proofs.Listed.{within-accepted}
+use Rattle.rows.proofs.Listed.{within_accepted}
 
 -- if no marked bit is 1, each marked bit is 0
-bit-clear : (x c p : ℕ) → bit_and x c ≡ 0 → c / 2 ^ p % 2 ≡ 1 → x / 2 ^ p % 2 ≡ 0
-bit-clear x c p h m =
+bit_clear : (x c p : ℕ) → bit_and x c ≡ 0 → c / 2 ^ p % 2 ≡ 1 → x / 2 ^ p % 2 ≡ 0
+bit_clear x c p h m =
     let b = x / 2 ^ p % 2 in
     let none : bit_and (x / 2 ^ p) (c / 2 ^ p) ≡ 0 =
     sym (and_shr x c p) ∙ ap (λ (n : ℕ). n / 2 ^ p) h ∙ zero-div (2 ^ p) in
@@ -28,8 +28,8 @@ bit-clear x c p h m =
     omega arith
 
 -- if bit p of a sum is the exclusive or of its parts' bits, nothing was carried into it: what is below didn't overflow
-no-carry : (w a p : ℕ) → bit_xor (bit_xor (w + a) w) a / 2 ^ p % 2 ≡ 0 → w % 2 ^ p + a % 2 ^ p < 2 ^ p
-no-carry w a p e = go (leb (2 ^ p) (w % 2 ^ p + a % 2 ^ p)) refl
+no_carry : (w a p : ℕ) → bit_xor (bit_xor (w + a) w) a / 2 ^ p % 2 ≡ 0 → w % 2 ^ p + a % 2 ^ p < 2 ^ p
+no_carry w a p e = go (leb (2 ^ p) (w % 2 ^ p + a % 2 ^ p)) refl
   where
     go : (b : Bool) → leb (2 ^ p) (w % 2 ^ p + a % 2 ^ p) ≡ b → w % 2 ^ p + a % 2 ^ p < 2 ^ p
     go false t = leb-false _ _ t
@@ -57,34 +57,34 @@ field_fits w a k d h =
     omega (arith, mod-pow-add w d k, mod-pow-add a d k, pow-add 2 d k, add-mul v u (2 ^ k)) in
     rw shl-shr at ((div-lt_iff_lt-mul {k = 2 ^ k} {x = (v + u) * 2 ^ k} {y = 2 ^ d} (pow_pos k)).1 less)
 
-module _ (w add carry : ℕ) (none : carriesNone add carry w ≡ true) where
+module _ (w add carry : ℕ) (none : carries_none add carry w ≡ true) where
   narrow : (r : Row) → T (marks add carry r) → field_of w r ≤ r.top
-  unfolding carriesNone
+  unfolding carries_none
   narrow r t =
       let sum = eqb (suc (add / 2 ^ r.low % 2 ^ r.width + r.top)) (2 ^ r.width) in
       let bit = eqb (carry / 2 ^ (r.width + r.low) % 2) 1 in
       let filled : suc (add / 2 ^ r.low % 2 ^ r.width + r.top) ≡ 2 ^ r.width = eqb→eq _ _ (both_left sum bit t) in
-      let clear = bit-clear _ carry (r.width + r.low) (eqb-true _ 0 none) (eqb→eq _ _ (both_right sum bit t)) in
-      let fits = field_fits w add r.low r.width (no-carry w add (r.width + r.low) clear) in
+      let clear = bit_clear _ carry (r.width + r.low) (eqb-true _ 0 none) (eqb→eq _ _ (both_right sum bit t)) in
+      let fits = field_fits w add r.low r.width (no_carry w add (r.width + r.low) clear) in
       omega arith
 
-  wide : (r : Row) → admitsAll r ≡ true → field_of w r ≤ r.top
+  wide : (r : Row) → admits_all r ≡ true → field_of w r ≤ r.top
   wide r e =
       let m : field_of w r < 2 ^ r.width = mod-lt (w / 2 ^ r.low) (pow_pos r.width) in
       omega (arith, eqb-true (suc r.top) (2 ^ r.width) e)
 
-  here : (r : Row) (b : Bool) → admitsAll r ≡ b → T (b || marks add carry r) → field_of w r ≤ r.top
+  here : (r : Row) (b : Bool) → admits_all r ≡ b → T (b || marks add carry r) → field_of w r ≤ r.top
   here r true e t = wide r e
   here r false e t = narrow r t
 
   within : (rs : List Row) → T (marked add carry rs) → Within rs (values_of w rs)
   within [] t = tt
   within (r ∷ rs) t =
-      let own = admitsAll r || marks add carry r in (
-        here r (admitsAll r) refl (both_left own (marked add carry rs) t),
+      let own = admits_all r || marks add carry r in (
+        here r (admits_all r) refl (both_left own (marked add carry rs) t),
         within rs (both_right own (marked add carry rs) t),
       )
 
 pub shows : (add carry : ℕ) {rs : List Row} {w : ℕ} {listed : Bool} → T (marked add carry rs)
-    → listed ≡ carriesNone add carry w → Shows rs w listed
-shows add carry {rs} {w} t e = record { accepted = λ on. within-accepted w rs (within w add carry (sym e ∙ on) rs t) }
+    → listed ≡ carries_none add carry w → Shows rs w listed
+shows add carry {rs} {w} t e = record { accepted = λ on. within_accepted w rs (within w add carry (sym e ∙ on) rs t) }

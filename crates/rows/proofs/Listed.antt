@@ -12,7 +12,7 @@ use lib.Dec.{T, leb, eqb, eqb→eq}
 use lib.ListN.{length, get_or, length-append, get_or-eq_default}
 use lib.Seq.{get_or-append_seam, append_snoc}
 use Rattle.rows.specs.Rows.{Row}
-use Rattle.rows.specs.Values.{code_at, field_of, fieldRead, onField, checkRows, values_of, composeOf, bitNo}
+use Rattle.rows.specs.Values.{code_at, field_of, field_read, on_field, check_rows, values_of, compose_of, bit_no}
 use Rattle.rows.specs.declared.Field.{Field}
 use Rattle.rows.specs.declared.Finding.{Finding}
 use Rattle.rows.specs.declared.Refusal.{Refusal}
@@ -23,9 +23,9 @@ use Rattle.rows.proofs.Words.{Within}
 abbrev pub listed : ℕ → ℕ → ℕ
 listed top v = cond (leb v top) v 0
 
-abbrev pub listedFrom : ℕ → List Row → List ℕ → List ℕ
-listedFrom k [] vs = []
-listedFrom k (r ∷ rs) vs = listed r.top (get_or vs k 0) ∷ listedFrom (suc k) rs vs
+abbrev pub listed_from : ℕ → List Row → List ℕ → List ℕ
+listed_from k [] vs = []
+listed_from k (r ∷ rs) vs = listed r.top (get_or vs k 0) ∷ listed_from (suc k) rs vs
 
 listed_le : (top v : ℕ) → listed top v ≤ top
 listed_le top v = go (leb v top) refl
@@ -37,47 +37,47 @@ listed_le top v = go (leb v top) refl
 listed_same : (top v : ℕ) → v ≤ top → listed top v ≡ v
 listed_same top v h = ap (λ (b : Bool). cond b v 0) (le-leb v top h)
 
-pub listed-within : (rs : List Row) (k : ℕ) (vs : List ℕ) → Within rs (listedFrom k rs vs)
-listed-within [] k vs = tt
-listed-within (r ∷ rs) k vs = (listed_le r.top (get_or vs k 0), listed-within rs (suc k) vs)
+pub listed_within : (rs : List Row) (k : ℕ) (vs : List ℕ) → Within rs (listed_from k rs vs)
+listed_within [] k vs = tt
+listed_within (r ∷ rs) k vs = (listed_le r.top (get_or vs k 0), listed_within rs (suc k) vs)
 
-pub listed-from : (rs : List Row) (pre us post : List ℕ) → Within rs us
-    → listedFrom (length pre) rs (pre ++ (us ++ post)) ≡ us
-listed-from [] pre [] post h = refl
-listed-from [] pre (u ∷ us) post h = absurd h
-listed-from (r ∷ rs) pre [] post h = absurd h
-listed-from (r ∷ rs) pre (u ∷ us) post h =
+pub listed_from_lem : (rs : List Row) (pre us post : List ℕ) → Within rs us
+    → listed_from (length pre) rs (pre ++ (us ++ post)) ≡ us
+listed_from_lem [] pre [] post h = refl
+listed_from_lem [] pre (u ∷ us) post h = absurd h
+listed_from_lem (r ∷ rs) pre [] post h = absurd h
+listed_from_lem (r ∷ rs) pre (u ∷ us) post h =
     let n : length (pre ++ (u ∷ [])) ≡ suc (length pre) = omega (arith, length-append pre (u ∷ [])) in
     ap₂ ◌∷◌
     (ap (listed r.top) (get_or-append_seam pre u (us ++ post) 0) ∙ listed_same r.top u h.0)
-    (ap₂ (λ (k : ℕ) (l : List ℕ). listedFrom k rs l) (sym n) (sym (append_snoc pre u (us ++ post)))
-    ∙ listed-from rs (pre ++ (u ∷ [])) us post h.1)
+    (ap₂ (λ (k : ℕ) (l : List ℕ). listed_from k rs l) (sym n) (sym (append_snoc pre u (us ++ post)))
+    ∙ listed_from_lem rs (pre ++ (u ∷ [])) us post h.1)
 
 -- a number is accepted exactly if each field's value is one that its row admits
-within_step : (w : ℕ) (r : Row) (next : Finding) → onField (fieldRead w r) next ≡ Finding.Accepted
+within_step : (w : ℕ) (r : Row) (next : Finding) → on_field (field_read w r) next ≡ Finding.Accepted
     → (field_of w r ≤ r.top) × (next ≡ Finding.Accepted)
 within_step w r next = go (leb (field_of w r) r.top) refl
   where
     go : (b : Bool) → leb (field_of w r) r.top ≡ b
-        → onField (cond b (Field.Value (field_of w r))
+        → on_field (cond b (Field.Value (field_of w r))
         (Field.Refused (code_at (cond (eqb r.top 0) 10 11) r.low))) next
         ≡ Finding.Accepted
         → (field_of w r ≤ r.top) × (next ≡ Finding.Accepted)
     go true e h = (leb-true _ _ e, h)
     go false e h = let z : ◌≡◌ {A = ℕ} 0 1 = cc in absurd (omega arith)
 
-pub accepted-within : (w : ℕ) (rs : List Row) → checkRows w rs ≡ Finding.Accepted → Within rs (values_of w rs)
-accepted-within w [] e = tt
-accepted-within w (r ∷ rs) e = let s = within_step w r (checkRows w rs) e in (s.0, accepted-within w rs s.1)
+pub accepted_within : (w : ℕ) (rs : List Row) → check_rows w rs ≡ Finding.Accepted → Within rs (values_of w rs)
+accepted_within w [] e = tt
+accepted_within w (r ∷ rs) e = let s = within_step w r (check_rows w rs) e in (s.0, accepted_within w rs s.1)
 
-pub within-accepted : (w : ℕ) (rs : List Row) → Within rs (values_of w rs) → checkRows w rs ≡ Finding.Accepted
-within-accepted w [] h = refl
-within-accepted w (r ∷ rs) h =
-    ap (λ (b : Bool). onField
+pub within_accepted : (w : ℕ) (rs : List Row) → Within rs (values_of w rs) → check_rows w rs ≡ Finding.Accepted
+within_accepted w [] h = refl
+within_accepted w (r ∷ rs) h =
+    ap (λ (b : Bool). on_field
     (cond b (Field.Value (field_of w r)) (Field.Refused (code_at (cond (eqb r.top 0) 10 11) r.low)))
-    (checkRows w rs))
+    (check_rows w rs))
     (le-leb _ _ h.0)
-    ∙ within-accepted w rs h.1
+    ∙ within_accepted w rs h.1
 
 -- ---- what is refused: the lowest field whose value is not listed, with code 10 if it is
 -- reserved and else 11, and its lowest bit
@@ -91,13 +91,13 @@ pub record FirstUnlisted (w : ℕ) (rs : List Row) (x : Refusal) : Type 0 where
   pub unlisted : row.top < field_of w row
   pub told : x ≡ code_at (cond (eqb row.top 0) 10 11) row.low
 
-pub names-first : (w : ℕ) (rs : List Row) {x : Refusal} → checkRows w rs ≡ Finding.Refused x → FirstUnlisted w rs x
-names-first w [] e = absurd (let z : ◌≡◌ {A = ℕ} 0 1 = cc in omega arith)
-names-first w (r ∷ rs) {x} e = go (leb (field_of w r) r.top) refl (names-first w rs) e
+pub names_first : (w : ℕ) (rs : List Row) {x : Refusal} → check_rows w rs ≡ Finding.Refused x → FirstUnlisted w rs x
+names_first w [] e = absurd (let z : ◌≡◌ {A = ℕ} 0 1 = cc in omega arith)
+names_first w (r ∷ rs) {x} e = go (leb (field_of w r) r.top) refl (names_first w rs) e
   where
-    go : (b : Bool) → leb (field_of w r) r.top ≡ b → (checkRows w rs ≡ Finding.Refused x → FirstUnlisted w rs x)
-        → onField (cond b (Field.Value (field_of w r)) (Field.Refused (code_at (cond (eqb r.top 0) 10 11) r.low)))
-        (checkRows w rs)
+    go : (b : Bool) → leb (field_of w r) r.top ≡ b → (check_rows w rs ≡ Finding.Refused x → FirstUnlisted w rs x)
+        → on_field (cond b (Field.Value (field_of w r)) (Field.Refused (code_at (cond (eqb r.top 0) 10 11) r.low)))
+        (check_rows w rs)
         ≡ Finding.Refused x
         → FirstUnlisted w (r ∷ rs) x
     go false t later e =
@@ -114,42 +114,42 @@ names-first w (r ∷ rs) {x} e = go (leb (field_of w r) r.top) refl (names-first
           told = q.told;
         }
 
-refuses-at : (w : ℕ) (bs : List Row) (r : Row) (as' : List Row) → Within bs (values_of w bs) → r.top < field_of w r
-    → checkRows w (bs ++ (r ∷ as')) ≡ Finding.Refused (code_at (cond (eqb r.top 0) 10 11) r.low)
-refuses-at w [] r as' h u = rw (lt-leb (field_of w r) r.top u)
-refuses-at w (b ∷ bs) r as' h u = rw (le-leb (field_of w b) b.top h.0) (refuses-at w bs r as' h.1 u)
+refuses_at : (w : ℕ) (bs : List Row) (r : Row) (as' : List Row) → Within bs (values_of w bs) → r.top < field_of w r
+    → check_rows w (bs ++ (r ∷ as')) ≡ Finding.Refused (code_at (cond (eqb r.top 0) 10 11) r.low)
+refuses_at w [] r as' h u = rw (lt-leb (field_of w r) r.top u)
+refuses_at w (b ∷ bs) r as' h u = rw (le-leb (field_of w b) b.top h.0) (refuses_at w bs r as' h.1 u)
 
-pub refuses-first : (w : ℕ) (rs : List Row) {x : Refusal} → FirstUnlisted w rs x → checkRows w rs ≡ Finding.Refused x
-refuses-first w rs q = rw (q.parts, q.told) (refuses-at w q.below q.row q.above q.listed q.unlisted)
+pub refuses_first : (w : ℕ) (rs : List Row) {x : Refusal} → FirstUnlisted w rs x → check_rows w rs ≡ Finding.Refused x
+refuses_first w rs q = rw (q.parts, q.told) (refuses_at w q.below q.row q.above q.listed q.unlisted)
 
 -- every field of the number 0 is 0, which every row admits
-zero-within : (rs : List Row) → Within rs (values_of 0 rs)
-zero-within [] = tt
-zero-within (r ∷ rs) =
-    (rw (zero-div (2 ^ r.low), zero-mod (2 ^ r.width)) zero-le, zero-within rs)
+zero_within : (rs : List Row) → Within rs (values_of 0 rs)
+zero_within [] = tt
+zero_within (r ∷ rs) =
+    (rw (zero-div (2 ^ r.low), zero-mod (2 ^ r.width)) zero-le, zero_within rs)
 
-pub zero-accepted : (rs : List Row) → checkRows 0 rs ≡ Finding.Accepted
-zero-accepted rs = within-accepted 0 rs (zero-within rs)
+pub zero_accepted : (rs : List Row) → check_rows 0 rs ≡ Finding.Accepted
+zero_accepted rs = within_accepted 0 rs (zero_within rs)
 
 -- what follows the values doesn't matter
-pub compose-append : (rs : List Row) (vs zs : List ℕ) → Within rs vs → composeOf rs (vs ++ zs) ≡ composeOf rs vs
-compose-append [] [] zs h = refl
-compose-append [] (v ∷ vs) zs h = absurd h
-compose-append (r ∷ rs) [] zs h = absurd h
-compose-append (r ∷ rs) (v ∷ vs) zs h = ap (λ (n : ℕ). v * 2 ^ r.low + n) (compose-append rs vs zs h.1)
+pub compose_append : (rs : List Row) (vs zs : List ℕ) → Within rs vs → compose_of rs (vs ++ zs) ≡ compose_of rs vs
+compose_append [] [] zs h = refl
+compose_append [] (v ∷ vs) zs h = absurd h
+compose_append (r ∷ rs) [] zs h = absurd h
+compose_append (r ∷ rs) (v ∷ vs) zs h = ap (λ (n : ℕ). v * 2 ^ r.low + n) (compose_append rs vs zs h.1)
 
 -- the named cases of a field have the numbers i, i + 1, ..
 abbrev pub numbered : {A : Type 0} → (A → ℕ) → ℕ → List A → Bool
 numbered num i [] = true
 numbered num i (a ∷ xs) = eqb (num a) i && numbered num (suc i) xs
 
-numbered-at : {A : Type 0} (num : A → ℕ) (xs : List A) (d : A) (i : ℕ) → T (numbered num i xs) → (v : ℕ) → v < length xs
+numbered_at : {A : Type 0} (num : A → ℕ) (xs : List A) (d : A) (i : ℕ) → T (numbered num i xs) → (v : ℕ) → v < length xs
     → num (get_or xs v d) ≡ i + v
-numbered-at num [] d i t v h = absurd (not-suc-le-zero h)
-numbered-at num (a ∷ xs) d i t zero h =
+numbered_at num [] d i t v h = absurd (not-suc-le-zero h)
+numbered_at num (a ∷ xs) d i t zero h =
     eqb→eq _ _ (both_left (eqb (num a) i) (numbered num (suc i) xs) t) ∙ sym (add-zero i)
-numbered-at num (a ∷ xs) d i t (suc v) h =
-    numbered-at num xs d (suc i) (both_right (eqb (num a) i) (numbered num (suc i) xs) t) v (le_of_suc-le-suc h)
+numbered_at num (a ∷ xs) d i t (suc v) h =
+    numbered_at num xs d (suc i) (both_right (eqb (num a) i) (numbered num (suc i) xs) t) v (le_of_suc-le-suc h)
     ∙ suc-add i v ∙ sym (add-suc i v)
 
 -- the number of the case of v is v if v is listed, else 0
@@ -158,20 +158,20 @@ pub named : {A : Type 0} (num : A → ℕ) (xs : List A) (d : A) (top : ℕ) →
 named num xs d top t n z v = go (leb v top) refl
   where
     go : (b : Bool) → leb v top ≡ b → num (get_or xs v d) ≡ cond b v 0
-    go true e = let h : v ≤ top = leb-true v top e in numbered-at num xs d 0 t v (omega arith) ∙ zero-add v
+    go true e = let h : v ≤ top = leb-true v top e in numbered_at num xs d 0 t v (omega arith) ∙ zero-add v
     go false e = let h : top < v = leb-false v top e in ap num (get_or-eq_default xs d (omega arith)) ∙ z
 
-pub bit-listed : (v : ℕ) → bitNo (eqb v 1) ≡ listed 1 v
-bit-listed zero = refl
-bit-listed (suc zero) = refl
-bit-listed (suc (suc n)) =
-    ap bitNo (ne_eqb (suc (suc n)) 1 (λ e. omega arith))
+pub bit_listed : (v : ℕ) → bit_no (eqb v 1) ≡ listed 1 v
+bit_listed zero = refl
+bit_listed (suc zero) = refl
+bit_listed (suc (suc n)) =
+    ap bit_no (ne_eqb (suc (suc n)) 1 (λ e. omega arith))
     ∙ sym (ap (λ (b : Bool). cond b (suc (suc n)) 0) (lt-leb (suc (suc n)) 1 (omega arith)))
 
-pub bit-back : (b : Bool) → eqb (bitNo b) 1 ≡ b
-bit-back true = refl
-bit-back false = refl
+pub bit_back : (b : Bool) → eqb (bit_no b) 1 ≡ b
+bit_back true = refl
+bit_back false = refl
 
-pub reserved-listed : (v : ℕ) → 0 ≡ listed 0 v
-reserved-listed zero = refl
-reserved-listed (suc n) = sym (ap (λ (b : Bool). cond b (suc n) 0) (lt-leb (suc n) 0 (omega arith)))
+pub reserved_listed : (v : ℕ) → 0 ≡ listed 0 v
+reserved_listed zero = refl
+reserved_listed (suc n) = sym (ap (λ (b : Bool). cond b (suc n) 0) (lt-leb (suc n) 0 (omega arith)))

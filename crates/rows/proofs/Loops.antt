@@ -11,9 +11,9 @@ use lib.Dec.{leb, eqb}
 use lib.ListN.{length, get_or, set, drop, replicate, length-append}
 use borrow.Author.Tests.{eq-eqb, ne_eqb}
 use lib.Seq.{set-append_seam, append_snoc, drop-cons}
-use Rattle.rows.specs.Rows.{Row, rowTotal, row_at, rows_from, number_at}
-use Rattle.rows.specs.Values.{field_of, fieldRead, onField, findingOf, checkRows, values_of, composeOf, filled}
-use Rattle.rows.specs.Values.{padded, onFinding, valuesRead, bearing}
+use Rattle.rows.specs.Rows.{Row, row_total, row_at, rows_from, number_at}
+use Rattle.rows.specs.Values.{field_of, field_read, on_field, finding_of, check_rows, values_of, compose_of, filled}
+use Rattle.rows.specs.Values.{padded, on_finding, values_read, bearing}
 use Rattle.rows.specs.declared.Refusal.{Refusal}
 use Rattle.rows.specs.declared.Field.{Field}
 use Rattle.rows.specs.declared.Finding.{Finding}
@@ -24,18 +24,18 @@ rows_snoc (suc n) i =
     ap (λ (l : List Row). row_at i ∷ l)
     (rows_snoc n (suc i) ∙ ap (λ (k : ℕ). rows_from (suc i) n ++ (row_at k ∷ [])) (suc-add i n ∙ sym (add-suc i n)))
 
-values-snoc : (w : ℕ) (rs : List Row) (r : Row) → values_of w (rs ++ (r ∷ [])) ≡ values_of w rs ++ (field_of w r ∷ [])
-values-snoc w [] r = refl
-values-snoc w (s ∷ rs) r = ap (λ (l : List ℕ). field_of w s ∷ l) (values-snoc w rs r)
+values_snoc : (w : ℕ) (rs : List Row) (r : Row) → values_of w (rs ++ (r ∷ [])) ≡ values_of w rs ++ (field_of w r ∷ [])
+values_snoc w [] r = refl
+values_snoc w (s ∷ rs) r = ap (λ (l : List ℕ). field_of w s ∷ l) (values_snoc w rs r)
 
 values_length : (w n i : ℕ) → length (values_of w (rows_from i n)) ≡ n
 values_length w zero i = refl
 values_length w (suc n) i = ap suc (values_length w n (suc i))
 
 -- a store at the first place that is still free
-pub fill-store : (n : ℕ) (vs : List ℕ) (v : ℕ) → length vs < n
+pub fill_store : (n : ℕ) (vs : List ℕ) (v : ℕ) → length vs < n
     → set (filled n vs) (length vs) v ≡ filled n (vs ++ (v ∷ []))
-fill-store n vs v h =
+fill_store n vs v h =
     let m = n - suc (length vs) in
     let e : n - length vs ≡ suc m = omega arith in
     let e' : n - length (vs ++ (v ∷ [])) ≡ m = omega (arith, length-append vs (v ∷ [])) in
@@ -56,52 +56,52 @@ picked : (b : Bool) (x v : ℕ) (r : Refusal) → cond b (Field.Value x) (Field.
 picked true x v r e = cc
 picked false x v r e = let z : ◌≡◌ {A = ℕ} 0 1 = cc in omega arith
 
-value-is : (w : ℕ) (r : Row) (v : ℕ) → fieldRead w r ≡ Field.Value v → v ≡ field_of w r
-value-is w r v e = picked (leb (field_of w r) r.top) (field_of w r) v _ e
+value_is : (w : ℕ) (r : Row) (v : ℕ) → field_read w r ≡ Field.Value v → v ≡ field_of w r
+value_is w r v e = picked (leb (field_of w r) r.top) (field_of w r) v _ e
 
 -- what both loops over fields keep: the rows to come decide what is found
 pub record Checking (w : ℕ) (all rest : List Row) : Type 0 where
-  pub to-come : checkRows w all ≡ checkRows w rest
+  pub to_come : check_rows w all ≡ check_rows w rest
 
 -- once the field f of the next row has been read
 module _ {w : ℕ} {all rest more : List Row} {r : Row} (c : Checking w all rest) (e : rest ≡ r ∷ more) {f : Field}
-    (q : f ≡ fieldRead w r) where
-  next : {g : Field} → f ≡ g → checkRows w all ≡ onField g (checkRows w more)
-  next t = c.to-come ∙ ap (checkRows w) e ∙ ap (λ (f : Field). onField f (checkRows w more)) (sym q ∙ t)
+    (q : f ≡ field_read w r) where
+  next : {g : Field} → f ≡ g → check_rows w all ≡ on_field g (check_rows w more)
+  next t = c.to-come ∙ ap (check_rows w) e ∙ ap (λ (f : Field). on_field f (check_rows w more)) (sym q ∙ t)
 
   pub goes_on : {v : ℕ} → f ≡ Field.Value v → Checking w all more
-  goes_on t = record { to-come = next t }
+  goes_on t = record { to_come = next t }
 
-pub checked : {w : ℕ} {all rest : List Row} → Checking w all rest → rest ≡ [] → Finding.Accepted ≡ checkRows w all
-checked {w} c e = sym (c.to-come ∙ ap (checkRows w) e)
+pub checked : {w : ℕ} {all rest : List Row} → Checking w all rest → rest ≡ [] → Finding.Accepted ≡ check_rows w all
+checked {w} c e = sym (c.to-come ∙ ap (check_rows w) e)
 
 -- the rows from i on that have this number: row i and those after it, or none
 module _ (number i : ℕ) where
-  bears : (b : Bool) → eqb (number_at i) number ≡ b → i < rowTotal
-      → bearing number i (rowTotal - i) ≡ cond b (row_at i ∷ bearing number (i + 1) (rowTotal - (i + 1))) []
+  bears : (b : Bool) → eqb (number_at i) number ≡ b → i < row_total
+      → bearing number i (row_total - i) ≡ cond b (row_at i ∷ bearing number (i + 1) (row_total - (i + 1))) []
   bears b e h =
-      let n : rowTotal - i ≡ suc (rowTotal - (i + 1)) = omega arith in
+      let n : row_total - i ≡ suc (row_total - (i + 1)) = omega arith in
       let i-is : suc i ≡ i + 1 = omega arith in
       ap (bearing number i) n
-      ∙ ap₂ (λ (b : Bool) (j : ℕ). cond b (row_at i ∷ bearing number j (rowTotal - (i + 1))) []) e i-is
+      ∙ ap₂ (λ (b : Bool) (j : ℕ). cond b (row_at i ∷ bearing number j (row_total - (i + 1))) []) e i-is
 
-  pub bears-next : {n : ℕ} → i < rowTotal → n ≡ number_at i → n ≡ number
-      → bearing number i (rowTotal - i) ≡ row_at i ∷ bearing number (i + 1) (rowTotal - (i + 1))
-  bears-next h is e = bears true (eq-eqb (number_at i) number (sym is ∙ e)) h
+  pub bears_next : {n : ℕ} → i < row_total → n ≡ number_at i → n ≡ number
+      → bearing number i (row_total - i) ≡ row_at i ∷ bearing number (i + 1) (row_total - (i + 1))
+  bears_next h is e = bears true (eq-eqb (number_at i) number (sym is ∙ e)) h
 
-  pub bears-none : {n : ℕ} → i < rowTotal → n ≡ number_at i → (n ≡ number → ⊥) → bearing number i (rowTotal - i) ≡ []
-  bears-none h is e = bears false (ne_eqb (number_at i) number (λ z. e (is ∙ z))) h
+  pub bears_none : {n : ℕ} → i < row_total → n ≡ number_at i → (n ≡ number → ⊥) → bearing number i (row_total - i) ≡ []
+  bears_none h is e = bears false (ne_eqb (number_at i) number (λ z. e (is ∙ z))) h
 
-  pub bears-end : rowTotal ≤ i → bearing number i (rowTotal - i) ≡ []
-  bears-end h =
-      let z : rowTotal - i ≡ 0 = omega arith in
+  pub bears_end : row_total ≤ i → bearing number i (row_total - i) ≡ []
+  bears_end h =
+      let z : row_total - i ≡ 0 = omega arith in
       ap (bearing number i) z
 
   -- the next row's field is refused
-  pub stops : {w n : ℕ} {all : List Row} {f : Field} {x : Refusal} → Checking w all (bearing number i (rowTotal - i))
-      → i < rowTotal → n ≡ number_at i → n ≡ number
-      → f ≡ fieldRead w (row_at i) → f ≡ Field.Refused x → findingOf f ≡ checkRows w all
-  stops c h is e q t = ap findingOf t ∙ sym (next c (bears-next h is e) q t)
+  pub stops : {w n : ℕ} {all : List Row} {f : Field} {x : Refusal} → Checking w all (bearing number i (row_total - i))
+      → i < row_total → n ≡ number_at i → n ≡ number
+      → f ≡ field_read w (row_at i) → f ≡ Field.Refused x → finding_of f ≡ check_rows w all
+  stops c h is e q t = ap finding_of t ∙ sym (next c (bears_next h is e) q t)
 
 -- what the reading loop keeps: the values so far, and that the rows to come decide
 pub record Reading (w first count : ℕ) (values : List ℕ) (k : ℕ) : Type 0 where
@@ -115,12 +115,12 @@ starts w first count =
     let e' : count - 0 ≡ count = omega arith in
     record {
       bound = omega arith;
-      checking = record { to-come = ap₂ (λ (i n : ℕ). checkRows w (rows_from i n)) (sym e) (sym e') };
+      checking = record { to_come = ap₂ (λ (i n : ℕ). check_rows w (rows_from i n)) (sym e) (sym e') };
       so_far = refl;
     }
 
 pub turn : {w first count : ℕ} {values : List ℕ} {k : ℕ} → Reading w first count values k → k < count → count ≤ 24
-    → {f : Field} → f ≡ fieldRead w (row_at (first + k))
+    → {f : Field} → f ≡ field_read w (row_at (first + k))
     → {v : ℕ} → f ≡ Field.Value v → Reading w first count (set values k v) (k + 1)
 turn {w} {first} {count} {values} {k} r h small q {v} t =
     let n = values_length w k first in
@@ -130,26 +130,26 @@ turn {w} {first} {count} {values} {k} r h small q {v} t =
       checking = goes_on r.checking (rows_next first count k h) q t;
       so_far =
           ap₂ (λ (l : List ℕ) (i : ℕ). set l i v) r.so_far (sym n)
-          ∙ fill-store 24 xs v (omega arith)
-          ∙ ap (λ (x : ℕ). padded (xs ++ (x ∷ []))) (value-is w (row_at (first + k)) v (sym q ∙ t))
-          ∙ ap padded (sym (values-snoc w (rows_from first k) (row_at (first + k)))
+          ∙ fill_store 24 xs v (omega arith)
+          ∙ ap (λ (x : ℕ). padded (xs ++ (x ∷ []))) (value_is w (row_at (first + k)) v (sym q ∙ t))
+          ∙ ap padded (sym (values_snoc w (rows_from first k) (row_at (first + k)))
           ∙ ap (values_of w) (sym (rows_snoc k first))
           ∙ ap (λ (j : ℕ). values_of w (rows_from first j)) (sym (add-one k)));
     }
 
 -- the values by the finding
 chosen : ℕ → List Row → Finding → List ℕ
-chosen w rs v = onFinding v (padded (values_of w rs)) (λ r. replicate 24 0)
+chosen w rs v = on_finding v (padded (values_of w rs)) (λ r. replicate 24 0)
 
 pub refused : {w first count : ℕ} {values : List ℕ} {k : ℕ} → Reading w first count values k → k < count → {f : Field}
-    → f ≡ fieldRead w (row_at (first + k)) → {x : Refusal} → f ≡ Field.Refused x
-    → replicate 24 0 ≡ valuesRead w (rows_from first count)
+    → f ≡ field_read w (row_at (first + k)) → {x : Refusal} → f ≡ Field.Refused x
+    → replicate 24 0 ≡ values_read w (rows_from first count)
 unfolding chosen
 refused {w} {first} {count} {values} {k} r h q t =
     sym (ap (chosen w (rows_from first count)) (next r.checking (rows_next first count k h) q t))
 
 pub ends : {w first count : ℕ} {values : List ℕ} {k : ℕ} → Reading w first count values k → count ≤ k
-    → values ≡ valuesRead w (rows_from first count)
+    → values ≡ values_read w (rows_from first count)
 unfolding chosen
 ends {w} {first} {count} {values} {k} r h =
     let e : k ≡ count = omega (arith, r.bound) in
@@ -161,28 +161,28 @@ ends {w} {first} {count} {values} {k} r h =
 -- what the composing loop keeps: the sum so far and what is still to come make the whole
 pub record Composing (vs : List ℕ) (first count word k : ℕ) : Type 0 where
   pub bound : k ≤ count
-  pub whole : word + composeOf (rows_from (first + k) (count - k)) (drop k vs) ≡ composeOf (rows_from first count) vs
+  pub whole : word + compose_of (rows_from (first + k) (count - k)) (drop k vs) ≡ compose_of (rows_from first count) vs
 
-pub compose-starts : (vs : List ℕ) (first count : ℕ) → Composing vs first count 0 0
-compose-starts vs first count =
+pub compose_starts : (vs : List ℕ) (first count : ℕ) → Composing vs first count 0 0
+compose_starts vs first count =
     let e : first + 0 ≡ first = omega arith in
     let e' : count - 0 ≡ count = omega arith in
-    record { bound = omega arith; whole = zero-add _ ∙ ap₂ (λ (i n : ℕ). composeOf (rows_from i n) vs) e e' }
+    record { bound = omega arith; whole = zero-add _ ∙ ap₂ (λ (i n : ℕ). compose_of (rows_from i n) vs) e e' }
 
 -- once the next row's lowest bit has been read: the machine's shift loses nothing, since the
 -- sum is below 2^32, and the next turn
 module _ {vs : List ℕ} {first count word k : ℕ} (r : Composing vs first count word k) (h : k < count) (few : count ≤ 24)
     (long : length vs ≡ 24)
-    (small : composeOf (rows_from first count) vs < 4294967296) {low : ℕ} (e : low ≡ (row_at (first + k)).low) where
+    (small : compose_of (rows_from first count) vs < 4294967296) {low : ℕ} (e : low ≡ (row_at (first + k)).low) where
   rest : ℕ
-  rest = composeOf (rows_from (first + (k + 1)) (count - (k + 1))) (drop (k + 1) vs)
+  rest = compose_of (rows_from (first + (k + 1)) (count - (k + 1))) (drop (k + 1) vs)
 
-  split : word + (get_or vs k 0 * 2 ^ low + rest) ≡ composeOf (rows_from first count) vs
+  split : word + (get_or vs k 0 * 2 ^ low + rest) ≡ compose_of (rows_from first count) vs
   unfolding rest
   split =
       ap (λ (n : ℕ). word + n)
       (sym
-      (ap₂ composeOf (rows_next first count k h)
+      (ap₂ compose_of (rows_next first count k h)
       (drop-cons vs k 0 (omega arith) ∙ ap (λ (j : ℕ). get_or vs k 0 ∷ drop j vs) (sym (add-one k)))
       ∙ ap (λ (l : ℕ). get_or vs k 0 * 2 ^ l + rest) (sym e)))
       ∙ r.whole
@@ -190,15 +190,15 @@ module _ {vs : List ℕ} {first count word k : ℕ} (r : Composing vs first coun
   exact : get_or vs k 0 * 2 ^ low % 4294967296 ≡ get_or vs k 0 * 2 ^ low
   exact = mod-eq_of_lt (omega (arith, split))
 
-  pub compose-fits : word + get_or vs k 0 * 2 ^ low % 4294967296 < 4294967296
-  compose-fits = rw exact (omega (arith, split))
+  pub compose_fits : word + get_or vs k 0 * 2 ^ low % 4294967296 < 4294967296
+  compose_fits = rw exact (omega (arith, split))
 
-  pub compose-turn : Composing vs first count (word + get_or vs k 0 * 2 ^ low % 4294967296) (k + 1)
+  pub compose_turn : Composing vs first count (word + get_or vs k 0 * 2 ^ low % 4294967296) (k + 1)
   unfolding rest
-  compose-turn = rw exact (record { bound = omega arith; whole = omega (arith, split) })
+  compose_turn = rw exact (record { bound = omega arith; whole = omega (arith, split) })
 
-pub compose-ends : {vs : List ℕ} {first count word k : ℕ} → Composing vs first count word k → count ≤ k
-    → word ≡ composeOf (rows_from first count) vs
-compose-ends {vs} {first} {count} {word} {k} r h =
+pub compose_ends : {vs : List ℕ} {first count word k : ℕ} → Composing vs first count word k → count ≤ k
+    → word ≡ compose_of (rows_from first count) vs
+compose_ends {vs} {first} {count} {word} {k} r h =
     let z : count - k ≡ 0 = omega arith in
-    sym (add-zero word) ∙ ap (λ (n : ℕ). word + composeOf (rows_from (first + k) n) (drop k vs)) (sym z) ∙ r.whole
+    sym (add-zero word) ∙ ap (λ (n : ℕ). word + compose_of (rows_from (first + k) n) (drop k vs)) (sym z) ∙ r.whole

@@ -7,7 +7,7 @@ use native.Mathlib.Nat.{one-mul, mod-eq_of_lt}
 use lib.Pow.{pow-lt}
 use lib.Dec.{T, leb, ltb, leb→le, ltb→lt}
 use Rattle.rows.specs.Rows.{Row}
-use Rattle.rows.specs.Covering.{rowGood}
+use Rattle.rows.specs.Covering.{row_good}
 use Rattle.rows.proofs.Tests.{both_left, both_right}
 
 pub record Good (r : Row) : Type 0 where
@@ -16,7 +16,7 @@ pub record Good (r : Row) : Type 0 where
   pub within : r.low + r.width ≤ 32
   pub admits : r.top < 2 ^ r.width
 
-pub good : (r : Row) → T (rowGood r) → Good r
+pub good : (r : Row) → T (row_good r) → Good r
 good r t =
     let size = ltb 0 r.width && ltb r.width 32 in
     let range = leb (r.low + r.width) 32 && ltb r.top (2 ^ r.width) in

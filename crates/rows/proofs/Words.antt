@@ -12,24 +12,24 @@ use native.Mathlib.Numerals.{add-one-le}
 use lib.Pow.{pow_pos, pow-add, shr-shr, split, high, low}
 use lib.Dec.{T, eqb, eqb→eq}
 use Rattle.rows.specs.Rows.{Row}
-use Rattle.rows.specs.Values.{values_of, composeOf}
-use Rattle.rows.specs.Covering.{rowGood, tiles}
+use Rattle.rows.specs.Values.{values_of, compose_of}
+use Rattle.rows.specs.Covering.{row_good, tiles}
 use Rattle.rows.proofs.Tests.{both_left, both_right}
 use Rattle.rows.proofs.Rows.{Good, good}
 
 -- what a passed covering test says of the first row and of the rest
 pub record Tiled (at : ℕ) (r : Row) (rs : List Row) (end : ℕ) : Type 0 where
   pub starts : r.low ≡ at
-  pub is-good : Good r
+  pub is_good : Good r
   pub rest : T (tiles (at + r.width) rs end)
 
 pub tiled : (at : ℕ) (r : Row) (rs : List Row) (end : ℕ) → T (tiles at (r ∷ rs) end) → Tiled at r rs end
 tiled at r rs end t =
-    let a = both_left (eqb r.low at && rowGood r) (tiles (at + r.width) rs end) t in
+    let a = both_left (eqb r.low at && row_good r) (tiles (at + r.width) rs end) t in
     record {
-      starts = eqb→eq _ _ (both_left (eqb r.low at) (rowGood r) a);
-      is-good = good r (both_right (eqb r.low at) (rowGood r) a);
-      rest = both_right (eqb r.low at && rowGood r) (tiles (at + r.width) rs end) t;
+      starts = eqb→eq _ _ (both_left (eqb r.low at) (row_good r) a);
+      is_good = good r (both_right (eqb r.low at) (row_good r) a);
+      rest = both_right (eqb r.low at && row_good r) (tiles (at + r.width) rs end) t;
     }
 
 -- each value is one that its row admits
@@ -49,23 +49,23 @@ join q a d =
     ∙ ap (λ (p : ℕ). p * 2 ^ a) (omega arith)
 
 -- the fields of w compose to w
-compose-from : (rs : List Row) (at end w : ℕ) → T (tiles at rs end) → w < 2 ^ end
-    → composeOf rs (values_of w rs) ≡ w / 2 ^ at * 2 ^ at
-compose-from [] at end w t h =
+compose_from : (rs : List Row) (at end w : ℕ) → T (tiles at rs end) → w < 2 ^ end
+    → compose_of rs (values_of w rs) ≡ w / 2 ^ at * 2 ^ at
+compose_from [] at end w t h =
     let e : at ≡ end = eqb→eq at end t in
     sym (ap (λ (q : ℕ). q * 2 ^ at) (div-eq_of_lt (rw e h)) ∙ zero-mul (2 ^ at))
-compose-from (r ∷ rs) at end w t h =
+compose_from (r ∷ rs) at end w t h =
     let g = tiled at r rs end t in
-    let ih = compose-from rs (at + r.width) end w g.rest h in
+    let ih = compose_from rs (at + r.width) end w g.rest h in
     ap₂ (λ (l c : ℕ). (w / 2 ^ l % 2 ^ r.width) * 2 ^ l + c) g.starts
     (ih ∙ ap (λ (q : ℕ). q * 2 ^ (at + r.width)) (sym (shr-shr w at r.width)))
     ∙ join (w / 2 ^ at) at r.width
 
-pub compose-values : (rs : List Row) (end w : ℕ) → T (tiles 0 rs end) → w < 2 ^ end → composeOf rs (values_of w rs) ≡ w
-compose-values rs end w t h = compose-from rs 0 end w t h ∙ simp (div-one, mul-one)
+pub compose_values : (rs : List Row) (end w : ℕ) → T (tiles 0 rs end) → w < 2 ^ end → compose_of rs (values_of w rs) ≡ w
+compose_values rs end w t h = compose_from rs 0 end w t h ∙ simp (div-one, mul-one)
 
 -- a composed number has nothing below the first row's bit
-divides : (rs : List Row) (vs : List ℕ) (at end : ℕ) → T (tiles at rs end) → (y : ℕ) × (composeOf rs vs ≡ y * 2 ^ at)
+divides : (rs : List Row) (vs : List ℕ) (at end : ℕ) → T (tiles at rs end) → (y : ℕ) × (compose_of rs vs ≡ y * 2 ^ at)
 divides [] vs at end t = (0, sym (zero-mul (2 ^ at)))
 divides (r ∷ rs) [] at end t = (0, sym (zero-mul (2 ^ at)))
 divides (r ∷ rs) (v ∷ vs) at end t =
@@ -86,30 +86,30 @@ below_next v a d h =
     (mul-le-mul_right (2 ^ a) (add-one-le h)))
 
 -- a composed number fits the bits that its rows cover
-pub compose-bound : (rs : List Row) (vs : List ℕ) (at end : ℕ) → T (tiles at rs end) → Within rs vs
-    → composeOf rs vs + 2 ^ at ≤ 2 ^ end
-compose-bound [] [] at end t h = rw (eqb→eq at end t) (omega arith)
-compose-bound [] (v ∷ vs) at end t h = absurd h
-compose-bound (r ∷ rs) [] at end t h = absurd h
-compose-bound (r ∷ rs) (v ∷ vs) at end t h =
+pub compose_bound : (rs : List Row) (vs : List ℕ) (at end : ℕ) → T (tiles at rs end) → Within rs vs
+    → compose_of rs vs + 2 ^ at ≤ 2 ^ end
+compose_bound [] [] at end t h = rw (eqb→eq at end t) (omega arith)
+compose_bound [] (v ∷ vs) at end t h = absurd h
+compose_bound (r ∷ rs) [] at end t h = absurd h
+compose_bound (r ∷ rs) (v ∷ vs) at end t h =
     let g = tiled at r rs end t in
-    let ih = compose-bound rs vs (at + r.width) end g.rest h.1 in
+    let ih = compose_bound rs vs (at + r.width) end g.rest h.1 in
     let b : v * 2 ^ at + 2 ^ at ≤ 2 ^ (at + r.width) =
-    below_next v at r.width (lt_of_le_of_lt h.0 g.is-good.admits) in
+    below_next v at r.width (lt_of_le_of_lt h.0 g.is_good.admits) in
     rw g.starts (omega arith)
 
 -- the fields of a composed number, with anything below the first row's bit, are the values
-values-from : (rs : List Row) (vs : List ℕ) (at end lo : ℕ) → T (tiles at rs end) → Within rs vs → lo < 2 ^ at
-    → values_of (lo + composeOf rs vs) rs ≡ vs
-values-from [] [] at end lo t h l = refl
-values-from [] (v ∷ vs) at end lo t h l = absurd h
-values-from (r ∷ rs) [] at end lo t h l = absurd h
-values-from (r ∷ rs) (v ∷ vs) at end lo t h l =
+values_from : (rs : List Row) (vs : List ℕ) (at end lo : ℕ) → T (tiles at rs end) → Within rs vs → lo < 2 ^ at
+    → values_of (lo + compose_of rs vs) rs ≡ vs
+values_from [] [] at end lo t h l = refl
+values_from [] (v ∷ vs) at end lo t h l = absurd h
+values_from (r ∷ rs) [] at end lo t h l = absurd h
+values_from (r ∷ rs) (v ∷ vs) at end lo t h l =
     let g = tiled at r rs end t in
     let y = divides rs vs (at + r.width) end g.rest in
     let d = r.width in
-    let c = composeOf rs vs in
-    let small : v < 2 ^ d = lt_of_le_of_lt h.0 g.is-good.admits in
+    let c = compose_of rs vs in
+    let small : v < 2 ^ d = lt_of_le_of_lt h.0 g.is_good.admits in
     let b : v * 2 ^ at + 2 ^ at ≤ 2 ^ (at + d) = below_next v at d small in
     let whole : lo + (v * 2 ^ at + c) ≡ (y.0 * 2 ^ d + v) * 2 ^ at + lo =
     ap (λ (p : ℕ). lo + (v * 2 ^ at + p))
@@ -120,12 +120,12 @@ values-from (r ∷ rs) (v ∷ vs) at end lo t h l =
     ap (λ (p : ℕ). p / 2 ^ at % 2 ^ d) whole ∙ ap (λ (p : ℕ). p % 2 ^ d) (high (y.0 * 2 ^ d + v) at l)
     ∙ low y.0 d small in
     let rest : values_of (lo + v * 2 ^ at + c) rs ≡ vs =
-    values-from rs vs (at + d) end (lo + v * 2 ^ at) g.rest h.1 (omega arith) in
+    values_from rs vs (at + d) end (lo + v * 2 ^ at) g.rest h.1 (omega arith) in
     ap₂ ◌∷◌
     (ap (λ (k : ℕ). (lo + (v * 2 ^ k + c)) / 2 ^ k % 2 ^ d) g.starts ∙ here)
     (ap (λ (p : ℕ). values_of p rs)
     (ap (λ (k : ℕ). lo + (v * 2 ^ k + c)) g.starts ∙ sym (add_assoc lo (v * 2 ^ at) c)) ∙ rest)
 
-pub values-compose : (rs : List Row) (vs : List ℕ) (end : ℕ) → T (tiles 0 rs end) → Within rs vs
-    → values_of (composeOf rs vs) rs ≡ vs
-values-compose rs vs end t h = rw zero-add at (values-from rs vs 0 end 0 t h (pow_pos 0))
+pub values_compose : (rs : List Row) (vs : List ℕ) (end : ℕ) → T (tiles 0 rs end) → Within rs vs
+    → values_of (compose_of rs vs) rs ≡ vs
+values_compose rs vs end t h = rw zero-add at (values_from rs vs 0 end 0 t h (pow_pos 0))

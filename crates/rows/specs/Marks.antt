@@ -4,12 +4,12 @@
 use Rattle.std.specs.Prelude.{◌≡◌, Bool, true, ◌&&◌, ◌||◌, List, [], ◌∷◌, ℕ, suc, ◌+◌, ◌/◌, ◌%◌, ◌^◌, eqb}
 use Rattle.std.specs.Int.Bits.{bit_and, bit_xor}
 use Rattle.rows.specs.Rows.{Row}
-use Rattle.rows.specs.Values.{checkRows}
+use Rattle.rows.specs.Values.{check_rows}
 use Rattle.rows.specs.declared.Finding.{Finding}
 
 -- the row admits every value that its field can hold
-abbrev pub admitsAll : Row → Bool
-admitsAll r = eqb (suc r.top) (2 ^ r.width)
+abbrev pub admits_all : Row → Bool
+admits_all r = eqb (suc r.top) (2 ^ r.width)
 
 -- a row's marks: the highest listed value plus what is added fills the field, and the bit above the field is marked
 abbrev pub marks : ℕ → ℕ → Row → Bool
@@ -18,13 +18,13 @@ marks add carry r =
 
 abbrev pub marked : ℕ → ℕ → List Row → Bool
 marked add carry [] = true
-marked add carry (r ∷ rs) = (admitsAll r || marks add carry r) && marked add carry rs
+marked add carry (r ∷ rs) = (admits_all r || marks add carry r) && marked add carry rs
 
 -- nothing is carried into a marked bit
-unfoldable pub carriesNone : ℕ → ℕ → ℕ → Bool
-carriesNone add carry w = eqb (bit_and (bit_xor (bit_xor (w + add) w) add) carry) 0
+unfoldable pub carries_none : ℕ → ℕ → ℕ → Bool
+carries_none add carry w = eqb (bit_and (bit_xor (bit_xor (w + add) w) add) carry) 0
 
 -- what a glance says: that each field has a listed value, or nothing. One direction is enough:
 -- where it says nothing, the rows decide.
 pub record Shows (rs : List Row) (w : ℕ) (listed : Bool) : Type 0 where
-  pub accepted : listed ≡ true → checkRows w rs ≡ Finding.Accepted
+  pub accepted : listed ≡ true → check_rows w rs ≡ Finding.Accepted

@@ -5,8 +5,8 @@
 use Rattle.std.specs.Prelude.{Bool, true, false, List, [], ◌∷◌, ℕ, zero, suc, ◌+◌, ◌*◌, get_or}
 use Rattle.rows.specs.declared.Layout.{Layout}
 
-abbrev pub rowTotal : ℕ
-rowTotal = 131
+abbrev pub row_total : ℕ
+row_total = 131
 
 unfoldable pub cells : List ℕ
 cells =
@@ -163,8 +163,8 @@ layouts =
     []
 
 -- the layout at a place; past the end, one without rows
-abbrev pub layoutAt : ℕ → Layout
-layoutAt i = get_or layouts i (layout 0 0 0 0 false)
+abbrev pub layout_at : ℕ → Layout
+layout_at i = get_or layouts i (layout 0 0 0 0 false)
 
 -- a row: a field's lowest bit, its width and its highest admitted value
 pub record Row : Type 0 where

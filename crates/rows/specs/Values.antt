@@ -14,21 +14,21 @@ abbrev pub code_at : ℕ → ℕ → Refusal
 code_at code bit = record { code = code; bit = bit }
 
 -- one field: its value, or 10 (reserved bit 1) or 11 (value not listed) with the field's lowest bit
-abbrev pub fieldRead : ℕ → Row → Field
-fieldRead w r =
+abbrev pub field_read : ℕ → Row → Field
+field_read w r =
     cond (leb (field_of w r) r.top)
     (Field.Value (field_of w r))
     (Field.Refused (code_at (cond (eqb r.top 0) 10 11) r.low))
 
 -- a refused field is the answer at once
-abbrev pub onField : Field → Finding → Finding
-onField (Field.Value v) rest = rest
-onField (Field.Refused r) rest = Finding.Refused r
+abbrev pub on_field : Field → Finding → Finding
+on_field (Field.Value v) rest = rest
+on_field (Field.Refused r) rest = Finding.Refused r
 
 -- the fields from bit 0 up: the first that is refused
-abbrev pub checkRows : ℕ → List Row → Finding
-checkRows w [] = Finding.Accepted
-checkRows w (r ∷ rs) = onField (fieldRead w r) (checkRows w rs)
+abbrev pub check_rows : ℕ → List Row → Finding
+check_rows w [] = Finding.Accepted
+check_rows w (r ∷ rs) = on_field (field_read w r) (check_rows w rs)
 
 -- the rows that the check of a number reads: at most n from row i on, as long as they have the layout's number
 abbrev pub bearing : ℕ → ℕ → ℕ → List Row
@@ -40,10 +40,10 @@ values_of w [] = []
 values_of w (r ∷ rs) = field_of w r ∷ values_of w rs
 
 -- the number whose fields, by the rows, are the values
-abbrev pub composeOf : List Row → List ℕ → ℕ
-composeOf [] vs = 0
-composeOf (r ∷ rs) [] = 0
-composeOf (r ∷ rs) (v ∷ vs) = v * 2 ^ r.low + composeOf rs vs
+abbrev pub compose_of : List Row → List ℕ → ℕ
+compose_of [] vs = 0
+compose_of (r ∷ rs) [] = 0
+compose_of (r ∷ rs) (v ∷ vs) = v * 2 ^ r.low + compose_of rs vs
 
 -- the values in the first of n places and zeros after them; an element has 24 places
 abbrev pub filled : ℕ → List ℕ → List ℕ
@@ -52,19 +52,19 @@ filled n vs = vs ++ replicate (n - length vs) 0
 abbrev pub padded : List ℕ → List ℕ
 padded vs = filled 24 vs
 
-abbrev pub onFinding : {A : Type 0} → Finding → A → (Refusal → A) → A
-onFinding Finding.Accepted good bad = good
-onFinding (Finding.Refused r) good bad = bad r
+abbrev pub on_finding : {A : Type 0} → Finding → A → (Refusal → A) → A
+on_finding Finding.Accepted good bad = good
+on_finding (Finding.Refused r) good bad = bad r
 
 -- the values as they are read: all zeros if a field is refused
-abbrev pub valuesRead : ℕ → List Row → List ℕ
-valuesRead w rs = onFinding (checkRows w rs) (padded (values_of w rs)) (λ r. replicate 24 0)
+abbrev pub values_read : ℕ → List Row → List ℕ
+values_read w rs = on_finding (check_rows w rs) (padded (values_of w rs)) (λ r. replicate 24 0)
 
 -- what is found of one field
-abbrev pub findingOf : Field → Finding
-findingOf f = onField f Finding.Accepted
+abbrev pub finding_of : Field → Finding
+finding_of f = on_field f Finding.Accepted
 
 -- a bit as a number
-abbrev pub bitNo : Bool → ℕ
-bitNo true = 1
-bitNo false = 0
+abbrev pub bit_no : Bool → ℕ
+bit_no true = 1
+bit_no false = 0

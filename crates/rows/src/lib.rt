@@ -4,9 +4,9 @@
 mod catalogue;
 
 ghost use Rattle.std.specs.Prelude.{◌≡◌, ◌<◌, ◌≤◌, ◌+◌, ◌-◌, ◌*◌};
-ghost use Rattle.rows.specs.Rows.{cells, rowTotal, cell_at, row_at, rows_from};
-ghost use Rattle.rows.specs.Values.{fieldRead, findingOf, checkRows, valuesRead, composeOf, bearing};
-ghost use Rattle.rows.specs.Marks.{carriesNone};
+ghost use Rattle.rows.specs.Rows.{cells, row_total, cell_at, row_at, rows_from};
+ghost use Rattle.rows.specs.Values.{field_read, finding_of, check_rows, values_read, compose_of, bearing};
+ghost use Rattle.rows.specs.Marks.{carries_none};
 
 pub use catalogue::Cells;
 use catalogue::{ROW_TOTAL, ROWS};
@@ -59,7 +59,7 @@ pub fn cells() -> Cells
 
 // The number at a place: four for each row.
 pub fn cell(rows: &Cells, place: usize) -> u8
-    requires { (rows.now ≡ cells) × (place < 4 * rowTotal) }
+    requires { (rows.now ≡ cells) × (place < 4 * row_total) }
     ensures { result ≡ cell_at place }
 {
     rows[place]
@@ -67,8 +67,8 @@ pub fn cell(rows: &Cells, place: usize) -> u8
 
 // The field of an element's number that a row describes.
 fn read_field(rows: &Cells, word: u32, row: usize) -> Field
-    requires { (rows.now ≡ cells) × (row < rowTotal) }
-    ensures { result ≡ fieldRead word (row_at row) }
+    requires { (rows.now ≡ cells) × (row < row_total) }
+    ensures { result ≡ field_read word (row_at row) }
 {
     let low = cell(rows, 4 * row + 1);
     let width = cell(rows, 4 * row + 2);
@@ -86,7 +86,7 @@ fn read_field(rows: &Cells, word: u32, row: usize) -> Field
 
 // What is found of one field.
 fn finding_of(field: Field) -> Finding
-    ensures { result ≡ findingOf field }
+    ensures { result ≡ finding_of field }
 {
     match field {
         Field::Value(_) => Finding::Accepted,
@@ -96,8 +96,8 @@ fn finding_of(field: Field) -> Finding
 
 // The values by the rows first, first + 1, .. of an element's number, in their order; all zeros if a field is refused.
 pub fn read_rows(word: u32, first: usize, count: usize) -> [u32; 24]
-    requires { (first + count ≤ rowTotal) × (count ≤ 24) }
-    ensures { result ≡ valuesRead word (rows_from first count) }
+    requires { (first + count ≤ row_total) × (count ≤ 24) }
+    ensures { result ≡ values_read word (rows_from first count) }
 {
     let rows = cells();
     let mut values = [0u32; 24];
@@ -116,7 +116,7 @@ pub fn read_rows(word: u32, first: usize, count: usize) -> [u32; 24]
 // What is found of an element's number by its layout: the rows from the first on, as long as
 // they have the layout's number.
 pub fn check_rows(word: u32, number: u8, first: usize) -> Finding
-    ensures { result ≡ checkRows word (bearing number first (rowTotal - first)) }
+    ensures { result ≡ check_rows word (bearing number first (row_total - first)) }
 {
     let rows = cells();
     let mut row = first;
@@ -136,7 +136,7 @@ pub fn check_rows(word: u32, number: u8, first: usize) -> Finding
 // Whether adding the marks to an element's number carries nothing into a marked bit. With the marks of its rows, each
 // field then has a listed value.
 pub fn carries_none(word: u32, marks: Marks) -> bool
-    ensures { result ≡ carriesNone marks.add marks.carry word }
+    ensures { result ≡ carries_none marks.add marks.carry word }
 {
     let number = word as u64;
     let more = marks.add as u64;
@@ -146,8 +146,8 @@ pub fn carries_none(word: u32, marks: Marks) -> bool
 
 // The number whose fields, by the rows first, first + 1, .., are the values.
 pub fn compose_rows(values: [u32; 24], first: usize, count: usize) -> u32
-    requires { (first + count ≤ rowTotal) × (count ≤ 24) × (composeOf (rows_from first count) values < 4294967296) }
-    ensures { result ≡ composeOf (rows_from first count) values }
+    requires { (first + count ≤ row_total) × (count ≤ 24) × (compose_of (rows_from first count) values < 4294967296) }
+    ensures { result ≡ compose_of (rows_from first count) values }
 {
     let rows = cells();
     let mut word: u32 = 0;

@@ -7,25 +7,25 @@ use Prim.Native.Nat.{ℕ}
 use lib.ListN.{get_or}
 use Rattle.rows.specs.Rows.{cells, rows_from}
 use Rattle.rows.specs.Values.{padded}
-use Rattle.rows.proofs.Listed.{listedFrom, bit-listed, bit-back, reserved-listed}
-use Rattle.cases.proofs.CaseLaws.{signalKind-listed, signalKind-back, signalAspect-listed, signalAspect-back}
-use Rattle.cases.proofs.CaseLaws.{mixedGaugeIndication-listed, mixedGaugeIndication-back, autoRouteIndication-listed}
-use Rattle.cases.proofs.CaseLaws.{autoRouteIndication-back, changerAspect-listed, changerAspect-back}
-use Rattle.cases.proofs.CaseLaws.{boardAspect-listed, boardAspect-back, sectionOccupancy-listed, sectionOccupancy-back}
-use Rattle.cases.proofs.CaseLaws.{overlap-listed, overlap-back, gaugePresence-listed, gaugePresence-back}
-use Rattle.cases.proofs.CaseLaws.{pointsSectionOccupancy-listed, pointsSectionOccupancy-back, legOccupancy-listed}
-use Rattle.cases.proofs.CaseLaws.{legOccupancy-back, legShown-listed, legShown-back, pointsDetection-listed}
-use Rattle.cases.proofs.CaseLaws.{pointsDetection-back, pointsLocking-listed, pointsLocking-back}
-use Rattle.cases.proofs.CaseLaws.{heaterIndication-listed, heaterIndication-back, earthFaultIndication-listed}
-use Rattle.cases.proofs.CaseLaws.{earthFaultIndication-back, boundaryMovement-listed, boundaryMovement-back}
-use Rattle.cases.proofs.CaseLaws.{autoRoute-listed, autoRoute-back, routerIndication-listed, routerIndication-back}
-use Rattle.states.specs.States.{signalOf, signalValues, changerSignalOf, changerSignalValues, virtualBoardOf}
-use Rattle.states.specs.States.{virtualBoardValues, lineTrackCircuitOf, lineTrackCircuitValues}
-use Rattle.states.specs.States.{pointsTrackCircuitOf, pointsTrackCircuitValues, crossingTrackCircuitOf}
-use Rattle.states.specs.States.{crossingTrackCircuitValues, dualDetectionOf, dualDetectionValues, points_of}
-use Rattle.states.specs.States.{pointsValues, electricLockOf, electricLockValues, generalNoticesOf}
-use Rattle.states.specs.States.{generalNoticesValues, controlBoundaryOf, controlBoundaryValues, signalV3Of}
-use Rattle.states.specs.States.{signalV3Values}
+use Rattle.rows.proofs.Listed.{listed_from, bit_listed, bit_back, reserved_listed}
+use Rattle.cases.proofs.CaseLaws.{signal_kind_listed, signal_kind_back, signal_aspect_listed, signal_aspect_back}
+use Rattle.cases.proofs.CaseLaws.{mixed_gauge_indication_listed, mixed_gauge_indication_back, auto_route_indication_listed}
+use Rattle.cases.proofs.CaseLaws.{auto_route_indication_back, changer_aspect_listed, changer_aspect_back}
+use Rattle.cases.proofs.CaseLaws.{board_aspect_listed, board_aspect_back, section_occupancy_listed, section_occupancy_back}
+use Rattle.cases.proofs.CaseLaws.{overlap_listed, overlap_back, gauge_presence_listed, gauge_presence_back}
+use Rattle.cases.proofs.CaseLaws.{points_section_occupancy_listed, points_section_occupancy_back, leg_occupancy_listed}
+use Rattle.cases.proofs.CaseLaws.{leg_occupancy_back, leg_shown_listed, leg_shown_back, points_detection_listed}
+use Rattle.cases.proofs.CaseLaws.{points_detection_back, points_locking_listed, points_locking_back}
+use Rattle.cases.proofs.CaseLaws.{heater_indication_listed, heater_indication_back, earth_fault_indication_listed}
+use Rattle.cases.proofs.CaseLaws.{earth_fault_indication_back, boundary_movement_listed, boundary_movement_back}
+use Rattle.cases.proofs.CaseLaws.{auto_route_listed, auto_route_back, router_indication_listed, router_indication_back}
+use Rattle.states.specs.States.{signal_of, signal_values, changer_signal_of, changer_signal_values, virtual_board_of}
+use Rattle.states.specs.States.{virtual_board_values, line_track_circuit_of, line_track_circuit_values}
+use Rattle.states.specs.States.{points_track_circuit_of, points_track_circuit_values, crossing_track_circuit_of}
+use Rattle.states.specs.States.{crossing_track_circuit_values, dual_detection_of, dual_detection_values, points_of}
+use Rattle.states.specs.States.{points_values, electric_lock_of, electric_lock_values, general_notices_of}
+use Rattle.states.specs.States.{general_notices_values, control_boundary_of, control_boundary_values, signal_v3_of}
+use Rattle.states.specs.States.{signal_v3_values}
 use Rattle.states.specs.declared.signal.Signal.{Signal}
 use Rattle.states.specs.declared.changer_signal.ChangerSignal.{ChangerSignal}
 use Rattle.states.specs.declared.virtual_board.VirtualBoard.{VirtualBoard}
@@ -39,376 +39,376 @@ use Rattle.states.specs.declared.general_notices.GeneralNotices.{GeneralNotices}
 use Rattle.states.specs.declared.control_boundary.ControlBoundary.{ControlBoundary}
 use Rattle.states.specs.declared.signal_v3.SignalV3.{SignalV3}
 
-pub signal-listed : (vs : List ℕ) → signalValues (signalOf vs) ≡ listedFrom 0 (rows_from 0 24) vs
+pub signal_listed : (vs : List ℕ) → signal_values (signal_of vs) ≡ listed_from 0 (rows_from 0 24) vs
 unfolding cells
-signal-listed vs =
+signal_listed vs =
     λ i.
-    bit-listed (get_or vs 0 0) i ∷
-    signalKind-listed (get_or vs 1 0) i ∷
-    signalAspect-listed (get_or vs 2 0) i ∷
-    bit-listed (get_or vs 3 0) i ∷
-    bit-listed (get_or vs 4 0) i ∷
-    bit-listed (get_or vs 5 0) i ∷
-    bit-listed (get_or vs 6 0) i ∷
-    bit-listed (get_or vs 7 0) i ∷
-    bit-listed (get_or vs 8 0) i ∷
-    bit-listed (get_or vs 9 0) i ∷
-    bit-listed (get_or vs 10 0) i ∷
-    bit-listed (get_or vs 11 0) i ∷
-    bit-listed (get_or vs 12 0) i ∷
-    bit-listed (get_or vs 13 0) i ∷
-    bit-listed (get_or vs 14 0) i ∷
-    bit-listed (get_or vs 15 0) i ∷
-    bit-listed (get_or vs 16 0) i ∷
-    bit-listed (get_or vs 17 0) i ∷
-    bit-listed (get_or vs 18 0) i ∷
-    mixedGaugeIndication-listed (get_or vs 19 0) i ∷
-    bit-listed (get_or vs 20 0) i ∷
-    bit-listed (get_or vs 21 0) i ∷
-    autoRouteIndication-listed (get_or vs 22 0) i ∷
-    reserved-listed (get_or vs 23 0) i ∷
+    bit_listed (get_or vs 0 0) i ∷
+    signal_kind_listed (get_or vs 1 0) i ∷
+    signal_aspect_listed (get_or vs 2 0) i ∷
+    bit_listed (get_or vs 3 0) i ∷
+    bit_listed (get_or vs 4 0) i ∷
+    bit_listed (get_or vs 5 0) i ∷
+    bit_listed (get_or vs 6 0) i ∷
+    bit_listed (get_or vs 7 0) i ∷
+    bit_listed (get_or vs 8 0) i ∷
+    bit_listed (get_or vs 9 0) i ∷
+    bit_listed (get_or vs 10 0) i ∷
+    bit_listed (get_or vs 11 0) i ∷
+    bit_listed (get_or vs 12 0) i ∷
+    bit_listed (get_or vs 13 0) i ∷
+    bit_listed (get_or vs 14 0) i ∷
+    bit_listed (get_or vs 15 0) i ∷
+    bit_listed (get_or vs 16 0) i ∷
+    bit_listed (get_or vs 17 0) i ∷
+    bit_listed (get_or vs 18 0) i ∷
+    mixed_gauge_indication_listed (get_or vs 19 0) i ∷
+    bit_listed (get_or vs 20 0) i ∷
+    bit_listed (get_or vs 21 0) i ∷
+    auto_route_indication_listed (get_or vs 22 0) i ∷
+    reserved_listed (get_or vs 23 0) i ∷
     []
 
-pub signal-back : (s : Signal) → signalOf (padded (signalValues s)) ≡ s
-signal-back s = λ i. record {
-  current = bit-back s.current i;
-  kind = signalKind-back s.kind i;
-  aspect = signalAspect-back s.aspect i;
-  red_fitted = bit-back s.red_fitted i;
-  red_blown = bit-back s.red_blown i;
-  white_fitted = bit-back s.white_fitted i;
-  white_blown = bit-back s.white_blown i;
-  vertical_white_fitted = bit-back s.vertical_white_fitted i;
-  vertical_white_blown = bit-back s.vertical_white_blown i;
-  horizontal_white_fitted = bit-back s.horizontal_white_fitted i;
-  horizontal_white_blown = bit-back s.horizontal_white_blown i;
-  blue_fitted = bit-back s.blue_fitted i;
-  blue_blown = bit-back s.blue_blown i;
-  yellow_fitted = bit-back s.yellow_fitted i;
-  yellow_blown = bit-back s.yellow_blown i;
-  green_fitted = bit-back s.green_fitted i;
-  green_blown = bit-back s.green_blown i;
-  special_command_pending = bit-back s.special_command_pending i;
-  command_blocked = bit-back s.command_blocked i;
-  mixed_gauge = mixedGaugeIndication-back s.mixed_gauge i;
-  automatic_succession = bit-back s.automatic_succession i;
-  auto_route_set = bit-back s.auto_route_set i;
-  auto_route_indication = autoRouteIndication-back s.auto_route_indication i;
+pub signal_back : (s : Signal) → signal_of (padded (signal_values s)) ≡ s
+signal_back s = λ i. record {
+  current = bit_back s.current i;
+  kind = signal_kind_back s.kind i;
+  aspect = signal_aspect_back s.aspect i;
+  red_fitted = bit_back s.red_fitted i;
+  red_blown = bit_back s.red_blown i;
+  white_fitted = bit_back s.white_fitted i;
+  white_blown = bit_back s.white_blown i;
+  vertical_white_fitted = bit_back s.vertical_white_fitted i;
+  vertical_white_blown = bit_back s.vertical_white_blown i;
+  horizontal_white_fitted = bit_back s.horizontal_white_fitted i;
+  horizontal_white_blown = bit_back s.horizontal_white_blown i;
+  blue_fitted = bit_back s.blue_fitted i;
+  blue_blown = bit_back s.blue_blown i;
+  yellow_fitted = bit_back s.yellow_fitted i;
+  yellow_blown = bit_back s.yellow_blown i;
+  green_fitted = bit_back s.green_fitted i;
+  green_blown = bit_back s.green_blown i;
+  special_command_pending = bit_back s.special_command_pending i;
+  command_blocked = bit_back s.command_blocked i;
+  mixed_gauge = mixed_gauge_indication_back s.mixed_gauge i;
+  automatic_succession = bit_back s.automatic_succession i;
+  auto_route_set = bit_back s.auto_route_set i;
+  auto_route_indication = auto_route_indication_back s.auto_route_indication i;
 }
 
-pub changerSignal-listed : (vs : List ℕ) → changerSignalValues (changerSignalOf vs) ≡ listedFrom 0 (rows_from 24 3) vs
+pub changer_signal_listed : (vs : List ℕ) → changer_signal_values (changer_signal_of vs) ≡ listed_from 0 (rows_from 24 3) vs
 unfolding cells
-changerSignal-listed vs =
+changer_signal_listed vs =
     λ i.
-    bit-listed (get_or vs 0 0) i ∷
-    changerAspect-listed (get_or vs 1 0) i ∷
-    reserved-listed (get_or vs 2 0) i ∷
+    bit_listed (get_or vs 0 0) i ∷
+    changer_aspect_listed (get_or vs 1 0) i ∷
+    reserved_listed (get_or vs 2 0) i ∷
     []
 
-pub changerSignal-back : (s : ChangerSignal) → changerSignalOf (padded (changerSignalValues s)) ≡ s
-changerSignal-back s = λ i. record {
-  current = bit-back s.current i;
-  aspect = changerAspect-back s.aspect i;
+pub changer_signal_back : (s : ChangerSignal) → changer_signal_of (padded (changer_signal_values s)) ≡ s
+changer_signal_back s = λ i. record {
+  current = bit_back s.current i;
+  aspect = changer_aspect_back s.aspect i;
 }
 
-pub virtualBoard-listed : (vs : List ℕ) → virtualBoardValues (virtualBoardOf vs) ≡ listedFrom 0 (rows_from 27 4) vs
+pub virtual_board_listed : (vs : List ℕ) → virtual_board_values (virtual_board_of vs) ≡ listed_from 0 (rows_from 27 4) vs
 unfolding cells
-virtualBoard-listed vs =
+virtual_board_listed vs =
     λ i.
-    bit-listed (get_or vs 0 0) i ∷
-    boardAspect-listed (get_or vs 1 0) i ∷
-    bit-listed (get_or vs 2 0) i ∷
-    reserved-listed (get_or vs 3 0) i ∷
+    bit_listed (get_or vs 0 0) i ∷
+    board_aspect_listed (get_or vs 1 0) i ∷
+    bit_listed (get_or vs 2 0) i ∷
+    reserved_listed (get_or vs 3 0) i ∷
     []
 
-pub virtualBoard-back : (s : VirtualBoard) → virtualBoardOf (padded (virtualBoardValues s)) ≡ s
-virtualBoard-back s = λ i. record {
-  current = bit-back s.current i;
-  aspect = boardAspect-back s.aspect i;
-  closing_commanded = bit-back s.closing_commanded i;
+pub virtual_board_back : (s : VirtualBoard) → virtual_board_of (padded (virtual_board_values s)) ≡ s
+virtual_board_back s = λ i. record {
+  current = bit_back s.current i;
+  aspect = board_aspect_back s.aspect i;
+  closing_commanded = bit_back s.closing_commanded i;
 }
 
-pub lineTrackCircuit-listed : (vs : List ℕ)
-    → lineTrackCircuitValues (lineTrackCircuitOf vs) ≡ listedFrom 0 (rows_from 31 11) vs
+pub line_track_circuit_listed : (vs : List ℕ)
+    → line_track_circuit_values (line_track_circuit_of vs) ≡ listed_from 0 (rows_from 31 11) vs
 unfolding cells
-lineTrackCircuit-listed vs =
+line_track_circuit_listed vs =
     λ i.
-    bit-listed (get_or vs 0 0) i ∷
-    bit-listed (get_or vs 1 0) i ∷
-    bit-listed (get_or vs 2 0) i ∷
-    bit-listed (get_or vs 3 0) i ∷
-    sectionOccupancy-listed (get_or vs 4 0) i ∷
-    overlap-listed (get_or vs 5 0) i ∷
-    bit-listed (get_or vs 6 0) i ∷
-    bit-listed (get_or vs 7 0) i ∷
-    gaugePresence-listed (get_or vs 8 0) i ∷
-    bit-listed (get_or vs 9 0) i ∷
-    reserved-listed (get_or vs 10 0) i ∷
+    bit_listed (get_or vs 0 0) i ∷
+    bit_listed (get_or vs 1 0) i ∷
+    bit_listed (get_or vs 2 0) i ∷
+    bit_listed (get_or vs 3 0) i ∷
+    section_occupancy_listed (get_or vs 4 0) i ∷
+    overlap_listed (get_or vs 5 0) i ∷
+    bit_listed (get_or vs 6 0) i ∷
+    bit_listed (get_or vs 7 0) i ∷
+    gauge_presence_listed (get_or vs 8 0) i ∷
+    bit_listed (get_or vs 9 0) i ∷
+    reserved_listed (get_or vs 10 0) i ∷
     []
 
-pub lineTrackCircuit-back : (s : LineTrackCircuit) → lineTrackCircuitOf (padded (lineTrackCircuitValues s)) ≡ s
-lineTrackCircuit-back s = λ i. record {
-  current = bit-back s.current i;
-  special_command_pending = bit-back s.special_command_pending i;
-  movement_blocked = bit-back s.movement_blocked i;
-  unexpected_occupancy = bit-back s.unexpected_occupancy i;
-  occupancy = sectionOccupancy-back s.occupancy i;
-  overlap = overlap-back s.overlap i;
-  axle_counter_fault = bit-back s.axle_counter_fault i;
-  axle_counter_preset = bit-back s.axle_counter_preset i;
-  gauge = gaugePresence-back s.gauge i;
-  sequence_lost = bit-back s.sequence_lost i;
+pub line_track_circuit_back : (s : LineTrackCircuit) → line_track_circuit_of (padded (line_track_circuit_values s)) ≡ s
+line_track_circuit_back s = λ i. record {
+  current = bit_back s.current i;
+  special_command_pending = bit_back s.special_command_pending i;
+  movement_blocked = bit_back s.movement_blocked i;
+  unexpected_occupancy = bit_back s.unexpected_occupancy i;
+  occupancy = section_occupancy_back s.occupancy i;
+  overlap = overlap_back s.overlap i;
+  axle_counter_fault = bit_back s.axle_counter_fault i;
+  axle_counter_preset = bit_back s.axle_counter_preset i;
+  gauge = gauge_presence_back s.gauge i;
+  sequence_lost = bit_back s.sequence_lost i;
 }
 
-pub pointsTrackCircuit-listed : (vs : List ℕ)
-    → pointsTrackCircuitValues (pointsTrackCircuitOf vs) ≡ listedFrom 0 (rows_from 42 11) vs
+pub points_track_circuit_listed : (vs : List ℕ)
+    → points_track_circuit_values (points_track_circuit_of vs) ≡ listed_from 0 (rows_from 42 11) vs
 unfolding cells
-pointsTrackCircuit-listed vs =
+points_track_circuit_listed vs =
     λ i.
-    bit-listed (get_or vs 0 0) i ∷
-    bit-listed (get_or vs 1 0) i ∷
-    reserved-listed (get_or vs 2 0) i ∷
-    bit-listed (get_or vs 3 0) i ∷
-    pointsSectionOccupancy-listed (get_or vs 4 0) i ∷
-    reserved-listed (get_or vs 5 0) i ∷
-    bit-listed (get_or vs 6 0) i ∷
-    bit-listed (get_or vs 7 0) i ∷
-    gaugePresence-listed (get_or vs 8 0) i ∷
-    bit-listed (get_or vs 9 0) i ∷
-    reserved-listed (get_or vs 10 0) i ∷
+    bit_listed (get_or vs 0 0) i ∷
+    bit_listed (get_or vs 1 0) i ∷
+    reserved_listed (get_or vs 2 0) i ∷
+    bit_listed (get_or vs 3 0) i ∷
+    points_section_occupancy_listed (get_or vs 4 0) i ∷
+    reserved_listed (get_or vs 5 0) i ∷
+    bit_listed (get_or vs 6 0) i ∷
+    bit_listed (get_or vs 7 0) i ∷
+    gauge_presence_listed (get_or vs 8 0) i ∷
+    bit_listed (get_or vs 9 0) i ∷
+    reserved_listed (get_or vs 10 0) i ∷
     []
 
-pub pointsTrackCircuit-back : (s : PointsTrackCircuit) → pointsTrackCircuitOf (padded (pointsTrackCircuitValues s)) ≡ s
-pointsTrackCircuit-back s = λ i. record {
-  current = bit-back s.current i;
-  special_command_pending = bit-back s.special_command_pending i;
-  unexpected_occupancy = bit-back s.unexpected_occupancy i;
-  occupancy = pointsSectionOccupancy-back s.occupancy i;
-  axle_counter_fault = bit-back s.axle_counter_fault i;
-  axle_counter_preset = bit-back s.axle_counter_preset i;
-  gauge = gaugePresence-back s.gauge i;
-  sequence_lost = bit-back s.sequence_lost i;
+pub points_track_circuit_back : (s : PointsTrackCircuit) → points_track_circuit_of (padded (points_track_circuit_values s)) ≡ s
+points_track_circuit_back s = λ i. record {
+  current = bit_back s.current i;
+  special_command_pending = bit_back s.special_command_pending i;
+  unexpected_occupancy = bit_back s.unexpected_occupancy i;
+  occupancy = points_section_occupancy_back s.occupancy i;
+  axle_counter_fault = bit_back s.axle_counter_fault i;
+  axle_counter_preset = bit_back s.axle_counter_preset i;
+  gauge = gauge_presence_back s.gauge i;
+  sequence_lost = bit_back s.sequence_lost i;
 }
 
-pub crossingTrackCircuit-listed : (vs : List ℕ)
-    → crossingTrackCircuitValues (crossingTrackCircuitOf vs) ≡ listedFrom 0 (rows_from 53 12) vs
+pub crossing_track_circuit_listed : (vs : List ℕ)
+    → crossing_track_circuit_values (crossing_track_circuit_of vs) ≡ listed_from 0 (rows_from 53 12) vs
 unfolding cells
-crossingTrackCircuit-listed vs =
+crossing_track_circuit_listed vs =
     λ i.
-    bit-listed (get_or vs 0 0) i ∷
-    bit-listed (get_or vs 1 0) i ∷
-    bit-listed (get_or vs 2 0) i ∷
-    bit-listed (get_or vs 3 0) i ∷
-    legOccupancy-listed (get_or vs 4 0) i ∷
-    legShown-listed (get_or vs 5 0) i ∷
-    overlap-listed (get_or vs 6 0) i ∷
-    overlap-listed (get_or vs 7 0) i ∷
-    bit-listed (get_or vs 8 0) i ∷
-    bit-listed (get_or vs 9 0) i ∷
-    bit-listed (get_or vs 10 0) i ∷
-    reserved-listed (get_or vs 11 0) i ∷
+    bit_listed (get_or vs 0 0) i ∷
+    bit_listed (get_or vs 1 0) i ∷
+    bit_listed (get_or vs 2 0) i ∷
+    bit_listed (get_or vs 3 0) i ∷
+    leg_occupancy_listed (get_or vs 4 0) i ∷
+    leg_shown_listed (get_or vs 5 0) i ∷
+    overlap_listed (get_or vs 6 0) i ∷
+    overlap_listed (get_or vs 7 0) i ∷
+    bit_listed (get_or vs 8 0) i ∷
+    bit_listed (get_or vs 9 0) i ∷
+    bit_listed (get_or vs 10 0) i ∷
+    reserved_listed (get_or vs 11 0) i ∷
     []
 
-pub crossingTrackCircuit-back : (s : CrossingTrackCircuit)
-    → crossingTrackCircuitOf (padded (crossingTrackCircuitValues s)) ≡ s
-crossingTrackCircuit-back s = λ i. record {
-  current = bit-back s.current i;
-  special_command_pending = bit-back s.special_command_pending i;
-  movement_blocked = bit-back s.movement_blocked i;
-  unexpected_occupancy = bit-back s.unexpected_occupancy i;
-  occupancy = legOccupancy-back s.occupancy i;
-  leg_shown = legShown-back s.leg_shown i;
-  overlap_normal = overlap-back s.overlap_normal i;
-  overlap_reverse = overlap-back s.overlap_reverse i;
-  clearance_lost = bit-back s.clearance_lost i;
-  axle_counter_fault = bit-back s.axle_counter_fault i;
-  axle_counter_preset = bit-back s.axle_counter_preset i;
+pub crossing_track_circuit_back : (s : CrossingTrackCircuit)
+    → crossing_track_circuit_of (padded (crossing_track_circuit_values s)) ≡ s
+crossing_track_circuit_back s = λ i. record {
+  current = bit_back s.current i;
+  special_command_pending = bit_back s.special_command_pending i;
+  movement_blocked = bit_back s.movement_blocked i;
+  unexpected_occupancy = bit_back s.unexpected_occupancy i;
+  occupancy = leg_occupancy_back s.occupancy i;
+  leg_shown = leg_shown_back s.leg_shown i;
+  overlap_normal = overlap_back s.overlap_normal i;
+  overlap_reverse = overlap_back s.overlap_reverse i;
+  clearance_lost = bit_back s.clearance_lost i;
+  axle_counter_fault = bit_back s.axle_counter_fault i;
+  axle_counter_preset = bit_back s.axle_counter_preset i;
 }
 
-pub dualDetection-listed : (vs : List ℕ) → dualDetectionValues (dualDetectionOf vs) ≡ listedFrom 0 (rows_from 65 7) vs
+pub dual_detection_listed : (vs : List ℕ) → dual_detection_values (dual_detection_of vs) ≡ listed_from 0 (rows_from 65 7) vs
 unfolding cells
-dualDetection-listed vs =
+dual_detection_listed vs =
     λ i.
-    bit-listed (get_or vs 0 0) i ∷
-    bit-listed (get_or vs 1 0) i ∷
-    bit-listed (get_or vs 2 0) i ∷
-    bit-listed (get_or vs 3 0) i ∷
-    bit-listed (get_or vs 4 0) i ∷
-    bit-listed (get_or vs 5 0) i ∷
-    reserved-listed (get_or vs 6 0) i ∷
+    bit_listed (get_or vs 0 0) i ∷
+    bit_listed (get_or vs 1 0) i ∷
+    bit_listed (get_or vs 2 0) i ∷
+    bit_listed (get_or vs 3 0) i ∷
+    bit_listed (get_or vs 4 0) i ∷
+    bit_listed (get_or vs 5 0) i ∷
+    reserved_listed (get_or vs 6 0) i ∷
     []
 
-pub dualDetection-back : (s : DualDetection) → dualDetectionOf (padded (dualDetectionValues s)) ≡ s
-dualDetection-back s = λ i. record {
-  current = bit-back s.current i;
-  special_command_pending = bit-back s.special_command_pending i;
-  rearm_pending = bit-back s.rearm_pending i;
-  axle_counters_active = bit-back s.axle_counters_active i;
-  track_circuit_failed = bit-back s.track_circuit_failed i;
-  axle_counters_failed = bit-back s.axle_counters_failed i;
+pub dual_detection_back : (s : DualDetection) → dual_detection_of (padded (dual_detection_values s)) ≡ s
+dual_detection_back s = λ i. record {
+  current = bit_back s.current i;
+  special_command_pending = bit_back s.special_command_pending i;
+  rearm_pending = bit_back s.rearm_pending i;
+  axle_counters_active = bit_back s.axle_counters_active i;
+  track_circuit_failed = bit_back s.track_circuit_failed i;
+  axle_counters_failed = bit_back s.axle_counters_failed i;
 }
 
-pub points-listed : (vs : List ℕ) → pointsValues (points_of vs) ≡ listedFrom 0 (rows_from 72 13) vs
+pub points_listed : (vs : List ℕ) → points_values (points_of vs) ≡ listed_from 0 (rows_from 72 13) vs
 unfolding cells
-points-listed vs =
+points_listed vs =
     λ i.
-    bit-listed (get_or vs 0 0) i ∷
-    bit-listed (get_or vs 1 0) i ∷
-    bit-listed (get_or vs 2 0) i ∷
-    bit-listed (get_or vs 3 0) i ∷
-    legOccupancy-listed (get_or vs 4 0) i ∷
-    legShown-listed (get_or vs 5 0) i ∷
-    overlap-listed (get_or vs 6 0) i ∷
-    overlap-listed (get_or vs 7 0) i ∷
-    pointsDetection-listed (get_or vs 8 0) i ∷
-    bit-listed (get_or vs 9 0) i ∷
-    pointsLocking-listed (get_or vs 10 0) i ∷
-    bit-listed (get_or vs 11 0) i ∷
-    reserved-listed (get_or vs 12 0) i ∷
+    bit_listed (get_or vs 0 0) i ∷
+    bit_listed (get_or vs 1 0) i ∷
+    bit_listed (get_or vs 2 0) i ∷
+    bit_listed (get_or vs 3 0) i ∷
+    leg_occupancy_listed (get_or vs 4 0) i ∷
+    leg_shown_listed (get_or vs 5 0) i ∷
+    overlap_listed (get_or vs 6 0) i ∷
+    overlap_listed (get_or vs 7 0) i ∷
+    points_detection_listed (get_or vs 8 0) i ∷
+    bit_listed (get_or vs 9 0) i ∷
+    points_locking_listed (get_or vs 10 0) i ∷
+    bit_listed (get_or vs 11 0) i ∷
+    reserved_listed (get_or vs 12 0) i ∷
     []
 
-pub points-back : (s : Points) → points_of (padded (pointsValues s)) ≡ s
-points-back s = λ i. record {
-  current = bit-back s.current i;
-  special_command_pending = bit-back s.special_command_pending i;
-  movement_blocked = bit-back s.movement_blocked i;
-  unexpected_occupancy = bit-back s.unexpected_occupancy i;
-  occupancy = legOccupancy-back s.occupancy i;
-  leg_shown = legShown-back s.leg_shown i;
-  overlap_normal = overlap-back s.overlap_normal i;
-  overlap_reverse = overlap-back s.overlap_reverse i;
-  detection = pointsDetection-back s.detection i;
-  command_blocked = bit-back s.command_blocked i;
-  locking = pointsLocking-back s.locking i;
-  clearance_lost = bit-back s.clearance_lost i;
+pub points_back : (s : Points) → points_of (padded (points_values s)) ≡ s
+points_back s = λ i. record {
+  current = bit_back s.current i;
+  special_command_pending = bit_back s.special_command_pending i;
+  movement_blocked = bit_back s.movement_blocked i;
+  unexpected_occupancy = bit_back s.unexpected_occupancy i;
+  occupancy = leg_occupancy_back s.occupancy i;
+  leg_shown = leg_shown_back s.leg_shown i;
+  overlap_normal = overlap_back s.overlap_normal i;
+  overlap_reverse = overlap_back s.overlap_reverse i;
+  detection = points_detection_back s.detection i;
+  command_blocked = bit_back s.command_blocked i;
+  locking = points_locking_back s.locking i;
+  clearance_lost = bit_back s.clearance_lost i;
 }
 
-pub electricLock-listed : (vs : List ℕ) → electricLockValues (electricLockOf vs) ≡ listedFrom 0 (rows_from 85 5) vs
+pub electric_lock_listed : (vs : List ℕ) → electric_lock_values (electric_lock_of vs) ≡ listed_from 0 (rows_from 85 5) vs
 unfolding cells
-electricLock-listed vs =
+electric_lock_listed vs =
     λ i.
-    bit-listed (get_or vs 0 0) i ∷
-    bit-listed (get_or vs 1 0) i ∷
-    bit-listed (get_or vs 2 0) i ∷
-    bit-listed (get_or vs 3 0) i ∷
-    reserved-listed (get_or vs 4 0) i ∷
+    bit_listed (get_or vs 0 0) i ∷
+    bit_listed (get_or vs 1 0) i ∷
+    bit_listed (get_or vs 2 0) i ∷
+    bit_listed (get_or vs 3 0) i ∷
+    reserved_listed (get_or vs 4 0) i ∷
     []
 
-pub electricLock-back : (s : ElectricLock) → electricLockOf (padded (electricLockValues s)) ≡ s
-electricLock-back s = λ i. record {
-  current = bit-back s.current i;
-  locked = bit-back s.locked i;
-  key_detected = bit-back s.key_detected i;
-  release_authorised = bit-back s.release_authorised i;
+pub electric_lock_back : (s : ElectricLock) → electric_lock_of (padded (electric_lock_values s)) ≡ s
+electric_lock_back s = λ i. record {
+  current = bit_back s.current i;
+  locked = bit_back s.locked i;
+  key_detected = bit_back s.key_detected i;
+  release_authorised = bit_back s.release_authorised i;
 }
 
-pub generalNotices-listed : (vs : List ℕ) → generalNoticesValues (generalNoticesOf vs) ≡ listedFrom 0 (rows_from 90 8) vs
+pub general_notices_listed : (vs : List ℕ) → general_notices_values (general_notices_of vs) ≡ listed_from 0 (rows_from 90 8) vs
 unfolding cells
-generalNotices-listed vs =
+general_notices_listed vs =
     λ i.
-    bit-listed (get_or vs 0 0) i ∷
-    bit-listed (get_or vs 1 0) i ∷
-    bit-listed (get_or vs 2 0) i ∷
-    bit-listed (get_or vs 3 0) i ∷
-    heaterIndication-listed (get_or vs 4 0) i ∷
-    bit-listed (get_or vs 5 0) i ∷
-    earthFaultIndication-listed (get_or vs 6 0) i ∷
-    reserved-listed (get_or vs 7 0) i ∷
+    bit_listed (get_or vs 0 0) i ∷
+    bit_listed (get_or vs 1 0) i ∷
+    bit_listed (get_or vs 2 0) i ∷
+    bit_listed (get_or vs 3 0) i ∷
+    heater_indication_listed (get_or vs 4 0) i ∷
+    bit_listed (get_or vs 5 0) i ∷
+    earth_fault_indication_listed (get_or vs 6 0) i ∷
+    reserved_listed (get_or vs 7 0) i ∷
     []
 
-pub generalNotices-back : (s : GeneralNotices) → generalNoticesOf (padded (generalNoticesValues s)) ≡ s
-generalNotices-back s = λ i. record {
-  power_in_order = bit-back s.power_in_order i;
-  points_moving = bit-back s.points_moving i;
-  auto_routes_set = bit-back s.auto_routes_set i;
-  points_group_blocked = bit-back s.points_group_blocked i;
-  heaters = heaterIndication-back s.heaters i;
-  station_closed = bit-back s.station_closed i;
-  earth_fault = earthFaultIndication-back s.earth_fault i;
+pub general_notices_back : (s : GeneralNotices) → general_notices_of (padded (general_notices_values s)) ≡ s
+general_notices_back s = λ i. record {
+  power_in_order = bit_back s.power_in_order i;
+  points_moving = bit_back s.points_moving i;
+  auto_routes_set = bit_back s.auto_routes_set i;
+  points_group_blocked = bit_back s.points_group_blocked i;
+  heaters = heater_indication_back s.heaters i;
+  station_closed = bit_back s.station_closed i;
+  earth_fault = earth_fault_indication_back s.earth_fault i;
 }
 
-pub controlBoundary-listed : (vs : List ℕ)
-    → controlBoundaryValues (controlBoundaryOf vs) ≡ listedFrom 0 (rows_from 98 9) vs
+pub control_boundary_listed : (vs : List ℕ)
+    → control_boundary_values (control_boundary_of vs) ≡ listed_from 0 (rows_from 98 9) vs
 unfolding cells
-controlBoundary-listed vs =
+control_boundary_listed vs =
     λ i.
-    bit-listed (get_or vs 0 0) i ∷
-    bit-listed (get_or vs 1 0) i ∷
-    boundaryMovement-listed (get_or vs 2 0) i ∷
-    bit-listed (get_or vs 3 0) i ∷
-    boundaryMovement-listed (get_or vs 4 0) i ∷
-    bit-listed (get_or vs 5 0) i ∷
-    bit-listed (get_or vs 6 0) i ∷
-    bit-listed (get_or vs 7 0) i ∷
-    reserved-listed (get_or vs 8 0) i ∷
+    bit_listed (get_or vs 0 0) i ∷
+    bit_listed (get_or vs 1 0) i ∷
+    boundary_movement_listed (get_or vs 2 0) i ∷
+    bit_listed (get_or vs 3 0) i ∷
+    boundary_movement_listed (get_or vs 4 0) i ∷
+    bit_listed (get_or vs 5 0) i ∷
+    bit_listed (get_or vs 6 0) i ∷
+    bit_listed (get_or vs 7 0) i ∷
+    reserved_listed (get_or vs 8 0) i ∷
     []
 
-pub controlBoundary-back : (s : ControlBoundary) → controlBoundaryOf (padded (controlBoundaryValues s)) ≡ s
-controlBoundary-back s = λ i. record {
-  current = bit-back s.current i;
-  entry_active = bit-back s.entry_active i;
-  entry_movement = boundaryMovement-back s.entry_movement i;
-  exit_active = bit-back s.exit_active i;
-  exit_movement = boundaryMovement-back s.exit_movement i;
-  inc_inwards = bit-back s.inc_inwards i;
-  inc_shown = bit-back s.inc_shown i;
-  neighbour_object_alarm = bit-back s.neighbour_object_alarm i;
+pub control_boundary_back : (s : ControlBoundary) → control_boundary_of (padded (control_boundary_values s)) ≡ s
+control_boundary_back s = λ i. record {
+  current = bit_back s.current i;
+  entry_active = bit_back s.entry_active i;
+  entry_movement = boundary_movement_back s.entry_movement i;
+  exit_active = bit_back s.exit_active i;
+  exit_movement = boundary_movement_back s.exit_movement i;
+  inc_inwards = bit_back s.inc_inwards i;
+  inc_shown = bit_back s.inc_shown i;
+  neighbour_object_alarm = bit_back s.neighbour_object_alarm i;
 }
 
-pub signalV3-listed : (vs : List ℕ) → signalV3Values (signalV3Of vs) ≡ listedFrom 0 (rows_from 107 24) vs
+pub signal_v3_listed : (vs : List ℕ) → signal_v3_values (signal_v3_of vs) ≡ listed_from 0 (rows_from 107 24) vs
 unfolding cells
-signalV3-listed vs =
+signal_v3_listed vs =
     λ i.
-    bit-listed (get_or vs 0 0) i ∷
-    signalKind-listed (get_or vs 1 0) i ∷
-    bit-listed (get_or vs 2 0) i ∷
-    signalAspect-listed (get_or vs 3 0) i ∷
-    bit-listed (get_or vs 4 0) i ∷
-    bit-listed (get_or vs 5 0) i ∷
-    bit-listed (get_or vs 6 0) i ∷
-    bit-listed (get_or vs 7 0) i ∷
-    bit-listed (get_or vs 8 0) i ∷
-    bit-listed (get_or vs 9 0) i ∷
-    bit-listed (get_or vs 10 0) i ∷
-    bit-listed (get_or vs 11 0) i ∷
-    bit-listed (get_or vs 12 0) i ∷
-    bit-listed (get_or vs 13 0) i ∷
-    bit-listed (get_or vs 14 0) i ∷
-    bit-listed (get_or vs 15 0) i ∷
-    bit-listed (get_or vs 16 0) i ∷
-    bit-listed (get_or vs 17 0) i ∷
-    bit-listed (get_or vs 18 0) i ∷
-    bit-listed (get_or vs 19 0) i ∷
-    mixedGaugeIndication-listed (get_or vs 20 0) i ∷
-    bit-listed (get_or vs 21 0) i ∷
-    autoRoute-listed (get_or vs 22 0) i ∷
-    routerIndication-listed (get_or vs 23 0) i ∷
+    bit_listed (get_or vs 0 0) i ∷
+    signal_kind_listed (get_or vs 1 0) i ∷
+    bit_listed (get_or vs 2 0) i ∷
+    signal_aspect_listed (get_or vs 3 0) i ∷
+    bit_listed (get_or vs 4 0) i ∷
+    bit_listed (get_or vs 5 0) i ∷
+    bit_listed (get_or vs 6 0) i ∷
+    bit_listed (get_or vs 7 0) i ∷
+    bit_listed (get_or vs 8 0) i ∷
+    bit_listed (get_or vs 9 0) i ∷
+    bit_listed (get_or vs 10 0) i ∷
+    bit_listed (get_or vs 11 0) i ∷
+    bit_listed (get_or vs 12 0) i ∷
+    bit_listed (get_or vs 13 0) i ∷
+    bit_listed (get_or vs 14 0) i ∷
+    bit_listed (get_or vs 15 0) i ∷
+    bit_listed (get_or vs 16 0) i ∷
+    bit_listed (get_or vs 17 0) i ∷
+    bit_listed (get_or vs 18 0) i ∷
+    bit_listed (get_or vs 19 0) i ∷
+    mixed_gauge_indication_listed (get_or vs 20 0) i ∷
+    bit_listed (get_or vs 21 0) i ∷
+    auto_route_listed (get_or vs 22 0) i ∷
+    router_indication_listed (get_or vs 23 0) i ∷
     []
 
-pub signalV3-back : (s : SignalV3) → signalV3Of (padded (signalV3Values s)) ≡ s
-signalV3-back s = λ i. record {
-  current = bit-back s.current i;
-  kind = signalKind-back s.kind i;
-  high_speed_auto_route = bit-back s.high_speed_auto_route i;
-  aspect = signalAspect-back s.aspect i;
-  red_fitted = bit-back s.red_fitted i;
-  red_blown = bit-back s.red_blown i;
-  white_fitted = bit-back s.white_fitted i;
-  white_blown = bit-back s.white_blown i;
-  vertical_white_fitted = bit-back s.vertical_white_fitted i;
-  vertical_white_blown = bit-back s.vertical_white_blown i;
-  horizontal_white_fitted = bit-back s.horizontal_white_fitted i;
-  horizontal_white_blown = bit-back s.horizontal_white_blown i;
-  blue_fitted = bit-back s.blue_fitted i;
-  blue_blown = bit-back s.blue_blown i;
-  yellow_fitted = bit-back s.yellow_fitted i;
-  yellow_blown = bit-back s.yellow_blown i;
-  green_fitted = bit-back s.green_fitted i;
-  green_blown = bit-back s.green_blown i;
-  special_command_pending = bit-back s.special_command_pending i;
-  command_blocked = bit-back s.command_blocked i;
-  mixed_gauge = mixedGaugeIndication-back s.mixed_gauge i;
-  automatic_succession = bit-back s.automatic_succession i;
-  auto_route = autoRoute-back s.auto_route i;
-  router = routerIndication-back s.router i;
+pub signal_v3_back : (s : SignalV3) → signal_v3_of (padded (signal_v3_values s)) ≡ s
+signal_v3_back s = λ i. record {
+  current = bit_back s.current i;
+  kind = signal_kind_back s.kind i;
+  high_speed_auto_route = bit_back s.high_speed_auto_route i;
+  aspect = signal_aspect_back s.aspect i;
+  red_fitted = bit_back s.red_fitted i;
+  red_blown = bit_back s.red_blown i;
+  white_fitted = bit_back s.white_fitted i;
+  white_blown = bit_back s.white_blown i;
+  vertical_white_fitted = bit_back s.vertical_white_fitted i;
+  vertical_white_blown = bit_back s.vertical_white_blown i;
+  horizontal_white_fitted = bit_back s.horizontal_white_fitted i;
+  horizontal_white_blown = bit_back s.horizontal_white_blown i;
+  blue_fitted = bit_back s.blue_fitted i;
+  blue_blown = bit_back s.blue_blown i;
+  yellow_fitted = bit_back s.yellow_fitted i;
+  yellow_blown = bit_back s.yellow_blown i;
+  green_fitted = bit_back s.green_fitted i;
+  green_blown = bit_back s.green_blown i;
+  special_command_pending = bit_back s.special_command_pending i;
+  command_blocked = bit_back s.command_blocked i;
+  mixed_gauge = mixed_gauge_indication_back s.mixed_gauge i;
+  automatic_succession = bit_back s.automatic_succession i;
+  auto_route = auto_route_back s.auto_route i;
+  router = router_indication_back s.router i;
 }

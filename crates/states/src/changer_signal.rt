@@ -1,7 +1,7 @@
 // Layout 2: IC, type 2 under X = 1 and type 2 under X = 3. Written by catalogue/write.py.
 ghost use Rattle.std.specs.Prelude.{◌≡◌, []};
 ghost use Rattle.rows.specs.Values.{padded};
-ghost use Rattle.states.specs.States.{changerSignalOf, changerSignalValues};
+ghost use Rattle.states.specs.States.{changer_signal_of, changer_signal_values};
 
 use crate::{bits_of, value};
 use cases::ChangerAspect;
@@ -21,13 +21,13 @@ impl ChangerSignal {
     };
 
     pub fn without_data() -> ChangerSignal
-        ensures { result ≡ changerSignalOf [] }
+        ensures { result ≡ changer_signal_of [] }
     {
         ChangerSignal::WITHOUT_DATA
     }
 
     pub fn of_values(values: [u32; 24]) -> ChangerSignal
-        ensures { result ≡ changerSignalOf values }
+        ensures { result ≡ changer_signal_of values }
     {
         let bits = bits_of(values);
         let aspect = ChangerAspect::of(value(values, 1));
@@ -38,7 +38,7 @@ impl ChangerSignal {
     }
 
     pub fn values(self) -> [u32; 24]
-        ensures { result ≡ padded (changerSignalValues self) }
+        ensures { result ≡ padded (changer_signal_values self) }
     {
         let aspect = self.aspect;
         [

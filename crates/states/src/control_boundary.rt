@@ -1,7 +1,7 @@
 // Layout 23: FRA, type 23 under X = 1. Written by catalogue/write.py.
 ghost use Rattle.std.specs.Prelude.{◌≡◌, []};
 ghost use Rattle.rows.specs.Values.{padded};
-ghost use Rattle.states.specs.States.{controlBoundaryOf, controlBoundaryValues};
+ghost use Rattle.states.specs.States.{control_boundary_of, control_boundary_values};
 
 use crate::{bits_of, value};
 use cases::BoundaryMovement;
@@ -33,13 +33,13 @@ impl ControlBoundary {
     };
 
     pub fn without_data() -> ControlBoundary
-        ensures { result ≡ controlBoundaryOf [] }
+        ensures { result ≡ control_boundary_of [] }
     {
         ControlBoundary::WITHOUT_DATA
     }
 
     pub fn of_values(values: [u32; 24]) -> ControlBoundary
-        ensures { result ≡ controlBoundaryOf values }
+        ensures { result ≡ control_boundary_of values }
     {
         let bits = bits_of(values);
         let entry_movement = BoundaryMovement::of(value(values, 2));
@@ -57,7 +57,7 @@ impl ControlBoundary {
     }
 
     pub fn values(self) -> [u32; 24]
-        ensures { result ≡ padded (controlBoundaryValues self) }
+        ensures { result ≡ padded (control_boundary_values self) }
     {
         let entry_movement = self.entry_movement;
         let exit_movement = self.exit_movement;

@@ -1,7 +1,7 @@
 // Layout 6: CVX, type 6 under X = 1 and type 6 under X = 3. Written by catalogue/write.py.
 ghost use Rattle.std.specs.Prelude.{◌≡◌, []};
 ghost use Rattle.rows.specs.Values.{padded};
-ghost use Rattle.states.specs.States.{crossingTrackCircuitOf, crossingTrackCircuitValues};
+ghost use Rattle.states.specs.States.{crossing_track_circuit_of, crossing_track_circuit_values};
 
 use crate::{bits_of, value};
 use cases::{LegOccupancy, LegShown, Overlap};
@@ -39,13 +39,13 @@ impl CrossingTrackCircuit {
     };
 
     pub fn without_data() -> CrossingTrackCircuit
-        ensures { result ≡ crossingTrackCircuitOf [] }
+        ensures { result ≡ crossing_track_circuit_of [] }
     {
         CrossingTrackCircuit::WITHOUT_DATA
     }
 
     pub fn of_values(values: [u32; 24]) -> CrossingTrackCircuit
-        ensures { result ≡ crossingTrackCircuitOf values }
+        ensures { result ≡ crossing_track_circuit_of values }
     {
         let bits = bits_of(values);
         let occupancy = LegOccupancy::of(value(values, 4));
@@ -68,7 +68,7 @@ impl CrossingTrackCircuit {
     }
 
     pub fn values(self) -> [u32; 24]
-        ensures { result ≡ padded (crossingTrackCircuitValues self) }
+        ensures { result ≡ padded (crossing_track_circuit_values self) }
     {
         let occupancy = self.occupancy;
         let leg_shown = self.leg_shown;

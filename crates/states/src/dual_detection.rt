@@ -1,7 +1,7 @@
 // Layout 7: SDT, type 7 under X = 1 and type 7 under X = 3. Written by catalogue/write.py.
 ghost use Rattle.std.specs.Prelude.{◌≡◌, []};
 ghost use Rattle.rows.specs.Values.{padded};
-ghost use Rattle.states.specs.States.{dualDetectionOf, dualDetectionValues};
+ghost use Rattle.states.specs.States.{dual_detection_of, dual_detection_values};
 
 use crate::bits_of;
 
@@ -28,13 +28,13 @@ impl DualDetection {
     };
 
     pub fn without_data() -> DualDetection
-        ensures { result ≡ dualDetectionOf [] }
+        ensures { result ≡ dual_detection_of [] }
     {
         DualDetection::WITHOUT_DATA
     }
 
     pub fn of_values(values: [u32; 24]) -> DualDetection
-        ensures { result ≡ dualDetectionOf values }
+        ensures { result ≡ dual_detection_of values }
     {
         let bits = bits_of(values);
         DualDetection {
@@ -48,7 +48,7 @@ impl DualDetection {
     }
 
     pub fn values(self) -> [u32; 24]
-        ensures { result ≡ padded (dualDetectionValues self) }
+        ensures { result ≡ padded (dual_detection_values self) }
     {
         [
             self.current as u32,

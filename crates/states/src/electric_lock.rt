@@ -1,7 +1,7 @@
 // Layout 9: BOU, type 9 under X = 1. Written by catalogue/write.py.
 ghost use Rattle.std.specs.Prelude.{◌≡◌, []};
 ghost use Rattle.rows.specs.Values.{padded};
-ghost use Rattle.states.specs.States.{electricLockOf, electricLockValues};
+ghost use Rattle.states.specs.States.{electric_lock_of, electric_lock_values};
 
 use crate::bits_of;
 
@@ -24,13 +24,13 @@ impl ElectricLock {
     };
 
     pub fn without_data() -> ElectricLock
-        ensures { result ≡ electricLockOf [] }
+        ensures { result ≡ electric_lock_of [] }
     {
         ElectricLock::WITHOUT_DATA
     }
 
     pub fn of_values(values: [u32; 24]) -> ElectricLock
-        ensures { result ≡ electricLockOf values }
+        ensures { result ≡ electric_lock_of values }
     {
         let bits = bits_of(values);
         ElectricLock {
@@ -42,7 +42,7 @@ impl ElectricLock {
     }
 
     pub fn values(self) -> [u32; 24]
-        ensures { result ≡ padded (electricLockValues self) }
+        ensures { result ≡ padded (electric_lock_values self) }
     {
         [
             self.current as u32,

@@ -1,7 +1,7 @@
 // Layout 22: AVG, type 22 under X = 1. Written by catalogue/write.py.
 ghost use Rattle.std.specs.Prelude.{◌≡◌};
 ghost use Rattle.rows.specs.Values.{padded};
-ghost use Rattle.states.specs.States.{generalNoticesOf, generalNoticesValues};
+ghost use Rattle.states.specs.States.{general_notices_of, general_notices_values};
 
 use crate::{bits_of, value};
 use cases::{EarthFaultIndication, HeaterIndication};
@@ -21,7 +21,7 @@ impl GeneralNotices {
     pub const WIDTH: usize = 2;
 
     pub fn of_values(values: [u32; 24]) -> GeneralNotices
-        ensures { result ≡ generalNoticesOf values }
+        ensures { result ≡ general_notices_of values }
     {
         let bits = bits_of(values);
         let heaters = HeaterIndication::of(value(values, 4));
@@ -38,7 +38,7 @@ impl GeneralNotices {
     }
 
     pub fn values(self) -> [u32; 24]
-        ensures { result ≡ padded (generalNoticesValues self) }
+        ensures { result ≡ padded (general_notices_values self) }
     {
         let heaters = self.heaters;
         let earth_fault = self.earth_fault;

@@ -1,7 +1,7 @@
 // Layout 4: CV, type 4 under X = 1 and type 4 under X = 3. Written by catalogue/write.py.
 ghost use Rattle.std.specs.Prelude.{◌≡◌, []};
 ghost use Rattle.rows.specs.Values.{padded};
-ghost use Rattle.states.specs.States.{lineTrackCircuitOf, lineTrackCircuitValues};
+ghost use Rattle.states.specs.States.{line_track_circuit_of, line_track_circuit_values};
 
 use crate::{bits_of, value};
 use cases::{GaugePresence, Overlap, SectionOccupancy};
@@ -37,13 +37,13 @@ impl LineTrackCircuit {
     };
 
     pub fn without_data() -> LineTrackCircuit
-        ensures { result ≡ lineTrackCircuitOf [] }
+        ensures { result ≡ line_track_circuit_of [] }
     {
         LineTrackCircuit::WITHOUT_DATA
     }
 
     pub fn of_values(values: [u32; 24]) -> LineTrackCircuit
-        ensures { result ≡ lineTrackCircuitOf values }
+        ensures { result ≡ line_track_circuit_of values }
     {
         let bits = bits_of(values);
         let occupancy = SectionOccupancy::of(value(values, 4));
@@ -64,7 +64,7 @@ impl LineTrackCircuit {
     }
 
     pub fn values(self) -> [u32; 24]
-        ensures { result ≡ padded (lineTrackCircuitValues self) }
+        ensures { result ≡ padded (line_track_circuit_values self) }
     {
         let occupancy = self.occupancy;
         let overlap = self.overlap;

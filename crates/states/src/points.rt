@@ -1,7 +1,7 @@
 // Layout 8: AG, type 8 under X = 1. Written by catalogue/write.py.
 ghost use Rattle.std.specs.Prelude.{◌≡◌, []};
 ghost use Rattle.rows.specs.Values.{padded};
-ghost use Rattle.states.specs.States.{points_of, pointsValues};
+ghost use Rattle.states.specs.States.{points_of, points_values};
 
 use crate::{bits_of, value};
 use cases::{LegOccupancy, LegShown, Overlap, PointsDetection, PointsLocking};
@@ -73,7 +73,7 @@ impl Points {
     }
 
     pub fn values(self) -> [u32; 24]
-        ensures { result ≡ padded (pointsValues self) }
+        ensures { result ≡ padded (points_values self) }
     {
         let occupancy = self.occupancy;
         let leg_shown = self.leg_shown;

@@ -1,7 +1,7 @@
 // Layout 5: CVA, type 5 under X = 1 and type 5 under X = 3. Written by catalogue/write.py.
 ghost use Rattle.std.specs.Prelude.{◌≡◌, []};
 ghost use Rattle.rows.specs.Values.{padded};
-ghost use Rattle.states.specs.States.{pointsTrackCircuitOf, pointsTrackCircuitValues};
+ghost use Rattle.states.specs.States.{points_track_circuit_of, points_track_circuit_values};
 
 use crate::{bits_of, value};
 use cases::{GaugePresence, PointsSectionOccupancy};
@@ -33,13 +33,13 @@ impl PointsTrackCircuit {
     };
 
     pub fn without_data() -> PointsTrackCircuit
-        ensures { result ≡ pointsTrackCircuitOf [] }
+        ensures { result ≡ points_track_circuit_of [] }
     {
         PointsTrackCircuit::WITHOUT_DATA
     }
 
     pub fn of_values(values: [u32; 24]) -> PointsTrackCircuit
-        ensures { result ≡ pointsTrackCircuitOf values }
+        ensures { result ≡ points_track_circuit_of values }
     {
         let bits = bits_of(values);
         let occupancy = PointsSectionOccupancy::of(value(values, 4));
@@ -57,7 +57,7 @@ impl PointsTrackCircuit {
     }
 
     pub fn values(self) -> [u32; 24]
-        ensures { result ≡ padded (pointsTrackCircuitValues self) }
+        ensures { result ≡ padded (points_track_circuit_values self) }
     {
         let occupancy = self.occupancy;
         let gauge = self.gauge;

@@ -1,7 +1,7 @@
 // Layout 1: SIG, type 1 under X = 1. Written by catalogue/write.py.
 ghost use Rattle.std.specs.Prelude.{◌≡◌, []};
 ghost use Rattle.rows.specs.Values.{padded};
-ghost use Rattle.states.specs.States.{signalOf, signalValues};
+ghost use Rattle.states.specs.States.{signal_of, signal_values};
 
 use crate::{bits_of, value};
 use cases::{AutoRouteIndication, MixedGaugeIndication, SignalAspect, SignalKind};
@@ -63,13 +63,13 @@ impl Signal {
     };
 
     pub fn without_data() -> Signal
-        ensures { result ≡ signalOf [] }
+        ensures { result ≡ signal_of [] }
     {
         Signal::WITHOUT_DATA
     }
 
     pub fn of_values(values: [u32; 24]) -> Signal
-        ensures { result ≡ signalOf values }
+        ensures { result ≡ signal_of values }
     {
         let bits = bits_of(values);
         let kind = SignalKind::of(value(values, 1));
@@ -104,7 +104,7 @@ impl Signal {
     }
 
     pub fn values(self) -> [u32; 24]
-        ensures { result ≡ padded (signalValues self) }
+        ensures { result ≡ padded (signal_values self) }
     {
         let kind = self.kind;
         let aspect = self.aspect;

@@ -1,7 +1,7 @@
 // Layout 31: SIG, type 1 under X = 3. Written by catalogue/write.py.
 ghost use Rattle.std.specs.Prelude.{◌≡◌, []};
 ghost use Rattle.rows.specs.Values.{padded};
-ghost use Rattle.states.specs.States.{signalV3Of, signalV3Values};
+ghost use Rattle.states.specs.States.{signal_v3_of, signal_v3_values};
 
 use crate::{bits_of, value};
 use cases::{AutoRoute, MixedGaugeIndication, RouterIndication, SignalAspect, SignalKind};
@@ -65,13 +65,13 @@ impl SignalV3 {
     };
 
     pub fn without_data() -> SignalV3
-        ensures { result ≡ signalV3Of [] }
+        ensures { result ≡ signal_v3_of [] }
     {
         SignalV3::WITHOUT_DATA
     }
 
     pub fn of_values(values: [u32; 24]) -> SignalV3
-        ensures { result ≡ signalV3Of values }
+        ensures { result ≡ signal_v3_of values }
     {
         let bits = bits_of(values);
         let kind = SignalKind::of(value(values, 1));
@@ -108,7 +108,7 @@ impl SignalV3 {
     }
 
     pub fn values(self) -> [u32; 24]
-        ensures { result ≡ padded (signalV3Values self) }
+        ensures { result ≡ padded (signal_v3_values self) }
     {
         let kind = self.kind;
         let aspect = self.aspect;

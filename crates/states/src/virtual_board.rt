@@ -1,7 +1,7 @@
 // Layout 3: PV, type 3 under X = 1 and type 3 under X = 3. Written by catalogue/write.py.
 ghost use Rattle.std.specs.Prelude.{◌≡◌, []};
 ghost use Rattle.rows.specs.Values.{padded};
-ghost use Rattle.states.specs.States.{virtualBoardOf, virtualBoardValues};
+ghost use Rattle.states.specs.States.{virtual_board_of, virtual_board_values};
 
 use crate::{bits_of, value};
 use cases::BoardAspect;
@@ -23,13 +23,13 @@ impl VirtualBoard {
     };
 
     pub fn without_data() -> VirtualBoard
-        ensures { result ≡ virtualBoardOf [] }
+        ensures { result ≡ virtual_board_of [] }
     {
         VirtualBoard::WITHOUT_DATA
     }
 
     pub fn of_values(values: [u32; 24]) -> VirtualBoard
-        ensures { result ≡ virtualBoardOf values }
+        ensures { result ≡ virtual_board_of values }
     {
         let bits = bits_of(values);
         let aspect = BoardAspect::of(value(values, 1));
@@ -41,7 +41,7 @@ impl VirtualBoard {
     }
 
     pub fn values(self) -> [u32; 24]
-        ensures { result ≡ padded (virtualBoardValues self) }
+        ensures { result ≡ padded (virtual_board_values self) }
     {
         let aspect = self.aspect;
         [

@@ -11,19 +11,19 @@ use lib.Seq.{drop-drop}
 use borrow.Author.Tests.{ne_eqb, le-leb, lt-leb, leb-true}
 use borrow.Rule.Slice.PartMut.{put_mid, mid_of}
 use Rattle.octets.specs.Octets.{bytes, number}
-use Rattle.octets.proofs.Writing.{start, append-put, filled}
+use Rattle.octets.proofs.Writing.{start, append_put, filled}
 use Rattle.history.specs.declared.Change.{Change}
 use Rattle.history.specs.declared.Change.TheVariants.{Keep as keep, Swap as swap}
 use Rattle.history.specs.Changes.{entries, differ, meets, joined, back}
 use Rattle.steps.specs.declared.Walk.{Walk}
-use Rattle.steps.specs.Steps.{span, entryBytes, names, countIf, sizeIf, saidIf, changeAt, isSwap, step_of, Stepped}
+use Rattle.steps.specs.Steps.{span, entry_bytes, names, count_if, size_if, said_if, change_at, is_swap, step_of, Stepped}
 use Rattle.steps.specs.Steps.{Silent, AllIdle, renewed}
 
 -- ---- an entry at a cursor
 
 -- entries whose first names another object say nothing of this one
-pub says_nothing : (b : List ℕ) (i w : ℕ) {n : ℕ} → n ≡ number (take 2 b) → (n ≡ i → ⊥) → changeAt i w b ≡ keep
-unfolding changeAt names
+pub says_nothing : (b : List ℕ) (i w : ℕ) {n : ℕ} → n ≡ number (take 2 b) → (n ≡ i → ⊥) → change_at i w b ≡ keep
+unfolding change_at names
 says_nothing b i w {n} e g = rw (← e, ne_eqb n i g, never (leb (2 + (w + w)) (length b)))
   where
     never : (t : Bool) → (t && false) ≡ false
@@ -31,88 +31,88 @@ says_nothing b i w {n} e g = rw (← e, ne_eqb n i g, never (leb (2 + (w + w)) (
     never false = refl
 
 -- nor do entries whose first is cut off
-pub says-cut : (b : List ℕ) (i w : ℕ) → length b < 2 + (w + w) → changeAt i w b ≡ keep
-unfolding changeAt names
-says-cut b i w h = rw (lt-leb (2 + (w + w)) (length b) h)
+pub says_cut : (b : List ℕ) (i w : ℕ) → length b < 2 + (w + w) → change_at i w b ≡ keep
+unfolding change_at names
+says_cut b i w h = rw (lt-leb (2 + (w + w)) (length b) h)
 
 module _ (l : List ℕ) (at i w : ℕ) where
-  pub names-cut : length l - at < 2 + (w + w) → false ≡ names i w (drop at l)
+  pub names_cut : length l - at < 2 + (w + w) → false ≡ names i w (drop at l)
   unfolding names
-  names-cut h = rw (length-drop, lt-leb (2 + (w + w)) (length l - at) h)
+  names_cut h = rw (length-drop, lt-leb (2 + (w + w)) (length l - at) h)
 
-  pub names-whole : {n : ℕ} → 2 + (w + w) ≤ length l - at → n ≡ number (take 2 (drop at l))
+  pub names_whole : {n : ℕ} → 2 + (w + w) ≤ length l - at → n ≡ number (take 2 (drop at l))
       → eqb n i ≡ names i w (drop at l)
   unfolding names
-  names-whole h e = rw (length-drop, le-leb (2 + (w + w)) (length l - at) h, ← e)
+  names_whole h e = rw (length-drop, le-leb (2 + (w + w)) (length l - at) h, ← e)
 
-size_room : (i w : ℕ) (b : List ℕ) → sizeIf (names i w b) w ≤ length b
+size_room : (i w : ℕ) (b : List ℕ) → size_if (names i w b) w ≤ length b
 unfolding names
 size_room i w b = go (leb (2 + (w + w)) (length b)) (eqb (number (take 2 b)) i) refl
   where
-    go : (t u : Bool) → leb (2 + (w + w)) (length b) ≡ t → sizeIf (t && u) w ≤ length b
+    go : (t u : Bool) → leb (2 + (w + w)) (length b) ≡ t → size_if (t && u) w ≤ length b
     go true true e = leb-true _ _ e
     go true false e = omega arith
     go false u e = omega arith
 
-span-said : (t : Bool) (w : ℕ) (b : List ℕ) → span w (saidIf t w b) ≡ sizeIf t w
-span-said true w b = refl
-span-said false w b = refl
+span_said : (t : Bool) (w : ℕ) (b : List ℕ) → span w (said_if t w b) ≡ size_if t w
+span_said true w b = refl
+span_said false w b = refl
 
-span-room : (i w : ℕ) (b : List ℕ) → span w (changeAt i w b) ≤ length b
-unfolding changeAt
-span-room i w b = omega (arith, size_room i w b, span-said (names i w b) w b)
+span_room : (i w : ℕ) (b : List ℕ) → span w (change_at i w b) ≤ length b
+unfolding change_at
+span_room i w b = omega (arith, size_room i w b, span_said (names i w b) w b)
 
 -- the entry at cursor p ends within the bytes
-pub said-inside : (l : List ℕ) (p i w : ℕ) {c : Change} {m : ℕ} → p ≤ length l → c ≡ changeAt i w (drop p l)
+pub said_inside : (l : List ℕ) (p i w : ℕ) {c : Change} {m : ℕ} → p ≤ length l → c ≡ change_at i w (drop p l)
     → m ≡ span w c → p + m ≤ length l
-said-inside l p i w h ec em = omega (arith, span-room i w (drop p l), length-drop p l, em ∙ ap (span w) ec)
+said_inside l p i w h ec em = omega (arith, span_room i w (drop p l), length-drop p l, em ∙ ap (span w) ec)
 
-pub names-inside : (l : List ℕ) (p i w : ℕ) {t : Bool} → p ≤ length l → t ≡ names i w (drop p l)
-    → p + sizeIf t w ≤ length l
-names-inside l p i w h e = omega (arith, size_room i w (drop p l), length-drop p l, ap (λ (u : Bool). sizeIf u w) e)
+pub names_inside : (l : List ℕ) (p i w : ℕ) {t : Bool} → p ≤ length l → t ≡ names i w (drop p l)
+    → p + size_if t w ≤ length l
+names_inside l p i w h e = omega (arith, size_room i w (drop p l), length-drop p l, ap (λ (u : Bool). size_if u w) e)
 
 -- where the entry is known to be there: its old element, its new one, and both
-module _ {t : Bool} (e : t ≡ true) (w p n : ℕ) (h : p + sizeIf t w ≤ n) where
+module _ {t : Bool} (e : t ≡ true) (w p n : ℕ) (h : p + size_if t w ≤ n) where
   whole : p + (2 + (w + w)) ≤ n
   whole = rw e at h
 
-  pub old-there : p + 2 + w ≤ n
-  old-there = omega (arith, whole)
+  pub old_there : p + 2 + w ≤ n
+  old_there = omega (arith, whole)
 
-  pub new-there : p + 2 + w + w ≤ n
-  new-there = omega (arith, whole)
+  pub new_there : p + 2 + w + w ≤ n
+  new_there = omega (arith, whole)
 
-pub said-swap : {t : Bool} → t ≡ true → (w p : ℕ) (l : List ℕ) {old new : ℕ} → old ≡ number (take w (drop (p + 2) l))
+pub said_swap : {t : Bool} → t ≡ true → (w p : ℕ) (l : List ℕ) {old new : ℕ} → old ≡ number (take w (drop (p + 2) l))
     → new ≡ number (take w (drop (p + 2 + w) l))
-    → swap old new ≡ saidIf t w (drop p l)
-said-swap e w p l o m =
+    → swap old new ≡ said_if t w (drop p l)
+said_swap e w p l o m =
     let s : p + (2 + w) ≡ p + 2 + w = omega arith in
     rw (e, drop-drop 2 p l, drop-drop (2 + w) p l, s, o, m)
 
-pub said-keep : {t : Bool} (w : ℕ) (b : List ℕ) → t ≡ false → keep ≡ saidIf t w b
-said-keep w b e = rw e
+pub said_keep : {t : Bool} (w : ℕ) (b : List ℕ) → t ≡ false → keep ≡ said_if t w b
+said_keep w b e = rw e
 
-pub size-keep : {t : Bool} (w : ℕ) → t ≡ false → 0 ≡ sizeIf t w
-size-keep w e = rw e
+pub size_keep : {t : Bool} (w : ℕ) → t ≡ false → 0 ≡ size_if t w
+size_keep w e = rw e
 
-pub size-whole : {t : Bool} (w : ℕ) → t ≡ true → 2 + (w + w) ≡ sizeIf t w
-size-whole w e = rw e
+pub size_whole : {t : Bool} (w : ℕ) → t ≡ true → 2 + (w + w) ≡ size_if t w
+size_whole w e = rw e
 
-pub count-keep : {t : Bool} → t ≡ false → 0 ≡ countIf t
-count-keep e = rw e
+pub count_keep : {t : Bool} → t ≡ false → 0 ≡ count_if t
+count_keep e = rw e
 
-pub count-whole : {t : Bool} → t ≡ true → 1 ≡ countIf t
-count-whole e = rw e
+pub count_whole : {t : Bool} → t ≡ true → 1 ≡ count_if t
+count_whole e = rw e
 
-pub said_at : (i w : ℕ) (b : List ℕ) {t : Bool} {c : Change} → t ≡ names i w b → c ≡ saidIf t w b → c ≡ changeAt i w b
-unfolding changeAt
-said_at i w b e f = f ∙ ap (λ (u : Bool). saidIf u w b) e
+pub said_at : (i w : ℕ) (b : List ℕ) {t : Bool} {c : Change} → t ≡ names i w b → c ≡ said_if t w b → c ≡ change_at i w b
+unfolding change_at
+said_at i w b e f = f ∙ ap (λ (u : Bool). said_if u w b) e
 
 -- there is an entry exactly where the elements differ
-pub differ-swap : (old new : ℕ) → not (eqb old new) ≡ isSwap (differ old new)
-differ-swap old new = differs (eqb old new)
+pub differ_swap : (old new : ℕ) → not (eqb old new) ≡ is_swap (differ old new)
+differ_swap old new = differs (eqb old new)
   where
-    differs : (t : Bool) → not t ≡ isSwap (cond t keep (swap old new))
+    differs : (t : Bool) → not t ≡ is_swap (cond t keep (swap old new))
     differs true = refl
     differs false = refl
 
@@ -120,29 +120,29 @@ differ-swap old new = differs (eqb old new)
 
 -- not in the first
 module _ {one : Bool} (e : one ≡ false) (w : ℕ) (f s : List ℕ) (other : Bool) where
-  pub second_meets : true ≡ meets (saidIf one w f) (saidIf other w s)
+  pub second_meets : true ≡ meets (said_if one w f) (said_if other w s)
   second_meets = rw e
 
-  pub second-joins : other ≡ isSwap (joined (saidIf one w f) (saidIf other w s))
-  second-joins = rw e (swaps other)
+  pub second_joins : other ≡ is_swap (joined (said_if one w f) (said_if other w s))
+  second_joins = rw e (swaps other)
     where
-      swaps : (t : Bool) → t ≡ isSwap (saidIf t w s)
+      swaps : (t : Bool) → t ≡ is_swap (said_if t w s)
       swaps true = refl
       swaps false = refl
 
-  pub second-joined : {r : Change} → r ≡ saidIf other w s → r ≡ joined (saidIf one w f) (saidIf other w s)
-  second-joined p = rw e p
+  pub second_joined : {r : Change} → r ≡ said_if other w s → r ≡ joined (said_if one w f) (said_if other w s)
+  second_joined p = rw e p
 
 -- in the first and not in the second
 module _ {one other : Bool} (e : one ≡ true) (g : other ≡ false) (w : ℕ) (f s : List ℕ) where
-  pub first-meets : true ≡ meets (saidIf one w f) (saidIf other w s)
-  first-meets = rw (e, g)
+  pub first_meets : true ≡ meets (said_if one w f) (said_if other w s)
+  first_meets = rw (e, g)
 
-  pub first-joins : true ≡ isSwap (joined (saidIf one w f) (saidIf other w s))
-  first-joins = rw (e, g)
+  pub first_joins : true ≡ is_swap (joined (said_if one w f) (said_if other w s))
+  first_joins = rw (e, g)
 
-  pub first-joined : {r : Change} → r ≡ saidIf one w f → r ≡ joined (saidIf one w f) (saidIf other w s)
-  first-joined p = p ∙ rw (e, g)
+  pub first_joined : {r : Change} → r ≡ said_if one w f → r ≡ joined (said_if one w f) (said_if other w s)
+  first_joined p = p ∙ rw (e, g)
 
 -- in both
 module _ {one other : Bool} (e : one ≡ true) (g : other ≡ true) (w p q : ℕ) (f s : List ℕ) where
@@ -150,75 +150,75 @@ module _ {one other : Bool} (e : one ≡ true) (g : other ≡ true) (w p q : ℕ
   places n = omega arith
 
   pub both_meet : {new old : ℕ} → new ≡ number (take w (drop (p + 2 + w) f)) → old ≡ number (take w (drop (q + 2) s))
-      → eqb new old ≡ meets (saidIf one w (drop p f)) (saidIf other w (drop q s))
+      → eqb new old ≡ meets (said_if one w (drop p f)) (said_if other w (drop q s))
   both_meet a b = rw (e, g, drop-drop (2 + w) p f, places p, drop-drop 2 q s, a, b)
 
   module _ {old new : ℕ} (a : old ≡ number (take w (drop (p + 2) f)))
       (b : new ≡ number (take w (drop (q + 2 + w) s))) where
-    both-are : joined (saidIf one w (drop p f)) (saidIf other w (drop q s)) ≡ differ old new
-    both-are = rw (e, g, drop-drop 2 p f, drop-drop (2 + w) q s, places q, a, b)
+    both_are : joined (said_if one w (drop p f)) (said_if other w (drop q s)) ≡ differ old new
+    both_are = rw (e, g, drop-drop 2 p f, drop-drop (2 + w) q s, places q, a, b)
 
-    pub both-join : not (eqb old new) ≡ isSwap (joined (saidIf one w (drop p f)) (saidIf other w (drop q s)))
-    both-join = differ-swap old new ∙ sym (ap isSwap both-are)
+    pub both_join : not (eqb old new) ≡ is_swap (joined (said_if one w (drop p f)) (said_if other w (drop q s)))
+    both_join = differ_swap old new ∙ sym (ap is_swap both_are)
 
-    pub both-joined : {r : Change} → r ≡ differ old new
-        → r ≡ joined (saidIf one w (drop p f)) (saidIf other w (drop q s))
-    both-joined p = p ∙ sym both-are
+    pub both_joined : {r : Change} → r ≡ differ old new
+        → r ≡ joined (said_if one w (drop p f)) (said_if other w (drop q s))
+    both_joined p = p ∙ sym both_are
 
 -- ---- the step
 
 -- each walk's step, from what the functions it calls ensure
 module _ {i w : ℕ} {f : List ℕ} {p : ℕ} {s : List ℕ} {q : ℕ} where
-  pub difference-step : p + w ≤ length f → q + w ≤ length s → {a b : ℕ} {c : Change}
+  pub difference_step : p + w ≤ length f → q + w ≤ length s → {a b : ℕ} {c : Change}
       → a ≡ number (take w (drop p f)) → b ≡ number (take w (drop q s)) → c ≡ differ a b
       → Stepped Walk.Difference i w f p s q (record { change = c; agrees = true; first = w; second = w })
   unfolding step_of
-  difference-step h k ea eb ec = record { is = rw (ec, ea, eb); near = h; far = k }
+  difference_step h k ea eb ec = record { is = rw (ec, ea, eb); near = h; far = k }
 
   pub join_step : p ≤ length f → q ≤ length s → {one other : Bool} → one ≡ names i w (drop p f)
       → other ≡ names i w (drop q s)
       → {e : Change} {t : Bool} {m n : ℕ}
-      → e ≡ joined (saidIf one w (drop p f)) (saidIf other w (drop q s))
-      → t ≡ meets (saidIf one w (drop p f)) (saidIf other w (drop q s))
-      → m ≡ sizeIf one w → n ≡ sizeIf other w
+      → e ≡ joined (said_if one w (drop p f)) (said_if other w (drop q s))
+      → t ≡ meets (said_if one w (drop p f)) (said_if other w (drop q s))
+      → m ≡ size_if one w → n ≡ size_if other w
       → Stepped Walk.Join i w f p s q (record { change = e; agrees = t; first = m; second = n })
-  unfolding step_of changeAt
+  unfolding step_of change_at
   join_step h k {one} {other} eo es ee et em en = record {
-    is = rw (ee, et, em, en, ← span-said one w (drop p f), ← span-said other w (drop q s), eo, es);
-    near = omega (arith, names-inside f p i w h eo, em);
-    far = omega (arith, names-inside s q i w k es, en);
+    is = rw (ee, et, em, en, ← span_said one w (drop p f), ← span_said other w (drop q s), eo, es);
+    near = omega (arith, names_inside f p i w h eo, em);
+    far = omega (arith, names_inside s q i w k es, en);
   }
 
-  pub turn_step : p ≤ length f → q ≤ length s → {c d : Change} {m : ℕ} → c ≡ changeAt i w (drop p f) → d ≡ back c
+  pub turn_step : p ≤ length f → q ≤ length s → {c d : Change} {m : ℕ} → c ≡ change_at i w (drop p f) → d ≡ back c
       → m ≡ span w c
       → Stepped Walk.Turn i w f p s q (record { change = d; agrees = true; first = m; second = 0 })
   unfolding step_of
-  turn_step h k ec ed em = record { is = rw (ed, em, ec); near = said-inside f p i w h ec em; far = omega arith }
+  turn_step h k ec ed em = record { is = rw (ed, em, ec); near = said_inside f p i w h ec em; far = omega arith }
 
 -- count and size of a change's entry, from whether there is one
-pub count-swap : (c : Change) → countIf (isSwap c) ≡ entries (c ∷ [])
-count-swap keep = refl
-count-swap (swap old new) = refl
+pub count_swap : (c : Change) → count_if (is_swap c) ≡ entries (c ∷ [])
+count_swap keep = refl
+count_swap (swap old new) = refl
 
-pub size-swap : (w : ℕ) (c : Change) → sizeIf (isSwap c) w ≡ span w c
-size-swap w keep = refl
-size-swap w (swap old new) = refl
+pub size_swap : (w : ℕ) (c : Change) → size_if (is_swap c) w ≡ span w c
+size_swap w keep = refl
+size_swap w (swap old new) = refl
 
 -- ---- an element and an entry written
 
-pub renewed-put : (part : List ℕ) {ys : List ℕ} {old new : ℕ} {c : Change} → c ≡ swap old new
+pub renewed_put : (part : List ℕ) {ys : List ℕ} {old new : ℕ} {c : Change} → c ≡ swap old new
     → ys ≡ bytes (length part) new → ys ≡ renewed c part
-renewed-put part e p = p ∙ sym (ap (λ (d : Change). renewed d part) e)
+renewed_put part e p = p ∙ sym (ap (λ (d : Change). renewed d part) e)
 
 none : (xs : List ℕ) → length xs ≡ 0 → xs ≡ []
 none [] h = refl
 none (x ∷ xs) h = absurd (omega arith)
 
-pub entry_kept : (part : List ℕ) (i w : ℕ) {c : Change} → length part ≡ span w c → c ≡ keep → part ≡ entryBytes i w c
-entry_kept part i w l e = none part (l ∙ ap (span w) e) ∙ sym (ap (entryBytes i w) e)
+pub entry_kept : (part : List ℕ) (i w : ℕ) {c : Change} → length part ≡ span w c → c ≡ keep → part ≡ entry_bytes i w c
+entry_kept part i w l e = none part (l ∙ ap (span w) e) ∙ sym (ap (entry_bytes i w) e)
 
 entry_done : (i w old new : ℕ)
-    → (([] ++ bytes 2 i) ++ bytes (2 + w - 2) old) ++ bytes (2 + w + w - (2 + w)) new ≡ entryBytes i w (swap old new)
+    → (([] ++ bytes 2 i) ++ bytes (2 + w - 2) old) ++ bytes (2 + w + w - (2 + w)) new ≡ entry_bytes i w (swap old new)
 entry_done i w old new =
     let m : 2 + w - 2 ≡ w = omega arith in
     let n : 2 + w + w - (2 + w) ≡ w = omega arith in
@@ -229,60 +229,60 @@ module _ (part : List ℕ) (w : ℕ) {old new : ℕ} {c : Change} (l : length pa
   long : length part ≡ 2 + (w + w)
   long = l ∙ ap (span w) e
 
-  pub number-inside : 2 ≤ length part
-  number-inside = omega (arith, long)
+  pub number_inside : 2 ≤ length part
+  number_inside = omega (arith, long)
 
   -- a put keeps the part's length
-  pub old-inside : (b : List ℕ) → length b ≡ length part → 2 + w ≤ length b
-  old-inside b p = omega (arith, long)
+  pub old_inside : (b : List ℕ) → length b ≡ length part → 2 + w ≤ length b
+  old_inside b p = omega (arith, long)
 
-  pub new-inside : (b d : List ℕ) → length b ≡ length part → length d ≡ length b → 2 + w + w ≤ length d
-  new-inside b d p q = omega (arith, long)
+  pub new_inside : (b d : List ℕ) → length b ≡ length part → length d ≡ length b → 2 + w + w ≤ length d
+  new_inside b d p q = omega (arith, long)
 
-  pub entry-put : (i : ℕ) {xs ys zs : List ℕ} → xs ≡ bytes (length (mid_of 0 2 part)) i
+  pub entry_put : (i : ℕ) {xs ys zs : List ℕ} → xs ≡ bytes (length (mid_of 0 2 part)) i
       → ys ≡ bytes (length (mid_of 2 (2 + w - 2) (put_mid 0 2 part xs))) old
       → zs ≡ bytes (length (mid_of (2 + w) (2 + w + w - (2 + w)) (put_mid 2 (2 + w - 2) (put_mid 0 2 part xs) ys))) new
-      → put_mid (2 + w) (2 + w + w - (2 + w)) (put_mid 2 (2 + w - 2) (put_mid 0 2 part xs) ys) zs ≡ entryBytes i w c
-  entry-put i p q r =
-      let w₁ = append-put (start part) i 2 p (omega arith) number-inside in
-      let w₂ = append-put w₁ old (2 + w) q (omega arith) (omega (arith, long)) in
-      let w₃ = append-put w₂ new (2 + w + w) r (omega arith) (omega (arith, long)) in
-      filled w₃ (omega (arith, long)) ∙ entry_done i w old new ∙ sym (ap (entryBytes i w) e)
+      → put_mid (2 + w) (2 + w + w - (2 + w)) (put_mid 2 (2 + w - 2) (put_mid 0 2 part xs) ys) zs ≡ entry_bytes i w c
+  entry_put i p q r =
+      let w₁ = append_put (start part) i 2 p (omega arith) number_inside in
+      let w₂ = append_put w₁ old (2 + w) q (omega arith) (omega (arith, long)) in
+      let w₃ = append_put w₂ new (2 + w + w) r (omega arith) (omega (arith, long)) in
+      filled w₃ (omega (arith, long)) ∙ entry_done i w old new ∙ sym (ap (entry_bytes i w) e)
 
 -- ---- objects of which nothing is said
 
 module _ (l : List ℕ) (at i n : ℕ) (h : i ≤ n) where
   -- no entry is left
-  pub silent-cut : length l - at < 2 → Silent i n n (drop at l)
-  silent-cut c =
-      record { on = h; within = omega arith; says = λ k w _ _. says-cut (drop at l) k w (rw length-drop (omega arith)) }
+  pub silent_cut : length l - at < 2 → Silent i n n (drop at l)
+  silent_cut c =
+      record { on = h; within = omega arith; says = λ k w _ _. says_cut (drop at l) k w (rw length-drop (omega arith)) }
 
   -- the next entry names an object already passed, one past the end, or one between
   module _ {m : ℕ} (e : m ≡ number (take 2 (drop at l))) where
-    pub silent-past : m < i → Silent i n n (drop at l)
-    silent-past c =
+    pub silent_past : m < i → Silent i n n (drop at l)
+    silent_past c =
         record { on = h; within = omega arith; says = λ k w a b. says_nothing (drop at l) k w e (λ q. omega arith) }
 
-    pub silent-after : n < m → Silent i n n (drop at l)
-    silent-after c =
+    pub silent_after : n < m → Silent i n n (drop at l)
+    silent_after c =
         record { on = h; within = omega arith; says = λ k w a b. says_nothing (drop at l) k w e (λ q. omega arith) }
 
-    pub silent-between : i ≤ m → m ≤ n → Silent i m n (drop at l)
-    silent-between c d =
+    pub silent_between : i ≤ m → m ≤ n → Silent i m n (drop at l)
+    silent_between c d =
         record { on = c; within = d; says = λ k w a b. says_nothing (drop at l) k w e (λ q. omega arith) }
 
 -- where nothing is said, there is nothing to do
-pub idle-none : (walk : Walk) (i n : ℕ) (f s : List ℕ) → i ≤ n → AllIdle walk i i n f s
-idle-none walk i n f s h = record { on = omega arith; within = h; is = λ k w a b. absurd (omega arith) }
+pub idle_none : (walk : Walk) (i n : ℕ) (f s : List ℕ) → i ≤ n → AllIdle walk i i n f s
+idle_none walk i n f s h = record { on = omega arith; within = h; is = λ k w a b. absurd (omega arith) }
 
-pub idle-join : {i m n j : ℕ} {f s : List ℕ} → Silent i m n f → Silent i j m s → AllIdle Walk.Join i j n f s
+pub idle_join : {i m n j : ℕ} {f s : List ℕ} → Silent i m n f → Silent i j m s → AllIdle Walk.Join i j n f s
 unfolding step_of
-idle-join a b = record {
+idle_join a b = record {
   on = b.on;
   within = omega (arith, a.within, b.within);
   is = λ k w g h. rw (a.says k w g (omega (arith, b.within)), b.says k w g h);
 }
 
-pub idle-turn : {i j n : ℕ} {f : List ℕ} (s : List ℕ) → Silent i j n f → AllIdle Walk.Turn i j n f s
+pub idle_turn : {i j n : ℕ} {f : List ℕ} (s : List ℕ) → Silent i j n f → AllIdle Walk.Turn i j n f s
 unfolding step_of
-idle-turn s a = record { on = a.on; within = a.within; is = λ k w g h. rw (a.says k w g h) }
+idle_turn s a = record { on = a.on; within = a.within; is = λ k w g h. rw (a.says k w g h) }

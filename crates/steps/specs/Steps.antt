@@ -12,32 +12,32 @@ abbrev pub span : ℕ → Change → ℕ
 span w keep = 0
 span w (swap old new) = 2 + (w + w)
 
-abbrev pub entryBytes : ℕ → ℕ → Change → List ℕ
-entryBytes i w keep = []
-entryBytes i w (swap old new) = bytes 2 i ++ (bytes w old ++ bytes w new)
+abbrev pub entry_bytes : ℕ → ℕ → Change → List ℕ
+entry_bytes i w keep = []
+entry_bytes i w (swap old new) = bytes 2 i ++ (bytes w old ++ bytes w new)
 
 -- the first entry of b is whole and names object i
 unfoldable pub names : ℕ → ℕ → List ℕ → Bool
 names i w b = leb (2 + (w + w)) (length b) && eqb (number (take 2 b)) i
 
 -- 1 if there is an entry; the bytes that it takes; and what it says
-abbrev pub countIf : Bool → ℕ
-countIf t = cond t 1 0
+abbrev pub count_if : Bool → ℕ
+count_if t = cond t 1 0
 
-abbrev pub sizeIf : Bool → ℕ → ℕ
-sizeIf t w = cond t (2 + (w + w)) 0
+abbrev pub size_if : Bool → ℕ → ℕ
+size_if t w = cond t (2 + (w + w)) 0
 
-abbrev pub saidIf : Bool → ℕ → List ℕ → Change
-saidIf t w b = cond t (swap (number (take w (drop 2 b))) (number (take w (drop (2 + w) b)))) keep
+abbrev pub said_if : Bool → ℕ → List ℕ → Change
+said_if t w b = cond t (swap (number (take w (drop 2 b))) (number (take w (drop (2 + w) b)))) keep
 
 -- what the entries b say of object i; only the first is looked at
-unfoldable pub changeAt : ℕ → ℕ → List ℕ → Change
-changeAt i w b = saidIf (names i w b) w b
+unfoldable pub change_at : ℕ → ℕ → List ℕ → Change
+change_at i w b = said_if (names i w b) w b
 
 -- there is an entry
-abbrev pub isSwap : Change → Bool
-isSwap keep = false
-isSwap (swap old new) = true
+abbrev pub is_swap : Change → Bool
+is_swap keep = false
+is_swap (swap old new) = true
 
 -- the element b after a change
 abbrev pub renewed : Change → List ℕ → List ℕ
@@ -56,13 +56,13 @@ unfoldable pub step_of : Walk → ℕ → ℕ → List ℕ → List ℕ → Step
 step_of Walk.Difference i w f s =
     record { change = differ (number (take w f)) (number (take w s)); agrees = true; first = w; second = w }
 step_of Walk.Join i w f s = record {
-  change = joined (changeAt i w f) (changeAt i w s);
-  agrees = meets (changeAt i w f) (changeAt i w s);
-  first = span w (changeAt i w f);
-  second = span w (changeAt i w s);
+  change = joined (change_at i w f) (change_at i w s);
+  agrees = meets (change_at i w f) (change_at i w s);
+  first = span w (change_at i w f);
+  second = span w (change_at i w s);
 }
 step_of Walk.Turn i w f s =
-    record { change = back (changeAt i w f); agrees = true; first = span w (changeAt i w f); second = 0 }
+    record { change = back (change_at i w f); agrees = true; first = span w (change_at i w f); second = 0 }
 
 -- the step taken with the cursors at p and q: neither leaves its form
 pub record Stepped (walk : Walk) (i w : ℕ) (f : List ℕ) (p : ℕ) (s : List ℕ) (q : ℕ) (r : Step) : Type 0 where
@@ -74,7 +74,7 @@ pub record Stepped (walk : Walk) (i w : ℕ) (f : List ℕ) (p : ℕ) (s : List 
 pub record Silent (i j n : ℕ) (b : List ℕ) : Type 0 where
   pub on : i ≤ j
   pub within : j ≤ n
-  pub says : (k w : ℕ) → i ≤ k → k < j → changeAt k w b ≡ keep
+  pub says : (k w : ℕ) → i ≤ k → k < j → change_at k w b ≡ keep
 
 -- the step where there is nothing to do; and that it is the step at each object from i to below j, where f and s are
 -- what remains of the two forms

@@ -6,8 +6,8 @@ ghost use Rattle.std.specs.Prelude.{◌≡◌, ◌+◌, ◌≤◌, ◌<◌, leng
 ghost use Rattle.kinds.specs.Kinds.{width_of};
 ghost use Rattle.history.specs.Table.{kind_at};
 ghost use Rattle.history.specs.Changes.{differ, fits, meets, joined, back};
-ghost use Rattle.tables.specs.Outlines.{kindsOf};
-ghost use Rattle.steps.specs.Steps.{span, entryBytes, names, countIf, sizeIf, saidIf, changeAt, isSwap, Silent};
+ghost use Rattle.tables.specs.Outlines.{kinds_of};
+ghost use Rattle.steps.specs.Steps.{span, entry_bytes, names, count_if, size_if, said_if, change_at, is_swap, Silent};
 ghost use Rattle.steps.specs.Steps.{AllIdle, renewed};
 
 use forms::kind_at;
@@ -73,7 +73,7 @@ pub fn names(entries: &[u8], at: usize, object: usize, width: usize) -> bool
 
 // 1 if there is an entry, else 0.
 pub fn count_if(named: bool) -> usize
-    ensures { (result ≡ countIf named) × (result ≤ 1) }
+    ensures { (result ≡ count_if named) × (result ≤ 1) }
 {
     if !named {
         return 0;
@@ -84,7 +84,7 @@ pub fn count_if(named: bool) -> usize
 // How many bytes the entry takes: its number and two elements, or none.
 pub fn size_if(named: bool, width: usize) -> usize
     requires { width ≤ 4 }
-    ensures { (result ≡ sizeIf named width) × (result ≤ 10) }
+    ensures { (result ≡ size_if named width) × (result ≤ 10) }
 {
     if !named {
         return 0;
@@ -94,8 +94,8 @@ pub fn size_if(named: bool, width: usize) -> usize
 
 // What the entry says: its old and its new element, or that the object keeps its own.
 fn said_if(named: bool, entries: &[u8], at: usize, width: usize) -> Change
-    requires { (at + sizeIf named width ≤ length entries.now) × (width ≤ 4) }
-    ensures { result ≡ saidIf named width (drop at entries.now) }
+    requires { (at + size_if named width ≤ length entries.now) × (width ≤ 4) }
+    ensures { result ≡ said_if named width (drop at entries.now) }
 {
     if !named {
         return Change::Keep;
@@ -111,7 +111,7 @@ fn said_if(named: bool, entries: &[u8], at: usize, width: usize) -> Change
 // What the entries from a place on say of the object; only the first is looked at.
 pub fn change_at(entries: &[u8], at: usize, object: usize, width: usize) -> Change
     requires { (at ≤ length entries.now) × (width ≤ 4) }
-    ensures { result ≡ changeAt object width (drop at entries.now) }
+    ensures { result ≡ change_at object width (drop at entries.now) }
 {
     let named = names(entries, at, object, width);
     said_if(named, entries, at, width)
@@ -130,10 +130,10 @@ pub fn meet_at(
     second: &[u8],
     far: usize,
 ) -> bool
-    requires { (near + sizeIf one width ≤ length first.now) × (far + sizeIf other width ≤ length second.now)
+    requires { (near + size_if one width ≤ length first.now) × (far + size_if other width ≤ length second.now)
         × (width ≤ 4) }
-    ensures { result ≡ meets (saidIf one width (drop near first.now))
-        (saidIf other width (drop far second.now)) }
+    ensures { result ≡ meets (said_if one width (drop near first.now))
+        (said_if other width (drop far second.now)) }
 {
     if !one {
         return true;
@@ -156,11 +156,11 @@ pub fn join_names(
     second: &[u8],
     far: usize,
 ) -> bool
-    requires { (near + sizeIf one width ≤ length first.now) × (far + sizeIf other width ≤ length second.now)
+    requires { (near + size_if one width ≤ length first.now) × (far + size_if other width ≤ length second.now)
         × (width ≤ 4) }
-    ensures { result ≡ isSwap
-        (joined (saidIf one width (drop near first.now))
-        (saidIf other width (drop far second.now))) }
+    ensures { result ≡ is_swap
+        (joined (said_if one width (drop near first.now))
+        (said_if other width (drop far second.now))) }
 {
     if !one {
         return other;
@@ -184,10 +184,10 @@ pub fn join_change(
     second: &[u8],
     far: usize,
 ) -> Change
-    requires { (near + sizeIf one width ≤ length first.now) × (far + sizeIf other width ≤ length second.now)
+    requires { (near + size_if one width ≤ length first.now) × (far + size_if other width ≤ length second.now)
         × (width ≤ 4) }
-    ensures { result ≡ joined (saidIf one width (drop near first.now))
-        (saidIf other width (drop far second.now)) }
+    ensures { result ≡ joined (said_if one width (drop near first.now))
+        (said_if other width (drop far second.now)) }
 {
     if !one {
         return said_if(other, second, far, width);
@@ -203,7 +203,7 @@ pub fn join_change(
 // How many bytes the object's element takes.
 pub fn width_at(kinds: &[u8], object: usize) -> usize
     requires { object < length kinds.now }
-    ensures { (result ≡ width_of (kind_at (kindsOf kinds.now) object)) × (result ≤ 4) }
+    ensures { (result ≡ width_of (kind_at (kinds_of kinds.now) object)) × (result ≤ 4) }
 {
     elements::width(kind_at(kinds, object))
 }
@@ -211,7 +211,7 @@ pub fn width_at(kinds: &[u8], object: usize) -> usize
 // Fills the part with the object's entry; for a kept object the part is empty.
 pub fn put_change(part: &mut [u8], object: u32, width: usize, change: Change)
     requires { (length part.old ≡ span width change) × (width ≤ 4) }
-    ensures { part.new ≡ entryBytes object width change }
+    ensures { part.new ≡ entry_bytes object width change }
 {
     if let Change::Swap(old, new) = change {
         let middle = 2 + width;

@@ -14,26 +14,26 @@ pub yes : {t u : Bool} → t ≡ u → not t ≡ false → u ≡ true
 yes {t} {u} e h = sym e ∙ not-false t h
 
 -- the answer of a verdict that is known
-pub told-refused : {A : Type 0} (v : Verdict A) {x : Refused} {r : Answer} → v ≡ refused x → r ≡ numbers x 0
+pub told_refused : {A : Type 0} (v : Verdict A) {x : Refused} {r : Answer} → v ≡ refused x → r ≡ numbers x 0
     → r ≡ told v
 unfolding told
-told-refused v e q = rw e q
+told_refused v e q = rw e q
 
-pub told-done : {A : Type 0} (v : Verdict A) {a : A} {r : Answer} → v ≡ done a → r ≡ unnamed 0 0 → r ≡ told v
+pub told_done : {A : Type 0} (v : Verdict A) {a : A} {r : Answer} → v ≡ done a → r ≡ unnamed 0 0 → r ≡ told v
 unfolding told
-told-done v e q = rw e q
+told_done v e q = rw e q
 
 -- a refusal is the answer, whatever would come after it
-pub told-first : {A B : Type 0} (v : Verdict A) (f : A → Verdict B) → ((told v).code ≡ 0 → ⊥) → told v ≡ told (then v f)
+pub told_first : {A B : Type 0} (v : Verdict A) (f : A → Verdict B) → ((told v).code ≡ 0 → ⊥) → told v ≡ told (then v f)
 unfolding told
-told-first (refused r) f n = refl
-told-first (done a) f n = absurd (n refl)
+told_first (refused r) f n = refl
+told_first (done a) f n = absurd (n refl)
 
 -- the answer doesn't depend on the value
-pub told-then : {A B : Type 0} (v : Verdict A) (f : A → B) → told (then v (λ a. done (f a))) ≡ told v
+pub told_then : {A B : Type 0} (v : Verdict A) (f : A → B) → told (then v (λ a. done (f a))) ≡ told v
 unfolding told
-told-then (refused r) f = refl
-told-then (done a) f = refl
+told_then (refused r) f = refl
+told_then (done a) f = refl
 
 -- what follows may use the value
 pub then_same : {A B : Type 0} (v : Verdict A) (f g : A → Verdict B) → ((a : A) → v ≡ done a → f a ≡ g a)

@@ -14,142 +14,142 @@ use lib.Seq.{take_all, take-append-le, get_or-append_seam}
 use borrow.Author.Tests.{lt-ltb, le-ltb}
 use Rattle.octets.specs.Octets.{Bytes}
 use Rattle.history.specs.declared.Answer.{Answer}
-use Rattle.history.specs.Verdict.{naming, Verdict, refused, done, then, refusalAt, ◌unless◌⨾◌, numbers, unnamed, told}
-use Rattle.history.specs.Table.{Object, Table, object, objectsBytes}
-use Rattle.history.specs.Calls.{tableCall, Place, labelPlace, labelCall}
+use Rattle.history.specs.Verdict.{naming, Verdict, refused, done, then, refusal_at, ◌unless◌⨾◌, numbers, unnamed, told}
+use Rattle.history.specs.Table.{Object, Table, object, objects_bytes}
+use Rattle.history.specs.Calls.{table_call, Place, label_place, label_call}
 use Rattle.history.proofs.LabelLaws.{LabelIs, label_is}
 use Rattle.history.proofs.TableLaws.{nobody}
 use Rattle.tables.specs.declared.place.LabelAt.{LabelAt}
-use Rattle.heads.specs.Heads.{countIn, objectsPlace}
-use Rattle.heads.proofs.Places.{label-from}
+use Rattle.heads.specs.Heads.{count_in, objects_place}
+use Rattle.heads.proofs.Places.{label_from}
 use Rattle.tables.specs.Places.{place_of}
-use Rattle.tables.specs.LabelPlaces.{no_label, labelTold, LabelFound}
-use Rattle.tables.proofs.AnswerLaws.{told-first}
+use Rattle.tables.specs.LabelPlaces.{no_label, label_told, LabelFound}
+use Rattle.tables.proofs.AnswerLaws.{told_first}
 use Rattle.tables.proofs.EntryLaws.{GoodEntry}
-use Rattle.tables.proofs.PlaceLaws.{objectOf, objectsBelow, length-below}
+use Rattle.tables.proofs.PlaceLaws.{object_of, objects_below, length_below}
 use Rattle.tables.proofs.RepeatLaws.{part_length}
 use Rattle.tables.proofs.TableLaws.{Accepted, accepted, table_of}
 
 -- ---- the objects by their places
 
 module _ (b : List ℕ) where
-  take_below : (n i : ℕ) → i ≤ n → take i (objectsBelow b n) ≡ objectsBelow b i
+  take_below : (n i : ℕ) → i ≤ n → take i (objects_below b n) ≡ objects_below b i
   take_below zero zero h = refl
   take_below zero (suc i) h = absurd (omega arith)
   take_below (suc n) i h =
       ⊎_elim
-      (λ e. ap (λ (k : ℕ). take k (objectsBelow b (suc n))) e
-      ∙ take_all (suc n) (objectsBelow b (suc n)) (omega (arith, length-below b (suc n)))
-      ∙ ap (objectsBelow b) (sym e))
-      (λ l. take-append-le i (objectsBelow b n) (objectOf b n ∷ []) (omega (arith, length-below b n))
+      (λ e. ap (λ (k : ℕ). take k (objects_below b (suc n))) e
+      ∙ take_all (suc n) (objects_below b (suc n)) (omega (arith, length_below b (suc n)))
+      ∙ ap (objects_below b) (sym e))
+      (λ l. take-append-le i (objects_below b n) (object_of b n ∷ []) (omega (arith, length_below b n))
       ∙ take_below n i (omega arith))
       (eq-or-lt_of_le h)
 
-  at-below : (n i : ℕ) → i < n → get_or (objectsBelow b n) i nobody ≡ objectOf b i
-  at-below zero i h = absurd (omega arith)
-  at-below (suc n) i h =
+  at_below : (n i : ℕ) → i < n → get_or (objects_below b n) i nobody ≡ object_of b i
+  at_below zero i h = absurd (omega arith)
+  at_below (suc n) i h =
       ⊎_elim
-      (λ e. let l : i ≡ length (objectsBelow b n) = omega (arith, length-below b n) in
-      ap (λ (k : ℕ). get_or (objectsBelow b (suc n)) k nobody) l
-      ∙ get_or-append_seam (objectsBelow b n) (objectOf b n) [] nobody ∙ ap (objectOf b) (sym e))
-      (λ l. get_or-append (objectsBelow b n) (objectOf b n ∷ []) nobody i (omega (arith, length-below b n))
-      ∙ at-below n i l)
+      (λ e. let l : i ≡ length (objects_below b n) = omega (arith, length_below b n) in
+      ap (λ (k : ℕ). get_or (objects_below b (suc n)) k nobody) l
+      ∙ get_or-append_seam (objects_below b n) (object_of b n) [] nobody ∙ ap (object_of b) (sym e))
+      (λ l. get_or-append (objects_below b n) (object_of b n ∷ []) nobody i (omega (arith, length_below b n))
+      ∙ at_below n i l)
       (eq-or-lt_of_le (le_of_suc-le-suc h))
 
-bytes-snoc : (os : List Object) (o : Object)
-    → length (objectsBytes (os ++ (o ∷ []))) ≡ length (objectsBytes os) + (2 + length o.label)
-bytes-snoc [] o = simp length-append (omega arith)
-bytes-snoc (p ∷ os) o = simp length-append (omega (arith, bytes-snoc os o))
+bytes_snoc : (os : List Object) (o : Object)
+    → length (objects_bytes (os ++ (o ∷ []))) ≡ length (objects_bytes os) + (2 + length o.label)
+bytes_snoc [] o = simp length-append (omega arith)
+bytes_snoc (p ∷ os) o = simp length-append (omega (arith, bytes_snoc os o))
 
 -- an entry begins where the entries before it end, when written
 place_is : (b : List ℕ) (i : ℕ) → ((k : ℕ) → k < i → GoodEntry b (place_of b k))
-    → objectsPlace + length (objectsBytes (objectsBelow b i)) ≡ place_of b i
+    → objects_place + length (objects_bytes (objects_below b i)) ≡ place_of b i
 unfolding place_of
 place_is b zero h = omega arith
 place_is b (suc i) h =
     let p : ℕ = place_of b i in
     let g = h i (omega arith) in
     let l = part_length b (p + 2) (get_or b (p + 1) 0) (omega (arith, g.all)) in
-    omega (arith, bytes-snoc (objectsBelow b i) (objectOf b i), place_is b i (λ k m. h k (omega arith)))
+    omega (arith, bytes_snoc (objects_below b i) (object_of b i), place_is b i (λ k m. h k (omega arith)))
 
 -- object i of an accepted table, and its label's place, from the place of its entry
-pub object-is : (b : List ℕ) {t : Table} → Accepted b t → (i : ℕ) → i < countIn b → object t i ≡ objectOf b i
-object-is b a i h = ap (λ (os : List Object). get_or os i nobody) a.objects ∙ at-below b (countIn b) i h
+pub object_is : (b : List ℕ) {t : Table} → Accepted b t → (i : ℕ) → i < count_in b → object t i ≡ object_of b i
+object_is b a i h = ap (λ (os : List Object). get_or os i nobody) a.objects ∙ at_below b (count_in b) i h
 
-label-place-is : (b : List ℕ) {t : Table} → Accepted b t → (i : ℕ) → i < countIn b
-    → labelPlace t i ≡ record { offset = place_of b i + 2; size = get_or b (place_of b i + 1) 0 }
-label-place-is b {t} a i h =
+label_place_is : (b : List ℕ) {t : Table} → Accepted b t → (i : ℕ) → i < count_in b
+    → label_place t i ≡ record { offset = place_of b i + 2; size = get_or b (place_of b i + 1) 0 }
+label_place_is b {t} a i h =
     let p : ℕ = place_of b i in
-    let front : take i t.objects ≡ objectsBelow b i =
-    ap (take i) a.objects ∙ take_below b (countIn b) i (omega arith) in
-    let there : objectsPlace + length (objectsBytes (objectsBelow b i)) ≡ p =
+    let front : take i t.objects ≡ objects_below b i =
+    ap (take i) a.objects ∙ take_below b (count_in b) i (omega arith) in
+    let there : objects_place + length (objects_bytes (objects_below b i)) ≡ p =
     place_is b i (λ k m. a.each k (omega arith)) in
-    let offset : objectsPlace + (length (objectsBytes (take i t.objects)) + 2) ≡ p + 2 =
-    omega (arith, ap (λ (os : List Object). length (objectsBytes os)) front) in
+    let offset : objects_place + (length (objects_bytes (take i t.objects)) + 2) ≡ p + 2 =
+    omega (arith, ap (λ (os : List Object). length (objects_bytes os)) front) in
     let size : length (object t i).label ≡ get_or b (p + 1) 0 =
-    ap (λ (o : Object). length o.label) (object-is b a i h)
+    ap (λ (o : Object). length o.label) (object_is b a i h)
     ∙ part_length b (p + 2) (get_or b (p + 1) 0) (omega (arith, (a.each i h).all)) in
-    label-from t i ∙ (λ j. record { offset = offset j; size = size j })
+    label_from t i ∙ (λ j. record { offset = offset j; size = size j })
 
 -- ---- each answer
 
-refused-label : {A : Type 0} (v : Verdict A) (f : A → Verdict Place) (a : Answer) → a ≡ told v → (a.code ≡ 0 → ⊥)
-    → no_label a ≡ labelTold (then v f)
-unfolding labelTold told
-refused-label (refused r) f a e n = ap no_label e
-refused-label (done t) f a e n = absurd (n (ap (λ (a : Answer). a.code) e))
+refused_label : {A : Type 0} (v : Verdict A) (f : A → Verdict Place) (a : Answer) → a ≡ told v → (a.code ≡ 0 → ⊥)
+    → no_label a ≡ label_told (then v f)
+unfolding label_told told
+refused_label (refused r) f a e n = ap no_label e
+refused_label (done t) f a e n = absurd (n (ap (λ (a : Answer). a.code) e))
 
-pub label-table : (b : List ℕ) (i : ℕ) (a : Answer) → a ≡ told (tableCall b) → (a.code ≡ 0 → ⊥) → (r : LabelAt)
+pub label_table : (b : List ℕ) (i : ℕ) (a : Answer) → a ≡ told (table_call b) → (a.code ≡ 0 → ⊥) → (r : LabelAt)
     → r ≡ no_label a → LabelFound b i r
-unfolding labelCall tableCall
-label-table b i a e n r r-is =
+unfolding label_call table_call
+label_table b i a e n r r-is =
     rw r-is (record {
-      whole = refused-label (tableCall b) _ a e n;
-      answer = e ∙ told-first (tableCall b) _ (λ z. n (ap (λ (x : Answer). x.code) e ∙ z));
+      whole = refused_label (table_call b) _ a e n;
+      answer = e ∙ told_first (table_call b) _ (λ z. n (ap (λ (x : Answer). x.code) e ∙ z));
       inside = omega arith;
       place = λ z. absurd (n z);
     })
 
-module _ (b : List ℕ) (i : ℕ) (z : (told (tableCall b)).code ≡ 0) where
-  call-is : labelCall b i
-      ≡ (refusalAt 13 i unless ltb i (length (table_of b z).0.objects) ⨾ done (labelPlace (table_of b z).0 i))
-  unfolding labelCall tableCall
-  call-is = rw (table_of b z).1
+module _ (b : List ℕ) (i : ℕ) (z : (told (table_call b)).code ≡ 0) where
+  call_is : label_call b i
+      ≡ (refusal_at 13 i unless ltb i (length (table_of b z).0.objects) ⨾ done (label_place (table_of b z).0 i))
+  unfolding label_call table_call
+  call_is = rw (table_of b z).1
 
-  pub label-none : countIn b ≤ i → (c : Answer) → c ≡ numbers (naming 13 i 255) 0 → (r : LabelAt) → r ≡ no_label c
+  pub label_none : count_in b ≤ i → (c : Answer) → c ≡ numbers (naming 13 i 255) 0 → (r : LabelAt) → r ≡ no_label c
       → LabelFound b i r
-  unfolding labelTold told
-  label-none h c c-is r r-is =
+  unfolding label_told told
+  label_none h c c-is r r-is =
       let t = table_of b z in
       let many : ltb i (length t.0.objects) ≡ false =
       le-ltb i (length t.0.objects) (omega (arith, (accepted b t.1).count)) in
-      let call : labelCall b i ≡ refusalAt 13 i = call-is ∙ rw many in
+      let call : label_call b i ≡ refusal_at 13 i = call_is ∙ rw many in
       rw (r-is, c-is) (record {
-        whole = sym (ap labelTold call);
+        whole = sym (ap label_told call);
         answer = sym (ap told call);
         inside = omega arith;
         place = λ q. absurd (omega arith);
       })
 
-  call-found : i < countIn b → labelCall b i ≡ done (labelPlace (table_of b z).0 i)
-  call-found h =
+  call_found : i < count_in b → label_call b i ≡ done (label_place (table_of b z).0 i)
+  call_found h =
       let few : ltb i (length (table_of b z).0.objects) ≡ true =
       lt-ltb i (length (table_of b z).0.objects) (omega (arith, (accepted b (table_of b z).1).count)) in
-      call-is ∙ rw few
+      call_is ∙ rw few
 
-  pub label-found : i < countIn b → (at : ℕ) → at ≡ place_of b i → (n : ℕ) → n ≡ get_or b (at + 1) 0 → (c : Answer)
+  pub label_found : i < count_in b → (at : ℕ) → at ≡ place_of b i → (n : ℕ) → n ≡ get_or b (at + 1) 0 → (c : Answer)
       → c ≡ unnamed 0 0
       → LabelFound b i (record { answer = c; offset = at + 2; size = n })
-  unfolding labelTold told
-  label-found h at at-is n n-is c c-is =
+  unfolding label_told told
+  label_found h at at-is n n-is c c-is =
       let t = table_of b z in
       let acc = accepted b t.1 in
       let size : n ≡ get_or b (place_of b i + 1) 0 = n-is ∙ ap (λ (p : ℕ). get_or b (p + 1) 0) at-is in
-      let place : record { offset = at + 2; size = n } ≡ labelPlace t.0 i =
-      (λ j. record { offset = at-is j + 2; size = size j }) ∙ sym (label-place-is b acc i h) in
-      let call : labelCall b i ≡ done (record { offset = at + 2; size = n }) = call-found h ∙ ap done (sym place) in
+      let place : record { offset = at + 2; size = n } ≡ label_place t.0 i =
+      (λ j. record { offset = at-is j + 2; size = size j }) ∙ sym (label_place_is b acc i h) in
+      let call : label_call b i ≡ done (record { offset = at + 2; size = n }) = call_found h ∙ ap done (sym place) in
       record {
-        whole = ap (λ (c : Answer). record { answer = c; offset = at + 2; size = n }) c-is ∙ sym (ap labelTold call);
+        whole = ap (λ (c : Answer). record { answer = c; offset = at + 2; size = n }) c-is ∙ sym (ap label_told call);
         answer = c-is ∙ sym (ap told call);
         inside = omega (arith, (acc.each i h).all);
         place = λ q. call;
@@ -157,17 +157,17 @@ module _ (b : List ℕ) (i : ℕ) (z : (told (tableCall b)).code ≡ 0) where
 
 -- ---- what a caller relies on
 
-place-empty : (v : Verdict Place) (r : LabelAt) → r ≡ labelTold v → (r.answer.code ≡ 0 → ⊥)
+place_empty : (v : Verdict Place) (r : LabelAt) → r ≡ label_told v → (r.answer.code ≡ 0 → ⊥)
     → (r.offset ≡ 0) × (r.size ≡ 0)
-unfolding labelTold told
-place-empty (refused x) r e n = (ap (λ (r : LabelAt). r.offset) e, ap (λ (r : LabelAt). r.size) e)
-place-empty (done p) r e n = absurd (n (ap (λ (r : LabelAt). r.answer.code) e))
+unfolding label_told told
+place_empty (refused x) r e n = (ap (λ (r : LabelAt). r.offset) e, ap (λ (r : LabelAt). r.size) e)
+place_empty (done p) r e n = absurd (n (ap (λ (r : LabelAt). r.answer.code) e))
 
 module _ {b : List ℕ} {i : ℕ} {r : LabelAt} (l : LabelFound b i r) where
   -- refused: no bytes
-  pub label-empty : (r.answer.code ≡ 0 → ⊥) → (r.offset ≡ 0) × (r.size ≡ 0)
-  label-empty = place-empty (labelCall b i) r l.whole
+  pub label_empty : (r.answer.code ≡ 0 → ⊥) → (r.offset ≡ 0) × (r.size ≡ 0)
+  label_empty = place_empty (label_call b i) r l.whole
 
   -- accepted: the bytes are the object's label
-  pub label-bytes : r.answer.code ≡ 0 → Bytes b → LabelIs b i (record { offset = r.offset; size = r.size })
-  label-bytes z h = label_is b h i (l.place z)
+  pub label_bytes : r.answer.code ≡ 0 → Bytes b → LabelIs b i (record { offset = r.offset; size = r.size })
+  label_bytes z h = label_is b h i (l.place z)

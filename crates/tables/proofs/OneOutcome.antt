@@ -4,14 +4,14 @@ use Prim.Native.Nat.{ℕ}
 use mathlib.Core.Path.{◌≡◌}
 use mathlib.Core.List.{List}
 use Rattle.history.specs.declared.Answer.{Answer}
-use Rattle.history.specs.Calls.{tableCall}
-use Rattle.history.proofs.OneOutcome.{one-outcome, Tells}
+use Rattle.history.specs.Calls.{table_call}
+use Rattle.history.proofs.OneOutcome.{one_outcome, Tells}
 use Rattle.tables.specs.declared.place.LabelAt.{LabelAt}
 use Rattle.tables.specs.LabelPlaces.{LabelFound}
 
 module _ (T : List ℕ) where
-  pub one-table-check : {r r' : Answer} → Tells (tableCall T) r → Tells (tableCall T) r' → r ≡ r'
-  one-table-check = one-outcome
+  pub one_table_check : {r r' : Answer} → Tells (table_call T) r → Tells (table_call T) r' → r ≡ r'
+  one_table_check = one_outcome
 
-  pub one-label-place : (i : ℕ) {r r' : LabelAt} → LabelFound T i r → LabelFound T i r' → r ≡ r'
-  one-label-place i p q = one-outcome p.whole q.whole
+  pub one_label_place : (i : ℕ) {r r' : LabelAt} → LabelFound T i r → LabelFound T i r' → r ≡ r'
+  one_label_place i p q = one_outcome p.whole q.whole

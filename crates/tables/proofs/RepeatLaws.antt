@@ -10,29 +10,29 @@ use mathlib.Core.List.{List}
 use mathlib.Core.Logic.{⊎_elim}
 use lib.ListN.{length, get_or, take, drop, length-drop}
 use lib.Seq.{ext_get_or, get_or-take, get_or-drop, length-take-le}
-use Rattle.history.specs.Table.{Object, sameObject}
-use Rattle.history.proofs.TableLaws.{object-refl, object-eq}
+use Rattle.history.specs.Table.{Object, same_object}
+use Rattle.history.proofs.TableLaws.{object_refl, object_eq}
 use Rattle.tables.specs.Places.{place_of}
-use Rattle.tables.proofs.PlaceLaws.{objectOf, repeatsBelow}
+use Rattle.tables.proofs.PlaceLaws.{object_of, repeats_below}
 
 -- ---- the search
 
 abbrev pub same : List ℕ → ℕ → ℕ → Bool
-same b j k = sameObject (objectOf b j) (objectOf b k)
+same b j k = same_object (object_of b j) (object_of b k)
 
-pub repeats-none : (b : List ℕ) (k n : ℕ) → ((j : ℕ) → j < n → same b j k ≡ false) → repeatsBelow b k n ≡ false
-repeats-none b k zero f = refl
-repeats-none b k (suc n) f = rw (f n (omega arith)) (repeats-none b k n (λ j l. f j (omega arith)))
+pub repeats_none : (b : List ℕ) (k n : ℕ) → ((j : ℕ) → j < n → same b j k ≡ false) → repeats_below b k n ≡ false
+repeats_none b k zero f = refl
+repeats_none b k (suc n) f = rw (f n (omega arith)) (repeats_none b k n (λ j l. f j (omega arith)))
 
-repeats-more : (b : List ℕ) (k j n : ℕ) → repeatsBelow b k j ≡ true → repeatsBelow b k (j + n) ≡ true
-repeats-more b k j zero h = rw add-zero h
-repeats-more b k j (suc n) h = rw (add-suc, repeats-more b k j n h, or-true)
+repeats_more : (b : List ℕ) (k j n : ℕ) → repeats_below b k j ≡ true → repeats_below b k (j + n) ≡ true
+repeats_more b k j zero h = rw add-zero h
+repeats_more b k j (suc n) h = rw (add-suc, repeats_more b k j n h, or-true)
 
-pub repeats-yes : (b : List ℕ) (k j : ℕ) → j < k → same b j k ≡ true → repeatsBelow b k k ≡ true
-repeats-yes b k j h e =
+pub repeats_yes : (b : List ℕ) (k j : ℕ) → j < k → same b j k ≡ true → repeats_below b k k ≡ true
+repeats_yes b k j h e =
     let f : suc j + (k - suc j) ≡ k = omega arith in
-    let g : repeatsBelow b k (suc j) ≡ true = rw e in
-    ap (repeatsBelow b k) (sym f) ∙ repeats-more b k (suc j) (k - suc j) g
+    let g : repeats_below b k (suc j) ≡ true = rw e in
+    ap (repeats_below b k) (sym f) ∙ repeats_more b k (suc j) (k - suc j) g
 
 -- ---- two labels
 
@@ -46,12 +46,12 @@ part_at b a n i h = rw (get_or-take, get_or-drop)
 pub record Agree (b : List ℕ) (p q i n : ℕ) : Type 0 where
   pub each : (x : ℕ) → i < x → x < n → get_or b (p + x) 0 ≡ get_or b (q + x) 0
 
-pub agree-none : {b : List ℕ} {p q i n : ℕ} → n ≤ i + 1 → Agree b p q i n
-agree-none h = record { each = λ x l m. absurd (omega arith) }
+pub agree_none : {b : List ℕ} {p q i n : ℕ} → n ≤ i + 1 → Agree b p q i n
+agree_none h = record { each = λ x l m. absurd (omega arith) }
 
-pub agree-more : {b : List ℕ} {p q i n : ℕ} → Agree b p q i n → get_or b (p + i) 0 ≡ get_or b (q + i) 0
+pub agree_more : {b : List ℕ} {p q i n : ℕ} → Agree b p q i n → get_or b (p + i) 0 ≡ get_or b (q + i) 0
     → Agree b p q (i - 1) n
-agree-more a e =
+agree_more a e =
     record { each = λ x l m. ⊎_elim (λ s. rw (← s) e) (λ lt. a.each x lt m) (eq-or-lt_of_le (omega arith)) }
 
 -- a label of n bytes follows its entry's first two
@@ -67,9 +67,9 @@ module _ (b : List ℕ) (p q n : ℕ) where
       part_at b (p + 2) n x lt ∙ rw (e₁, e₂) (a.each (2 + x) (omega arith) (omega arith))
       ∙ sym (part_at b (q + 2) n x lt))
 
-  label-byte : take n (drop (p + 2) b) ≡ take n (drop (q + 2) b) → (x : ℕ) → 1 < x → x < 2 + n
+  label_byte : take n (drop (p + 2) b) ≡ take n (drop (q + 2) b) → (x : ℕ) → 1 < x → x < 2 + n
       → get_or b (p + x) 0 ≡ get_or b (q + x) 0
-  label-byte l x low h =
+  label_byte l x low h =
       let e₁ : p + x ≡ p + 2 + (x - 2) = omega arith in
       let e₂ : q + x ≡ q + 2 + (x - 2) = omega arith in
       rw (e₁, e₂) (sym (part_at b (p + 2) n (x - 2) (omega arith)) ∙ ap (λ (z : List ℕ). get_or z (x - 2) 0) l
@@ -85,14 +85,14 @@ pub record Both (b : List ℕ) (j k was at : ℕ) : Type 0 where
   pub second_fits : at + (2 + get_or b (at + 1) 0) ≤ length b
 
 module _ {b : List ℕ} {j k was at : ℕ} (p : Both b j k was at) where
-  pub same-yes : get_or b (was + 1) 0 ≡ get_or b (at + 1) 0 → get_or b was 0 ≡ get_or b at 0 → (i : ℕ) → i ≤ 1
+  pub same_yes : get_or b (was + 1) 0 ≡ get_or b (at + 1) 0 → get_or b was 0 ≡ get_or b at 0 → (i : ℕ) → i ≤ 1
       → Agree b was at i (2 + get_or b (at + 1) 0) → same b j k ≡ true
-  same-yes n t i low a =
+  same_yes n t i low a =
       let l =
       label_same b was at (get_or b (at + 1) 0) (omega (arith, p.first_fits))
       (omega (arith, p.second_fits)) i low a in
       rw (← p.first, ← p.second, n, t, l)
-      (object-refl (record { type = get_or b at 0; label = take (get_or b (at + 1) 0) (drop (at + 2) b) }))
+      (object_refl (record { type = get_or b at 0; label = take (get_or b (at + 1) 0) (drop (at + 2) b) }))
 
   -- what two entries with the same object have in common
   pub record Common : Type 0 where
@@ -102,7 +102,7 @@ module _ {b : List ℕ} {j k was at : ℕ} (p : Both b j k was at) where
 
   common : same b j k ≡ true → Common
   common e =
-      let o = rw (← p.first, ← p.second) at (object-eq (objectOf b j) (objectOf b k) e) in
+      let o = rw (← p.first, ← p.second) at (object_eq (object_of b j) (object_of b k) e) in
       let l = ap (λ (o : Object). o.label) o in
       let n : get_or b (was + 1) 0 ≡ get_or b (at + 1) 0 =
       sym (part_length b (was + 2) (get_or b (was + 1) 0) (omega (arith, p.first_fits))) ∙ ap length l
@@ -110,8 +110,8 @@ module _ {b : List ℕ} {j k was at : ℕ} (p : Both b j k was at) where
       record {
         size = n;
         type = ap (λ (o : Object). o.type) o;
-        byte = label-byte b was at (get_or b (at + 1) 0) (rw n at l);
+        byte = label_byte b was at (get_or b (at + 1) 0) (rw n at l);
       }
 
-  pub same-no : (Common → ⊥) → same b j k ≡ false
-  same-no d = (not-eq-not {b = false}).0 (λ e. d (common e))
+  pub same_no : (Common → ⊥) → same b j k ≡ false
+  same_no d = (not-eq-not {b = false}).0 (λ e. d (common e))

@@ -14,145 +14,145 @@ use borrow.Author.Tests.{lt-leb, le-leb, leb-true}
 use Rattle.history.specs.declared.Answer.{Answer}
 use Rattle.history.specs.Verdict.{Verdict, done, then, refusal, ◌unless◌⨾◌, unnamed, told}
 use Rattle.history.specs.Form.{is_whole}
-use Rattle.history.specs.Table.{Object, Table, versionGood, catalogueGood}
-use Rattle.history.specs.Calls.{tableCall}
+use Rattle.history.specs.Table.{Object, Table, version_good, catalogue_good}
+use Rattle.history.specs.Calls.{table_call}
 use Rattle.history.proofs.VerdictLaws.{held, used}
-use Rattle.heads.specs.Heads.{countIn, objectsPlace}
-use Rattle.heads.proofs.Forms.{table-inside}
-use Rattle.heads.proofs.Places.{objects-place}
-use Rattle.heads.proofs.Chains.{tableWith, table-chain}
-use Rattle.tables.specs.Places.{place_of, checkObjectAt, objectsIn}
-use Rattle.history.proofs.CodeLaws.{table-call-coded, zero-told}
-use Rattle.tables.proofs.AnswerLaws.{told-then}
-use Rattle.tables.proofs.EntryLaws.{GoodEntry, good-entry}
-use Rattle.tables.proofs.PlaceLaws.{objectsBelow, repeatsBelow, entriesCheck, length-below, place-next}
-use Rattle.tables.proofs.RoundLaws.{entries-are}
+use Rattle.heads.specs.Heads.{count_in, objects_place}
+use Rattle.heads.proofs.Forms.{table_inside}
+use Rattle.heads.proofs.Places.{objects_place_lem}
+use Rattle.heads.proofs.Chains.{table_with, table_chain}
+use Rattle.tables.specs.Places.{place_of, check_object_at, objects_in}
+use Rattle.history.proofs.CodeLaws.{table_call_coded, zero_told}
+use Rattle.tables.proofs.AnswerLaws.{told_then}
+use Rattle.tables.proofs.EntryLaws.{GoodEntry, good_entry}
+use Rattle.tables.proofs.PlaceLaws.{objects_below, repeats_below, entries_check, length_below, place_next}
+use Rattle.tables.proofs.RoundLaws.{entries_are}
 
 module _ (b : List ℕ) where
   -- 1, 2, 3, 4, then the entries
-  abbrev inOrder : Verdict Table
-  inOrder =
+  abbrev in_order : Verdict Table
+  in_order =
       refusal 1 unless is_whole 5 b ⨾
-      refusal 2 unless versionGood (get_or b 4 0) ⨾
-      refusal 3 unless catalogueGood (get_or b 5 0) (get_or b 6 0) ⨾
-      refusal 4 unless leb (countIn b) 1024 ⨾
-      then (objectsIn b (countIn b)) λ os.
-      done (tableWith b os)
+      refusal 2 unless version_good (get_or b 4 0) ⨾
+      refusal 3 unless catalogue_good (get_or b 5 0) (get_or b 6 0) ⨾
+      refusal 4 unless leb (count_in b) 1024 ⨾
+      then (objects_in b (count_in b)) λ os.
+      done (table_with b os)
 
-  in_order : tableCall b ≡ inOrder
-  unfolding tableCall objectsIn
-  in_order = table-chain b
+  in_order_lem : table_call b ≡ in_order
+  unfolding table_call objects_in
+  in_order_lem = table_chain b
 
   -- ---- each answer from the tests that lead there
 
-  pub table-1 : is_whole 5 b ≡ false → unnamed 1 0 ≡ told (tableCall b)
+  pub table_1 : is_whole 5 b ≡ false → unnamed 1 0 ≡ told (table_call b)
   unfolding told
-  table-1 h = rw (in_order, h)
+  table_1 h = rw (in_order_lem, h)
 
   module _ (w : is_whole 5 b ≡ true) where
-    pub table-2 : versionGood (get_or b 4 0) ≡ false → unnamed 2 0 ≡ told (tableCall b)
+    pub table_2 : version_good (get_or b 4 0) ≡ false → unnamed 2 0 ≡ told (table_call b)
     unfolding told
-    table-2 h = rw (in_order, w, h)
+    table_2 h = rw (in_order_lem, w, h)
 
-    module _ (v : versionGood (get_or b 4 0) ≡ true) where
-      pub table-3 : catalogueGood (get_or b 5 0) (get_or b 6 0) ≡ false → unnamed 3 0 ≡ told (tableCall b)
+    module _ (v : version_good (get_or b 4 0) ≡ true) where
+      pub table_3 : catalogue_good (get_or b 5 0) (get_or b 6 0) ≡ false → unnamed 3 0 ≡ told (table_call b)
       unfolding told
-      table-3 h = rw (in_order, w, v, h)
+      table_3 h = rw (in_order_lem, w, v, h)
 
-      module _ (c : catalogueGood (get_or b 5 0) (get_or b 6 0) ≡ true) (n : ℕ) (e : n ≡ countIn b) where
-        pub table-4 : 1024 < n → unnamed 4 0 ≡ told (tableCall b)
+      module _ (c : catalogue_good (get_or b 5 0) (get_or b 6 0) ≡ true) (n : ℕ) (e : n ≡ count_in b) where
+        pub table_4 : 1024 < n → unnamed 4 0 ≡ told (table_call b)
         unfolding told
-        table-4 h =
-            let l : leb (countIn b) 1024 ≡ false = lt-leb (countIn b) 1024 (omega arith) in rw (in_order, w, v, c, l)
+        table_4 h =
+            let l : leb (count_in b) 1024 ≡ false = lt-leb (count_in b) 1024 (omega arith) in rw (in_order_lem, w, v, c, l)
 
-        pub table-rest : n ≤ 1024 → (a : Answer) → a ≡ told (objectsIn b n) → a ≡ told (tableCall b)
-        table-rest h a f =
-            let l : leb (countIn b) 1024 ≡ true = le-leb (countIn b) 1024 (omega arith) in
-            f ∙ ap (λ (m : ℕ). told (objectsIn b m)) e ∙ sym (told-then (objectsIn b (countIn b)) (tableWith b))
-            ∙ rw (in_order, w, v, c, l)
+        pub table_rest : n ≤ 1024 → (a : Answer) → a ≡ told (objects_in b n) → a ≡ told (table_call b)
+        table_rest h a f =
+            let l : leb (count_in b) 1024 ≡ true = le-leb (count_in b) 1024 (omega arith) in
+            f ∙ ap (λ (m : ℕ). told (objects_in b m)) e ∙ sym (told_then (objects_in b (count_in b)) (table_with b))
+            ∙ rw (in_order_lem, w, v, c, l)
 
 -- ---- an accepted table
 
 -- in a run of entries that is accepted each is good, and the objects are those at their places
 record GoodRun (b : List ℕ) (n k : ℕ) (os : List Object) : Type 0 where
   each : (j : ℕ) → k ≤ j → j < k + n → GoodEntry b (place_of b j)
-  objects : os ≡ objectsBelow b (k + n)
+  objects : os ≡ objects_below b (k + n)
 
-good-run : (b : List ℕ) (n k : ℕ) {os : List Object} → entriesCheck b n k ≡ done os → GoodRun b n k os
-unfolding entriesCheck
-good-run b zero k {os} h =
+good_run : (b : List ℕ) (n k : ℕ) {os : List Object} → entries_check b n k ≡ done os → GoodRun b n k os
+unfolding entries_check
+good_run b zero k {os} h =
     let p = held (eqb (place_of b k) (length b)) _ _ h in
     record {
       each = λ j l m. absurd (omega arith);
-      objects = let e : os ≡ objectsBelow b k = cc p.1 in e ∙ ap (objectsBelow b) (sym (add-zero k));
+      objects = let e : os ≡ objects_below b k = cc p.1 in e ∙ ap (objects_below b) (sym (add-zero k));
     }
-good-run b (suc n) k h =
-    let p = used (checkObjectAt b (place_of b k) k) _ h in
-    let q = held (not (repeatsBelow b k k)) _ _ p.2 in
-    let r = good-run b n (suc k) q.1 in
+good_run b (suc n) k h =
+    let p = used (check_object_at b (place_of b k) k) _ h in
+    let q = held (not (repeats_below b k k)) _ _ p.2 in
+    let r = good_run b n (suc k) q.1 in
     let e : k + suc n ≡ suc k + n = omega arith in
     record {
       each =
-          λ j l m. ⊎_elim (λ e. rw (← e) (good-entry b (place_of b k) k p.1)) (λ lt. r.each j lt (omega arith))
+          λ j l m. ⊎_elim (λ e. rw (← e) (good_entry b (place_of b k) k p.1)) (λ lt. r.each j lt (omega arith))
           (eq-or-lt_of_le l);
-      objects = r.objects ∙ ap (objectsBelow b) (sym e);
+      objects = r.objects ∙ ap (objects_below b) (sym e);
     }
 
 -- what an accepted table tells
 pub record Accepted (b : List ℕ) (t : Table) : Type 0 where
-  pub long : objectsPlace ≤ length b
+  pub long : objects_place ≤ length b
   pub version : t.version ≡ get_or b 4 0
   pub x : t.x ≡ get_or b 5 0
   pub y : t.y ≡ get_or b 6 0
-  pub few : countIn b ≤ 1024
-  pub objects : t.objects ≡ objectsBelow b (countIn b)
-  pub count : length t.objects ≡ countIn b
-  pub each : (k : ℕ) → k < countIn b → GoodEntry b (place_of b k)
+  pub few : count_in b ≤ 1024
+  pub objects : t.objects ≡ objects_below b (count_in b)
+  pub count : length t.objects ≡ count_in b
+  pub each : (k : ℕ) → k < count_in b → GoodEntry b (place_of b k)
 
-pub accepted : (b : List ℕ) {t : Table} → tableCall b ≡ done t → Accepted b t
+pub accepted : (b : List ℕ) {t : Table} → table_call b ≡ done t → Accepted b t
 accepted b {t} e =
-    let p₁ = held (is_whole 5 b) _ _ (sym (in_order b) ∙ e) in
-    let p₂ = held (versionGood (get_or b 4 0)) _ _ p₁.1 in
-    let p₃ = held (catalogueGood (get_or b 5 0) (get_or b 6 0)) _ _ p₂.1 in
-    let p₄ = held (leb (countIn b) 1024) _ _ p₃.1 in
-    let p₅ = used (objectsIn b (countIn b)) _ p₄.1 in
-    let t-is : t ≡ tableWith b p₅.0 = cc p₅.2 in
-    let l : objectsPlace ≤ length b = table-inside b p₁.0 in
-    let r = good-run b (countIn b) 0 (sym (entries-are b (countIn b) l) ∙ p₅.1) in
-    let n : 0 + countIn b ≡ countIn b = omega arith in
+    let p₁ = held (is_whole 5 b) _ _ (sym (in_order_lem b) ∙ e) in
+    let p₂ = held (version_good (get_or b 4 0)) _ _ p₁.1 in
+    let p₃ = held (catalogue_good (get_or b 5 0) (get_or b 6 0)) _ _ p₂.1 in
+    let p₄ = held (leb (count_in b) 1024) _ _ p₃.1 in
+    let p₅ = used (objects_in b (count_in b)) _ p₄.1 in
+    let t-is : t ≡ table_with b p₅.0 = cc p₅.2 in
+    let l : objects_place ≤ length b = table_inside b p₁.0 in
+    let r = good_run b (count_in b) 0 (sym (entries_are b (count_in b) l) ∙ p₅.1) in
+    let n : 0 + count_in b ≡ count_in b = omega arith in
     rw t-is (record {
       long = l;
       version = refl;
       x = refl;
       y = refl;
       few = leb-true _ _ p₄.0;
-      objects = r.objects ∙ ap (objectsBelow b) n;
-      count = ap length (r.objects ∙ ap (objectsBelow b) n) ∙ length-below b (countIn b);
+      objects = r.objects ∙ ap (objects_below b) n;
+      count = ap length (r.objects ∙ ap (objects_below b) n) ∙ length_below b (count_in b);
       each = λ k h. r.each k (omega arith) (omega arith);
     })
 
 -- ---- code 0 tells an accepted table
 
-pub table_of : (b : List ℕ) → (told (tableCall b)).code ≡ 0 → (t : Table) × (tableCall b ≡ done t)
-table_of b = zero-told (tableCall b) (table-call-coded b)
+pub table_of : (b : List ℕ) → (told (table_call b)).code ≡ 0 → (t : Table) × (table_call b ≡ done t)
+table_of b = zero_told (table_call b) (table_call_coded b)
 
 -- an entry of an accepted table, at its place
-pub entry_at : (b : List ℕ) → (told (tableCall b)).code ≡ 0 → (k at : ℕ) → at ≡ place_of b k → k < countIn b
+pub entry_at : (b : List ℕ) → (told (table_call b)).code ≡ 0 → (k at : ℕ) → at ≡ place_of b k → k < count_in b
     → GoodEntry b at
 entry_at b z k at e l = rw e ((accepted b (table_of b z).1).each k l)
 
 -- a cursor on its way through the first n entries of an accepted table: at entry k, or after the last
 pub record CursorAt (b : List ℕ) (n k at : ℕ) : Type 0 where
-  pub good : (told (tableCall b)).code ≡ 0
-  pub few : n ≤ countIn b
+  pub good : (told (table_call b)).code ≡ 0
+  pub few : n ≤ count_in b
   pub bound : k ≤ n
   pub place : at ≡ place_of b k
   pub inside : at ≤ length b
 
-pub cursor-first : (b : List ℕ) (n at : ℕ) → (told (tableCall b)).code ≡ 0 → n ≤ countIn b → at ≡ objectsPlace
+pub cursor_first : (b : List ℕ) (n at : ℕ) → (told (table_call b)).code ≡ 0 → n ≤ count_in b → at ≡ objects_place
     → CursorAt b n 0 at
 unfolding place_of
-cursor-first b n at z h e =
+cursor_first b n at z h e =
     record {
       good = z;
       few = h;
@@ -162,37 +162,37 @@ cursor-first b n at z h e =
     }
 
 module _ {b : List ℕ} {n k at : ℕ} (s : CursorAt b n k at) where
-  pub cursor-last : n ≤ k → at ≡ place_of b n
-  cursor-last h = let e : k ≡ n = omega arith in s.place ∙ ap (place_of b) e
+  pub cursor_last : n ≤ k → at ≡ place_of b n
+  cursor_last h = let e : k ≡ n = omega arith in s.place ∙ ap (place_of b) e
 
   module _ (h : k < n) where
-    entry-there : GoodEntry b at
-    entry-there = entry_at b s.good k at s.place (omega arith)
+    entry_there : GoodEntry b at
+    entry_there = entry_at b s.good k at s.place (omega arith)
 
-    pub two-there : at + 2 ≤ length b
-    two-there = omega (arith, entry-there)
+    pub two_there : at + 2 ≤ length b
+    two_there = omega (arith, entry_there)
 
-    pub type-there : at < length b
-    type-there = omega (arith, entry-there)
+    pub type_there : at < length b
+    type_there = omega (arith, entry_there)
 
-    pub cursor-next : (size : ℕ) → size ≡ 2 + get_or b (at + 1) 0 → CursorAt b n (k + 1) (at + size)
-    cursor-next size e =
+    pub cursor_next : (size : ℕ) → size ≡ 2 + get_or b (at + 1) 0 → CursorAt b n (k + 1) (at + size)
+    cursor_next size e =
         record {
           good = s.good;
           few = s.few;
           bound = omega arith;
-          place = place-next b k at size s.place e;
-          inside = omega (arith, entry-there);
+          place = place_next b k at size s.place e;
+          inside = omega (arith, entry_there);
         }
 
 -- what is known once a table's check gave code 0
-module _ (a : Answer) (b : List ℕ) (e : a ≡ told (tableCall b)) (z : a.code ≡ 0) where
-  pub code-given : (told (tableCall b)).code ≡ 0
-  code-given = ap (λ (x : Answer). x.code) (sym e) ∙ z
+module _ (a : Answer) (b : List ℕ) (e : a ≡ told (table_call b)) (z : a.code ≡ 0) where
+  pub code_given : (told (table_call b)).code ≡ 0
+  code_given = ap (λ (x : Answer). x.code) (sym e) ∙ z
 
-  pub head-given : objectsPlace ≤ length b
-  head-given = (accepted b (table_of b code-given).1).long
+  pub head_given : objects_place ≤ length b
+  head_given = (accepted b (table_of b code_given).1).long
 
   -- version, X and Y are inside
-  pub inside-given : (i : ℕ) → i ≤ 6 → i < length b
-  inside-given i h = omega (arith, objects-place, head-given)
+  pub inside_given : (i : ℕ) → i ≤ 6 → i < length b
+  inside_given i h = omega (arith, objects_place_lem, head_given)

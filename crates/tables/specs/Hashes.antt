@@ -5,13 +5,13 @@ use Rattle.tables.specs.declared.labels.Label.{Label}
 use Rattle.tables.specs.declared.table.Found.{Found}
 
 -- the hash h continued over more bytes
-abbrev pub hashFrom : ℕ → List ℕ → ℕ
-hashFrom h [] = h
-hashFrom h (b ∷ bs) = hashFrom ((h * 9 + b) % 1024) bs
+abbrev pub hash_from : ℕ → List ℕ → ℕ
+hash_from h [] = h
+hash_from h (b ∷ bs) = hash_from ((h * 9 + b) % 1024) bs
 
 -- the hash of a type and a label
-unfoldable pub hashOf : ℕ → List ℕ → ℕ
-hashOf type label = hashFrom (type % 1024) label
+unfoldable pub hash_of : ℕ → List ℕ → ℕ
+hash_of type label = hash_from (type % 1024) label
 
 -- a label's test as the code returns it
 unfoldable pub hashed : Bool → ℕ → Label

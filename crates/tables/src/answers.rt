@@ -1,8 +1,8 @@
 // The numbers that a call returns, one function for each kind of answer;
 // and `Outline`, what `outline` returns with them.
 ghost use Rattle.std.specs.Prelude.{◌≡◌};
-ghost use Rattle.history.specs.Image.{foundIn};
-ghost use Rattle.history.specs.Verdict.{naming, numbers, unnamed, ofLength};
+ghost use Rattle.history.specs.Image.{found_in};
+ghost use Rattle.history.specs.Verdict.{naming, numbers, unnamed, of_length};
 
 use history::Answer;
 use rows::Refusal;
@@ -28,7 +28,7 @@ pub fn refused_at(code: u8, object: u16) -> Answer
 
 // An element's refusal: it names the object, and the bit that the element's check found.
 pub fn refused_by(found: Refusal, object: u16) -> Answer
-    ensures { result ≡ numbers (foundIn found object) 0 }
+    ensures { result ≡ numbers (found_in found object) 0 }
 {
     Answer {
         code: found.code,
@@ -71,7 +71,7 @@ pub fn short(bytes: u32) -> Answer
 
 // The same answer, with another length.
 pub fn with_length(answer: Answer, length: u32) -> Answer
-    ensures { result ≡ ofLength length answer }
+    ensures { result ≡ of_length length answer }
 {
     Answer {
         code: answer.code,

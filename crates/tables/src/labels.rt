@@ -1,8 +1,8 @@
 // Labels: bytes 33 to 126; some byte is a colon, and the first colon has a byte before and after it. The pass that
 // tests the bytes also makes the hash of the entry's type and label, by which repeats are found.
 ghost use Rattle.std.specs.Prelude.{◌≡◌, ◌+◌, ◌≤◌, ◌<◌, length, get_or, take, drop};
-ghost use Rattle.history.specs.Table.{printable, firstColon, labelGood};
-ghost use Rattle.tables.specs.Hashes.{hashFrom, hashOf, hashed};
+ghost use Rattle.history.specs.Table.{printable, first_colon, label_good};
+ghost use Rattle.tables.specs.Hashes.{hash_from, hash_of, hashed};
 
 use heads::byte_at;
 
@@ -16,7 +16,7 @@ pub enum Label {
 // Good if all bytes are 33 to 126. The hash continues from `first`.
 fn check_bytes(first: usize, label: &[u8]) -> Label
     requires { first < 1024 }
-    ensures { result ≡ hashed (printable label.now) (hashFrom first label.now) }
+    ensures { result ≡ hashed (printable label.now) (hash_from first label.now) }
 {
     let mut hash = first;
     let mut i = 0;
@@ -36,7 +36,7 @@ fn check_bytes(first: usize, label: &[u8]) -> Label
 
 // The place of the first colon; the length where there is none.
 fn first_colon(label: &[u8]) -> usize
-    ensures { (result ≡ firstColon label.now) × (result ≤ length label.now) }
+    ensures { (result ≡ first_colon label.now) × (result ≤ length label.now) }
 {
     let mut i = 0;
     while i < label.len() {
@@ -50,7 +50,7 @@ fn first_colon(label: &[u8]) -> usize
 
 fn check_label(first: usize, label: &[u8]) -> Label
     requires { first < 1024 }
-    ensures { result ≡ hashed (labelGood label.now) (hashFrom first label.now) }
+    ensures { result ≡ hashed (label_good label.now) (hash_from first label.now) }
 {
     let colon = first_colon(label);
     if colon < 1 {
@@ -65,8 +65,8 @@ fn check_label(first: usize, label: &[u8]) -> Label
 // Checks the label of the entry at `at`. The hash starts from the entry's type.
 pub fn check_label_at(table: &[u8], at: usize, size: usize) -> Label
     requires { at + 2 + size ≤ length table.now }
-    ensures { result ≡ hashed (labelGood (take size (drop (at + 2) table.now)))
-        (hashOf (get_or table.now at 0) (take size (drop (at + 2) table.now))) }
+    ensures { result ≡ hashed (label_good (take size (drop (at + 2) table.now)))
+        (hash_of (get_or table.now at 0) (take size (drop (at + 2) table.now))) }
 {
     let from = at + 2;
     let to = from + size;

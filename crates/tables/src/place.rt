@@ -1,8 +1,8 @@
 // Where a label is in the table's bytes.
 ghost use Rattle.std.specs.Prelude.{◌≡◌, ◌≤◌};
 ghost use Rattle.history.specs.Verdict.{told};
-ghost use Rattle.history.specs.Calls.{tableCall};
-ghost use Rattle.heads.specs.Heads.{countIn};
+ghost use Rattle.history.specs.Calls.{table_call};
+ghost use Rattle.heads.specs.Heads.{count_in};
 ghost use Rattle.tables.specs.Places.{place_of};
 ghost use Rattle.tables.specs.LabelPlaces.{LabelFound, no_label};
 
@@ -52,7 +52,7 @@ fn no_label(answer: Answer) -> LabelAt
 
 // Where an object's entry begins in an accepted table. Entries differ in length, so it steps over those before.
 fn entry_place(table: &[u8], object: usize) -> usize
-    requires { ((told (tableCall table.now)).code ≡ 0) × (object ≤ countIn table.now) }
+    requires { ((told (table_call table.now)).code ≡ 0) × (object ≤ count_in table.now) }
     ensures { result ≡ place_of table.now object }
 {
     let mut at = objects_place();

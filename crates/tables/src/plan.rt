@@ -1,11 +1,11 @@
 // What the other forms are read by: X, Y and each object's kind, of an accepted table.
 ghost use Rattle.std.specs.Prelude.{◌≡◌, ◌≤◌, length, take};
 ghost use Rattle.history.specs.Verdict.{told};
-ghost use Rattle.kinds.specs.Kinds.{layoutNo};
+ghost use Rattle.kinds.specs.Kinds.{layout_no};
 ghost use Rattle.elements.specs.Elements.{kind_of};
-ghost use Rattle.history.specs.Calls.{tableCall};
-ghost use Rattle.heads.specs.Heads.{countIn};
-ghost use Rattle.tables.specs.Outlines.{Outlined, layoutsIn};
+ghost use Rattle.history.specs.Calls.{table_call};
+ghost use Rattle.heads.specs.Heads.{count_in};
+ghost use Rattle.tables.specs.Outlines.{Outlined, layouts_in};
 
 use super::answers::Outline;
 use super::table::{check_table, entry_size};
@@ -40,8 +40,8 @@ pub fn outline(table: &[u8]) -> Outline
 
 // The layout numbers of an accepted table's objects, in table order; zeros after them.
 fn kinds_of(table: &[u8], count: usize) -> [u8; 1024]
-    requires { ((told (tableCall table.now)).code ≡ 0) × (count ≡ countIn table.now) }
-    ensures { result ≡ layoutsIn (tableCall table.now) }
+    requires { ((told (table_call table.now)).code ≡ 0) × (count ≡ count_in table.now) }
+    ensures { result ≡ layouts_in (table_call table.now) }
 {
     let mut kinds = [0u8; 1024];
     let mut at = objects_place();
@@ -65,7 +65,7 @@ pub fn first_kinds(kinds: &[u8], count: usize) -> &[u8]
 
 // The layout number of a type under a catalogue's X.
 fn layout_of(x: u8, ty: u8) -> u8
-    ensures { result ≡ layoutNo (kind_of x ty) }
+    ensures { result ≡ layout_no (kind_of x ty) }
 {
     elements::layout_number(elements::kind_of(x, ty))
 }

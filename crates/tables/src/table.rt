@@ -1,10 +1,10 @@
 // The check of the table form.
 ghost use Rattle.std.specs.Prelude.{◌≡◌, ◌&&◌, ◌+◌, ◌≤◌, ◌<◌, leb, length, get_or};
 ghost use Rattle.history.specs.Verdict.{told};
-ghost use Rattle.history.specs.Table.{versionGood, catalogueGood, labelLimit};
-ghost use Rattle.history.specs.Calls.{tableCall};
-ghost use Rattle.heads.specs.Heads.{objectsPlace};
-ghost use Rattle.tables.specs.Places.{checkObjectAt, hashAt, objectsIn};
+ghost use Rattle.history.specs.Table.{version_good, catalogue_good, label_limit};
+ghost use Rattle.history.specs.Calls.{table_call};
+ghost use Rattle.heads.specs.Heads.{objects_place};
+ghost use Rattle.tables.specs.Places.{check_object_at, hash_at, objects_in};
 ghost use Rattle.tables.specs.Hashes.{found};
 
 use super::answers::{accepted, refused, refused_at};
@@ -18,7 +18,7 @@ const LONGEST_LABEL: usize = 32;
 
 // The check of a table: 1, 2, 3, 4, then the entries.
 pub fn check_table(table: &[u8]) -> Answer
-    ensures { result ≡ told (tableCall table.now) }
+    ensures { result ≡ told (table_call table.now) }
 {
     if !is_whole(table, 5) {
         return refused(1);
@@ -42,8 +42,8 @@ pub fn check_table(table: &[u8]) -> Answer
 // `lasts` has for each hash its last entry, `links` for each entry the one before it of the same hash: each as its
 // number plus one, 0 for none. `starts` has for each entry where it begins.
 fn check_objects(table: &[u8], count: usize) -> Answer
-    requires { (objectsPlace ≤ length table.now) × (count ≤ 1024) }
-    ensures { result ≡ told (objectsIn table.now count) }
+    requires { (objects_place ≤ length table.now) × (count ≤ 1024) }
+    ensures { result ≡ told (objects_in table.now count) }
 {
     let mut lasts = [0u16; 1024];
     let mut links = [0u16; 1024];
@@ -113,8 +113,8 @@ enum Found {
 
 // An entry, except for repeats: 8 (two bytes missing), 5, 6 (length), 8 (label cut), 6 (bytes).
 fn check_object(table: &[u8], at: usize, object: u16) -> Found
-    requires { (objectsPlace ≤ length table.now) × (at ≤ length table.now) }
-    ensures { result ≡ found (hashAt table.now at) (checkObjectAt table.now at object) }
+    requires { (objects_place ≤ length table.now) × (at ≤ length table.now) }
+    ensures { result ≡ found (hash_at table.now at) (check_object_at table.now at object) }
 {
     let left = table.len() - at;
     if left < 2 {
@@ -139,14 +139,14 @@ fn check_object(table: &[u8], at: usize, object: u16) -> Found
 
 // The version byte of a table that can be read.
 fn is_table_version(version: u8) -> bool
-    ensures { result ≡ versionGood version }
+    ensures { result ≡ version_good version }
 {
     version == 1
 }
 
 // The catalogue versions that are carried: 1.0 and 3.0.
 pub fn is_catalogue(x: u8, y: u8) -> bool
-    ensures { result ≡ catalogueGood x y }
+    ensures { result ≡ catalogue_good x y }
 {
     match x {
         1 => return y == 0,
@@ -157,14 +157,14 @@ pub fn is_catalogue(x: u8, y: u8) -> bool
 
 // The longest label that a version allows.
 fn label_limit(version: u8) -> usize
-    ensures { result ≡ labelLimit version }
+    ensures { result ≡ label_limit version }
 {
     LONGEST_LABEL
 }
 
 // A label has at least one byte, and no more than its version's limit.
 fn is_size(version: u8, size: usize) -> bool
-    ensures { result ≡ leb 1 size && leb size (labelLimit version) }
+    ensures { result ≡ leb 1 size && leb size (label_limit version) }
 {
     if size < 1 {
         return false;

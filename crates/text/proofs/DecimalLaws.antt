@@ -9,13 +9,13 @@ use native.Mathlib.Omega.{arith}
 use lib.Dec.{leb, ltb}
 use lib.ListN.{length, get_or, length-append, get_or-append}
 use borrow.Author.Tests.{le-leb, ltb-true, ltb-false}
-use Rattle.text.specs.Decimal.{decimalIn, decimal}
+use Rattle.text.specs.Decimal.{decimal_in, decimal}
 use Rattle.text.proofs.Laws.{tenth}
 
 -- digits read from the highest down, after a number already read
-abbrev pub readFrom : ℕ → List ℕ → ℕ
-readFrom n [] = n
-readFrom n (d ∷ ds) = readFrom (n * 10 + (d - 48)) ds
+abbrev pub read_from : ℕ → List ℕ → ℕ
+read_from n [] = n
+read_from n (d ∷ ds) = read_from (n * 10 + (d - 48)) ds
 
 -- 48 to 57: 0 to 9 in ASCII
 abbrev pub digits : List ℕ → Bool
@@ -23,16 +23,16 @@ digits [] = true
 digits (d ∷ ds) = (leb 48 d && leb d 57) && digits ds
 
 pub record Says (n : ℕ) (ds : List ℕ) : Type 0 where
-  pub value : readFrom 0 ds ≡ n
+  pub value : read_from 0 ds ≡ n
   pub each : digits ds ≡ true
   pub some : 0 < length ds
   pub first : get_or ds 0 0 ≡ 48 → (n ≡ 0) × (length ds ≡ 1)
 
 -- ---- one digit after others
 
-read-last : (n : ℕ) (ds : List ℕ) (d : ℕ) → readFrom n (ds ++ (d ∷ [])) ≡ readFrom n ds * 10 + (d - 48)
-read-last n [] d = refl
-read-last n (x ∷ ds) d = read-last (n * 10 + (x - 48)) ds d
+read_last : (n : ℕ) (ds : List ℕ) (d : ℕ) → read_from n (ds ++ (d ∷ [])) ≡ read_from n ds * 10 + (d - 48)
+read_last n [] d = refl
+read_last n (x ∷ ds) d = read_last (n * 10 + (x - 48)) ds d
 
 -- both tests, with the second weakened
 more : (b : Bool) {t u : Bool} → (t ≡ true → u ≡ true) → b && t ≡ true → b && u ≡ true
@@ -45,8 +45,8 @@ digits_last (x ∷ ds) d l h e = more (leb 48 x && leb x 57) (digits_last ds d l
 
 -- ---- the digits
 
-says_at : (b : Bool) (k n : ℕ) → ltb n 10 ≡ b → (10 ≤ n → Says (n / 10) (decimalIn k (n / 10)))
-    → Says n (cond b ((48 + n) ∷ []) (decimalIn k (n / 10) ++ ((48 + n % 10) ∷ [])))
+says_at : (b : Bool) (k n : ℕ) → ltb n 10 ≡ b → (10 ≤ n → Says (n / 10) (decimal_in k (n / 10)))
+    → Says n (cond b ((48 + n) ∷ []) (decimal_in k (n / 10) ++ ((48 + n % 10) ∷ [])))
 says_at true k n e tens =
     let few : n < 10 = ltb-true n 10 e in
     record {
@@ -58,20 +58,20 @@ says_at true k n e tens =
 says_at false k n e tens =
     let ten : 10 ≤ n = ltb-false n 10 e in
     let t = tens ten in
-    let ds = decimalIn k (n / 10) in
+    let ds = decimal_in k (n / 10) in
     let d = 48 + n % 10 in
     record {
-      value = read-last 0 ds d ∙ omega (arith, t.value);
+      value = read_last 0 ds d ∙ omega (arith, t.value);
       each = digits_last ds d (omega arith) (omega arith) t.each;
       some = omega (arith, length-append ds (d ∷ []));
       first = λ z. absurd (omega (arith, (t.first (sym (get_or-append ds (d ∷ []) 0 0 t.some) ∙ z)).0));
     }
 
-says : (k n : ℕ) → n < 10 ^ suc k → Says n (decimalIn (suc k) n)
-unfolding decimalIn
+says : (k n : ℕ) → n < 10 ^ suc k → Says n (decimal_in (suc k) n)
+unfolding decimal_in
 says zero n h = says_at (ltb n 10) zero n refl (λ ten. absurd (omega arith))
 says (suc k) n h = says_at (ltb n 10) (suc k) n refl (λ ten. says k (n / 10) (tenth k n h))
 
-pub decimal-says : (n : ℕ) → n < 10000000000 → Says n (decimal n)
+pub decimal_says : (n : ℕ) → n < 10000000000 → Says n (decimal n)
 unfolding decimal
-decimal-says n h = says 9 n h
+decimal_says n h = says 9 n h

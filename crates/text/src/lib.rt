@@ -3,7 +3,7 @@
 // but those bytes.
 ghost use Rattle.std.specs.Prelude.{◌≡◌, ◌+◌, ◌*◌, ◌≤◌, ◌<◌, [], ◌∷◌, length};
 ghost use Rattle.text.specs.Decimal.{decimal};
-ghost use Rattle.text.specs.Hex.{hexDigit, hexes};
+ghost use Rattle.text.specs.Hex.{hex_digit, hexes};
 ghost use Rattle.text.specs.Wrote.{Wrote};
 
 // Writes one byte.
@@ -44,7 +44,7 @@ pub fn put_bytes(out: &mut [u8], at: usize, src: &[u8]) -> usize
 
 fn hex_digit(d: u8) -> u8
     requires { d < 16 }
-    ensures { result ≡ hexDigit d }
+    ensures { result ≡ hex_digit d }
 {
     if d < 10 { 48 + d } else { 55 + d }
 }

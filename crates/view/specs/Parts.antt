@@ -7,14 +7,14 @@ use Rattle.history.specs.Table.{Table}
 use Rattle.history.specs.Calls.{Place}
 
 -- how many objects an accepted table has; else 0
-unfoldable pub countOf : Verdict Table → ℕ
-countOf (refused r) = 0
-countOf (done t) = length t.objects
+unfoldable pub count_of : Verdict Table → ℕ
+count_of (refused r) = 0
+count_of (done t) = length t.objects
 
 -- the label's place; for a refused request the empty place at the front
-unfoldable pub givenPlace : Verdict Place → Place
-givenPlace (refused r) = record { offset = 0; size = 0 }
-givenPlace (done p) = p
+unfoldable pub given_place : Verdict Place → Place
+given_place (refused r) = record { offset = 0; size = 0 }
+given_place (done p) = p
 
 -- r is the part of s at a place: in the same block of memory, at the offset, with the bytes there
 pub record Part (s r : Bor (List ℕ)) (p : Place) : Type 0 where

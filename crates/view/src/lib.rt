@@ -2,8 +2,8 @@
 // its count. Every label comes from `label_part`, which checks the table again, so a view made of any bytes is safe.
 ghost use Rattle.std.specs.Prelude.{◌≡◌};
 ghost use Rattle.history.specs.Verdict.{told};
-ghost use Rattle.history.specs.Calls.{tableCall, labelCall};
-ghost use Rattle.view.specs.Parts.{countOf, givenPlace, Part};
+ghost use Rattle.history.specs.Calls.{table_call, label_call};
+ghost use Rattle.view.specs.Parts.{count_of, given_place, Part};
 
 use history::Answer;
 use tables::{check_table, label_place, outline};
@@ -17,7 +17,7 @@ pub struct TableView<'a> {
 
 // A view of the table, accepted or not; `open_answer` returns this call's numbers.
 pub fn open<'a>(table: &'a [u8]) -> TableView<'a>
-    ensures { (result.table ≡ table.entry) × (result.count ≡ countOf (tableCall table.now)) }
+    ensures { (result.table ≡ table.entry) × (result.count ≡ count_of (table_call table.now)) }
 {
     let count = count_of(table);
     TableView { table, count }
@@ -25,35 +25,35 @@ pub fn open<'a>(table: &'a [u8]) -> TableView<'a>
 
 // An object's label, or nothing if the request is refused; `label_answer` returns this call's numbers.
 pub fn label<'a>(view: TableView<'a>, object: u16) -> &'a [u8]
-    ensures { Part view.entry.table result (givenPlace (labelCall view.entry.table.now object)) }
+    ensures { Part view.entry.table result (given_place (label_call view.entry.table.now object)) }
 {
     label_part(view.table, object)
 }
 
 // `label`, for a caller that has a table and no view of it.
 pub fn table_label(table: &[u8], object: u16) -> &[u8]
-    ensures { Part table.entry result (givenPlace (labelCall table.now object)) }
+    ensures { Part table.entry result (given_place (label_call table.now object)) }
 {
     label(open(table), object)
 }
 
 // The numbers of `open`: the answer of the table's check.
 pub fn open_answer(table: &[u8]) -> Answer
-    ensures { result ≡ told (tableCall table.now) }
+    ensures { result ≡ told (table_call table.now) }
 {
     check_table(table)
 }
 
 // The numbers of a label request: those of the table's check, then 13.
 pub fn label_answer(table: &[u8], object: u16) -> Answer
-    ensures { result ≡ told (labelCall table.now object) }
+    ensures { result ≡ told (label_call table.now object) }
 {
     label_place(table, object).answer
 }
 
 // The label as a part of the table; empty if the request is refused.
 pub fn label_part(table: &[u8], object: u16) -> &[u8]
-    ensures { Part table.entry result (givenPlace (labelCall table.now object)) }
+    ensures { Part table.entry result (given_place (label_call table.now object)) }
 {
     let found = label_place(table, object);
     let start = found.offset;
@@ -63,7 +63,7 @@ pub fn label_part(table: &[u8], object: u16) -> &[u8]
 
 // How many objects the table has; 0 if it is not accepted.
 pub fn count_of(table: &[u8]) -> usize
-    ensures { result ≡ countOf (tableCall table.now) }
+    ensures { result ≡ count_of (table_call table.now) }
 {
     outline(table).count
 }

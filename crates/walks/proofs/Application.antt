@@ -19,12 +19,12 @@ use Rattle.history.specs.declared.Change.TheVariants.{Keep as keep, Swap as swap
 use Rattle.history.specs.Table.{kind_at}
 use Rattle.history.specs.Image.{widths}
 use Rattle.history.specs.Changes.{fits}
-use Rattle.octets.proofs.NumberLaws.{length-bytes}
+use Rattle.octets.proofs.NumberLaws.{length_bytes}
 use Rattle.octets.proofs.Writing.{Filling, begin, along, keeps, write, ended, untouched}
-use Rattle.tables.specs.Outlines.{kindsOf}
-use Rattle.forms.proofs.KindLaws.{kinds-next, kinds-end}
-use Rattle.steps.specs.Steps.{span, changeAt, Silent, renewed}
-use Rattle.steps.proofs.StepLaws.{said-inside}
+use Rattle.tables.specs.Outlines.{kinds_of}
+use Rattle.forms.proofs.KindLaws.{kinds_next, kinds_end}
+use Rattle.steps.specs.Steps.{span, change_at, Silent, renewed}
+use Rattle.steps.proofs.StepLaws.{said_inside}
 use Rattle.walks.specs.Walks.{unfit, renewal}
 use Rattle.walks.proofs.Runs.{pass}
 
@@ -33,47 +33,47 @@ use Rattle.walks.proofs.Runs.{pass}
 pub record Places (ns e : List ℕ) (n at p i : ℕ) : Type 0 where
   pub inside : i ≤ length ns
   pub near : p ≤ length e
-  pub room : at + widths (drop i (kindsOf ns)) ≡ n
+  pub room : at + widths (drop i (kinds_of ns)) ≡ n
 
-first-places : (ns e : List ℕ) {n : ℕ} → n ≡ widths (kindsOf ns) → Places ns e n 0 0 0
-first-places ns e h = record { inside = omega arith; near = omega arith; room = omega arith }
+first_places : (ns e : List ℕ) {n : ℕ} → n ≡ widths (kinds_of ns) → Places ns e n 0 0 0
+first_places ns e h = record { inside = omega arith; near = omega arith; room = omega arith }
 
 module _ {ns e : List ℕ} {n at p i : ℕ} (z : Places ns e n at p i) where
-  module _ (h : i < length ns) {w : ℕ} (ew : w ≡ width_of (kind_at (kindsOf ns) i)) where
+  module _ (h : i < length ns) {w : ℕ} (ew : w ≡ width_of (kind_at (kinds_of ns) i)) where
     -- the element ends within the elements
-    pub element-inside : at + w ≤ n
-    element-inside = omega (arith, z.room, ap widths (kinds-next ns i h))
+    pub element_inside : at + w ≤ n
+    element_inside = omega (arith, z.room, ap widths (kinds_next ns i h))
 
-    pub element-fits : n < 2 ^ 64 → at + w < 2 ^ 64
-    element-fits k = omega (arith, element-inside)
+    pub element_fits : n < 2 ^ 64 → at + w < 2 ^ 64
+    element_fits k = omega (arith, element_inside)
 
-    module _ {m : ℕ} {c : Change} (ec : c ≡ changeAt i w (drop p e)) (em : m ≡ span w c) where
+    module _ {m : ℕ} {c : Change} (ec : c ≡ change_at i w (drop p e)) (em : m ≡ span w c) where
       -- the entry ends within the entries
-      pub entry-inside : p + m ≤ length e
-      entry-inside = said-inside e p i w z.near ec em
+      pub entry_inside : p + m ≤ length e
+      entry_inside = said_inside e p i w z.near ec em
 
-      next-places : Places ns e n (at + w) (p + m) (i + 1)
-      next-places =
+      next_places : Places ns e n (at + w) (p + m) (i + 1)
+      next_places =
           record {
             inside = omega arith;
-            near = entry-inside;
-            room = omega (arith, z.room, ap widths (kinds-next ns i h));
+            near = entry_inside;
+            room = omega (arith, z.room, ap widths (kinds_next ns i h));
           }
 
   -- past an object that is not named
-  pass-places : i < length ns → Places ns e n (at + width_of (kind_at (kindsOf ns) i)) p (i + 1)
-  pass-places h =
-      record { inside = omega arith; near = z.near; room = omega (arith, z.room, ap widths (kinds-next ns i h)) }
+  pass_places : i < length ns → Places ns e n (at + width_of (kind_at (kinds_of ns) i)) p (i + 1)
+  pass_places h =
+      record { inside = omega arith; near = z.near; room = omega (arith, z.room, ap widths (kinds_next ns i h)) }
 
 -- after the objects passed the place is still inside
 pub run_fits : {ns e : List ℕ} {n at p i : ℕ} → Places ns e n at p i → i < length ns → {w m : ℕ} {c : Change}
-    → w ≡ width_of (kind_at (kindsOf ns) i)
-    → c ≡ changeAt i w (drop p e) → m ≡ span w c → {j v : ℕ} → Silent (i + 1) j (length ns) (drop (p + m) e)
-    → (v ≡ widths (kindsOf (take (j - (i + 1)) (drop (i + 1) ns)))) × (v ≤ 4096) → n < 2 ^ 64 → at + w + v < 2 ^ 64
+    → w ≡ width_of (kind_at (kinds_of ns) i)
+    → c ≡ change_at i w (drop p e) → m ≡ span w c → {j v : ℕ} → Silent (i + 1) j (length ns) (drop (p + m) e)
+    → (v ≡ widths (kinds_of (take (j - (i + 1)) (drop (i + 1) ns)))) × (v ≤ 4096) → n < 2 ^ 64 → at + w + v < 2 ^ 64
 run_fits {ns} {e} {n} {p = p} z h {m = m} ew ec em d ev k =
     let last =
-    pass ns (λ k a. Places ns e n a (p + m) k) d ev.0 (λ k a l _ g. pass-places g l)
-    (next-places z h ew ec em) in
+    pass ns (λ k a. Places ns e n a (p + m) k) d ev.0 (λ k a l _ g. pass_places g l)
+    (next_places z h ew ec em) in
     omega (arith, last.room)
 
 -- ---- the lowest object whose element is not its entry's old one
@@ -81,134 +81,134 @@ run_fits {ns} {e} {n} {p = p} z h {m = m} ew ec em d ev k =
 -- every object passed fits
 pub record Fitting (ns e b : List ℕ) (at p i : ℕ) : Type 0 where
   pub place : Places ns e (length b) at p i
-  pub same : unfit 0 (kindsOf ns) e b ≡ unfit i (drop i (kindsOf ns)) (drop p e) (drop at b)
+  pub same : unfit 0 (kinds_of ns) e b ≡ unfit i (drop i (kinds_of ns)) (drop p e) (drop at b)
 
-pub none-fitted : (ns e b : List ℕ) → length b ≡ widths (kindsOf ns) → Fitting ns e b 0 0 0
-none-fitted ns e b h = record { place = first-places ns e h; same = refl }
+pub none_fitted : (ns e b : List ℕ) → length b ≡ widths (kinds_of ns) → Fitting ns e b 0 0 0
+none_fitted ns e b h = record { place = first_places ns e h; same = refl }
 
 module _ {ns e b : List ℕ} {at p i : ℕ} (z : Fitting ns e b at p i) where
-  module _ (h : i < length ns) {w : ℕ} {c : Change} (ew : w ≡ width_of (kind_at (kindsOf ns) i))
-      (ec : c ≡ changeAt i w (drop p e)) where
-    unfit-next : {m : ℕ} → m ≡ span w c
-        → unfit 0 (kindsOf ns) e b
+  module _ (h : i < length ns) {w : ℕ} {c : Change} (ew : w ≡ width_of (kind_at (kinds_of ns) i))
+      (ec : c ≡ change_at i w (drop p e)) where
+    unfit_next : {m : ℕ} → m ≡ span w c
+        → unfit 0 (kinds_of ns) e b
         ≡ cond (fits c (number (take w (drop at b))))
-        (unfit (i + 1) (drop (i + 1) (kindsOf ns)) (drop (p + m) e) (drop (at + w) b)) i
+        (unfit (i + 1) (drop (i + 1) (kinds_of ns)) (drop (p + m) e) (drop (at + w) b)) i
     unfolding unfit
-    unfit-next {m} em =
-        z.same ∙ rw (kinds-next ns i h, ← ew, ← ec, ← em, add-one i, drop-drop m p e, drop-drop w at b)
+    unfit_next {m} em =
+        z.same ∙ rw (kinds_next ns i h, ← ew, ← ec, ← em, add-one i, drop-drop m p e, drop-drop w at b)
 
     module _ {a : ℕ} (ea : a ≡ number (take w (drop at b))) {t : Bool} (et : t ≡ fits c a) where
-      pub unfit-here : t ≡ false → i ≡ unfit 0 (kindsOf ns) e b
-      unfit-here q = sym (unfit-next refl ∙ rw (← ea, ← et, q))
+      pub unfit_here : t ≡ false → i ≡ unfit 0 (kinds_of ns) e b
+      unfit_here q = sym (unfit_next refl ∙ rw (← ea, ← et, q))
 
-      step-fitted : t ≡ true → {m : ℕ} → m ≡ span w c → Fitting ns e b (at + w) (p + m) (i + 1)
-      step-fitted q em = record { place = next-places z.place h ew ec em; same = unfit-next em ∙ rw (← ea, ← et, q) }
+      step_fitted : t ≡ true → {m : ℕ} → m ≡ span w c → Fitting ns e b (at + w) (p + m) (i + 1)
+      step_fitted q em = record { place = next_places z.place h ew ec em; same = unfit_next em ∙ rw (← ea, ← et, q) }
 
   -- past an object that is not named
-  pass-fitted : i < length ns → changeAt i (width_of (kind_at (kindsOf ns) i)) (drop p e) ≡ keep
-      → Fitting ns e b (at + width_of (kind_at (kindsOf ns) i)) p (i + 1)
-  pass-fitted h k = rw (add-zero p) at (step-fitted h {c = keep} refl (sym k) refl refl refl {m = 0} refl)
+  pass_fitted : i < length ns → change_at i (width_of (kind_at (kinds_of ns) i)) (drop p e) ≡ keep
+      → Fitting ns e b (at + width_of (kind_at (kinds_of ns) i)) p (i + 1)
+  pass_fitted h k = rw (add-zero p) at (step_fitted h {c = keep} refl (sym k) refl refl refl {m = 0} refl)
 
-  pub all-fitted : length ns ≤ i → i ≡ unfit 0 (kindsOf ns) e b
+  pub all_fitted : length ns ≤ i → i ≡ unfit 0 (kinds_of ns) e b
   unfolding unfit
-  all-fitted h = sym (z.same ∙ rw (kinds-end ns i h))
+  all_fitted h = sym (z.same ∙ rw (kinds_end ns i h))
 
 module _ {ns e b : List ℕ} {at p i : ℕ} (z : Fitting ns e b at p i) (h : i < length ns) {w : ℕ} {c : Change}
-    (ew : w ≡ width_of (kind_at (kindsOf ns) i)) (ec : c ≡ changeAt i w (drop p e)) where
+    (ew : w ≡ width_of (kind_at (kinds_of ns) i)) (ec : c ≡ change_at i w (drop p e)) where
   -- past the object's own element, to the next object that is named
-  pub one-fitted : {a : ℕ} → a ≡ number (take w (drop at b)) → {t : Bool} → t ≡ fits c a → t ≡ true → {m j v : ℕ}
+  pub one_fitted : {a : ℕ} → a ≡ number (take w (drop at b)) → {t : Bool} → t ≡ fits c a → t ≡ true → {m j v : ℕ}
       → m ≡ span w c
       → Silent (i + 1) j (length ns) (drop (p + m) e)
-      → (v ≡ widths (kindsOf (take (j - (i + 1)) (drop (i + 1) ns)))) × (v ≤ 4096)
+      → (v ≡ widths (kinds_of (take (j - (i + 1)) (drop (i + 1) ns)))) × (v ≤ 4096)
       → Fitting ns e b (at + w + v) (p + m) j
-  one-fitted ea et q {m} em d ev =
-      pass ns (λ k a. Fitting ns e b a (p + m) k) d ev.0 (λ k a l s g. pass-fitted g l s)
-      (step-fitted z h ew ec ea et q em)
+  one_fitted ea et q {m} em d ev =
+      pass ns (λ k a. Fitting ns e b a (p + m) k) d ev.0 (λ k a l s g. pass_fitted g l s)
+      (step_fitted z h ew ec ea et q em)
 
 -- ---- the elements after the entries
 
-length-renewed : (c : Change) (b : List ℕ) → length (renewed c b) ≡ length b
-length-renewed keep b = refl
-length-renewed (swap old new) b = length-bytes (length b) new
+length_renewed : (c : Change) (b : List ℕ) → length (renewed c b) ≡ length b
+length_renewed keep b = refl
+length_renewed (swap old new) b = length_bytes (length b) new
 
-pub length-renewal : (ks : List Kind) (i : ℕ) (e b : List ℕ) → length b ≡ widths ks
+pub length_renewal : (ks : List Kind) (i : ℕ) (e b : List ℕ) → length b ≡ widths ks
     → length (renewal i ks e b) ≡ widths ks
 unfolding renewal
-length-renewal [] i e b h = refl
-length-renewal (k ∷ ks) i e b h =
+length_renewal [] i e b h = refl
+length_renewal (k ∷ ks) i e b h =
     let w : ℕ = width_of k in
-    let c : Change = changeAt i w e in
-    let first : length (renewed c (take w b)) ≡ w = length-renewed c (take w b) ∙ length-take-le w b (omega arith) in
+    let c : Change = change_at i w e in
+    let first : length (renewed c (take w b)) ≡ w = length_renewed c (take w b) ∙ length-take-le w b (omega arith) in
     length-append (renewed c (take w b)) _
-    ∙ ap₂ ◌+◌ first (length-renewal ks (suc i) (drop (span w c) e) (drop w b) (length-drop w b ∙ (omega arith)))
+    ∙ ap₂ ◌+◌ first (length_renewal ks (suc i) (drop (span w c) e) (drop w b) (length-drop w b ∙ (omega arith)))
 
 -- the elements renewed, and those still to be renewed
 pub record Renewing (ns e part₀ part : List ℕ) (at p i : ℕ) : Type 0 where
   pub place : Places ns e (length part₀) at p i
-  pub fill : Filling (renewal 0 (kindsOf ns) e part₀) part₀
-      (renewal i (drop i (kindsOf ns)) (drop p e) (drop at part₀)) at part
+  pub fill : Filling (renewal 0 (kinds_of ns) e part₀) part₀
+      (renewal i (drop i (kinds_of ns)) (drop p e) (drop at part₀)) at part
 
-pub none-renewed : (ns e part : List ℕ) → length part ≡ widths (kindsOf ns) → Renewing ns e part part 0 0 0
-none-renewed ns e part h = record {
-  place = first-places ns e h;
-  fill = begin _ part (h ∙ sym (length-renewal (kindsOf ns) 0 e part h));
+pub none_renewed : (ns e part : List ℕ) → length part ≡ widths (kinds_of ns) → Renewing ns e part part 0 0 0
+none_renewed ns e part h = record {
+  place = first_places ns e h;
+  fill = begin _ part (h ∙ sym (length_renewal (kinds_of ns) 0 e part h));
 }
 
-renewal-next : (ns e part : List ℕ) (at p i w n : ℕ) (c : Change) → i < length ns → w ≡ width_of (kind_at (kindsOf ns) i)
-    → c ≡ changeAt i w (drop p e) → n ≡ span w c
-    → renewal i (drop i (kindsOf ns)) (drop p e) (drop at part)
+renewal_next : (ns e part : List ℕ) (at p i w n : ℕ) (c : Change) → i < length ns → w ≡ width_of (kind_at (kinds_of ns) i)
+    → c ≡ change_at i w (drop p e) → n ≡ span w c
+    → renewal i (drop i (kinds_of ns)) (drop p e) (drop at part)
     ≡ renewed c (take w (drop at part))
-    ++ renewal (i + 1) (drop (i + 1) (kindsOf ns)) (drop (p + n) e) (drop (at + w) part)
+    ++ renewal (i + 1) (drop (i + 1) (kinds_of ns)) (drop (p + n) e) (drop (at + w) part)
 unfolding renewal
-renewal-next ns e part at p i w n c h ew ec en =
-    rw (kinds-next ns i h, ← ew, ← ec, ← en, add-one i, drop-drop n p e, drop-drop w at part)
+renewal_next ns e part at p i w n c h ew ec en =
+    rw (kinds_next ns i h, ← ew, ← ec, ← en, add-one i, drop-drop n p e, drop-drop w at part)
 
 module _ {ns e part₀ part : List ℕ} {at p i : ℕ} (z : Renewing ns e part₀ part at p i) where
-  pub renew-keeps : length part ≡ length part₀
-  renew-keeps = keeps z.fill
+  pub renew_keeps : length part ≡ length part₀
+  renew_keeps = keeps z.fill
 
-  module _ (h : i < length ns) {w : ℕ} (ew : w ≡ width_of (kind_at (kindsOf ns) i)) where
-    pub renew-inside : at + w ≤ length part
-    renew-inside = omega (arith, element-inside z.place h ew, renew-keeps)
+  module _ (h : i < length ns) {w : ℕ} (ew : w ≡ width_of (kind_at (kinds_of ns) i)) where
+    pub renew_inside : at + w ≤ length part
+    renew_inside = omega (arith, element_inside z.place h ew, renew_keeps)
 
-    step-renewed : {n : ℕ} {c : Change} {ys : List ℕ} → c ≡ changeAt i w (drop p e) → n ≡ span w c
+    step_renewed : {n : ℕ} {c : Change} {ys : List ℕ} → c ≡ change_at i w (drop p e) → n ≡ span w c
         → ys ≡ renewed c (mid_of at (at + w - at) part)
         → Renewing ns e part₀ (put_mid at (at + w - at) part ys) (at + w) (p + n) (i + 1)
-    step-renewed {n} {c} ec en q =
+    step_renewed {n} {c} ec en q =
         let s : at + w - at ≡ w = omega arith in
         let here : mid_of at (at + w - at) part ≡ take w (drop at part₀) =
         untouched z.fill.written (at + w - at) ∙ rw s in
         let long : length (renewed c (take w (drop at part₀))) ≡ w =
-        length-renewed c (take w (drop at part₀))
-        ∙ length-take-le w (drop at part₀) (rw length-drop (omega (arith, element-inside z.place h ew))) in
+        length_renewed c (take w (drop at part₀))
+        ∙ length-take-le w (drop at part₀) (rw length-drop (omega (arith, element_inside z.place h ew))) in
         record {
-          place = next-places z.place h ew ec en;
+          place = next_places z.place h ew ec en;
           fill =
-              write (along z.fill (renewal-next ns e part₀ at p i w n c h ew ec en)) (q ∙ ap (renewed c) here)
+              write (along z.fill (renewal_next ns e part₀ at p i w n c h ew ec en)) (q ∙ ap (renewed c) here)
               (at + w) (ap (λ (m : ℕ). at + m) long);
         }
 
   -- past an object that is not named
-  pass-renewed : i < length ns → changeAt i (width_of (kind_at (kindsOf ns) i)) (drop p e) ≡ keep
-      → Renewing ns e part₀ part (at + width_of (kind_at (kindsOf ns) i)) p (i + 1)
-  pass-renewed h c =
-      let w : ℕ = width_of (kind_at (kindsOf ns) i) in
-      rw (put_same at (at + w - at) part, add-zero p) at (step-renewed h refl {n = 0} {c = keep} (sym c) refl refl)
+  pass_renewed : i < length ns → change_at i (width_of (kind_at (kinds_of ns) i)) (drop p e) ≡ keep
+      → Renewing ns e part₀ part (at + width_of (kind_at (kinds_of ns) i)) p (i + 1)
+  pass_renewed h c =
+      let w : ℕ = width_of (kind_at (kinds_of ns) i) in
+      rw (put_same at (at + w - at) part, add-zero p) at (step_renewed h refl {n = 0} {c = keep} (sym c) refl refl)
 
-  pub all-renewed : length ns ≤ i → part ≡ renewal 0 (kindsOf ns) e part₀
+  pub all_renewed : length ns ≤ i → part ≡ renewal 0 (kinds_of ns) e part₀
   unfolding renewal
-  all-renewed h =
-      let nothing : renewal i (drop i (kindsOf ns)) (drop p e) (drop at part₀) ≡ [] = rw (kinds-end ns i h) in
+  all_renewed h =
+      let nothing : renewal i (drop i (kinds_of ns)) (drop p e) (drop at part₀) ≡ [] = rw (kinds_end ns i h) in
       ended (along z.fill nothing)
 
 -- past the object's own element, to the next object that is named
-pub one-renewed : {ns e part₀ part : List ℕ} {at p i : ℕ} → Renewing ns e part₀ part at p i → i < length ns
+pub one_renewed : {ns e part₀ part : List ℕ} {at p i : ℕ} → Renewing ns e part₀ part at p i → i < length ns
     → {w n : ℕ} {c : Change} {ys : List ℕ}
-    → w ≡ width_of (kind_at (kindsOf ns) i) → c ≡ changeAt i w (drop p e) → n ≡ span w c
+    → w ≡ width_of (kind_at (kinds_of ns) i) → c ≡ change_at i w (drop p e) → n ≡ span w c
     → ys ≡ renewed c (mid_of at (at + w - at) part)
     → {j v : ℕ} → Silent (i + 1) j (length ns) (drop (p + n) e)
-    → (v ≡ widths (kindsOf (take (j - (i + 1)) (drop (i + 1) ns)))) × (v ≤ 4096)
+    → (v ≡ widths (kinds_of (take (j - (i + 1)) (drop (i + 1) ns)))) × (v ≤ 4096)
     → Renewing ns e part₀ (put_mid at (at + w - at) part ys) (at + w + v) (p + n) j
-one-renewed {ns} {e} {part₀} {part} {at} {p} z h {w} {n} {ys = ys} ew ec en q d ev =
+one_renewed {ns} {e} {part₀} {part} {at} {p} z h {w} {n} {ys = ys} ew ec en q d ev =
     pass ns (λ k a. Renewing ns e part₀ (put_mid at (at + w - at) part ys) a (p + n) k) d ev.0
-    (λ k a l s g. pass-renewed g l s) (step-renewed z h ew ec en q)
+    (λ k a l s g. pass_renewed g l s) (step_renewed z h ew ec en q)

@@ -15,16 +15,16 @@ use Rattle.kinds.specs.declared.Kind.{Kind}
 use Rattle.history.specs.declared.Change.{Change}
 use Rattle.history.specs.Table.{kind_at}
 use Rattle.history.specs.Image.{widths}
-use Rattle.history.specs.Changes.{entriesBytes, differ, meets, joined, back}
-use Rattle.tables.specs.Outlines.{kindsOf}
-use Rattle.forms.proofs.KindLaws.{kinds-next}
+use Rattle.history.specs.Changes.{entries_bytes, differ, meets, joined, back}
+use Rattle.tables.specs.Outlines.{kinds_of}
+use Rattle.forms.proofs.KindLaws.{kinds_next}
 use Rattle.steps.specs.declared.Walk.{Walk}
-use Rattle.steps.specs.Steps.{span, entryBytes, names, countIf, sizeIf, saidIf, changeAt, isSwap, step_of, Stepped}
+use Rattle.steps.specs.Steps.{span, entry_bytes, names, count_if, size_if, said_if, change_at, is_swap, step_of, Stepped}
 use Rattle.steps.specs.Steps.{Silent, AllIdle}
-use Rattle.steps.proofs.StepLaws.{difference-step, join_step, turn_step, differ-swap, names-inside, said-inside}
-use Rattle.steps.proofs.StepLaws.{idle-none, idle-turn}
-use Rattle.walks.specs.Walks.{walked, walkBytes, ElementsLong, Asked, Surveyed}
-use Rattle.walks.proofs.Rounds.{Sizing, sized-until, one-sized, Putting, put-fits, put-inside, put-long, one-put}
+use Rattle.steps.proofs.StepLaws.{difference_step, join_step, turn_step, differ_swap, names_inside, said_inside}
+use Rattle.steps.proofs.StepLaws.{idle_none, idle_turn}
+use Rattle.walks.specs.Walks.{walked, walk_bytes, ElementsLong, Asked, Surveyed}
+use Rattle.walks.proofs.Rounds.{Sizing, sized_until, one_sized, Putting, put_fits, put_inside, put_long, one_put}
 
 -- a difference asks that both forms are an image's elements
 pub asked : {walk : Walk} {ns f s : List ℕ} → walk ≡ Walk.Difference → Asked walk ns f s → ElementsLong ns f s
@@ -32,121 +32,121 @@ asked {ns = ns} {f = f} {s = s} e a = subst (λ (walk : Walk). Asked walk ns f s
 
 -- room and bytes, once it is known which walk it is
 module _ {walk which : Walk} (e : walk ≡ which) (ns f s : List ℕ) where
-  pub room_as : {n : ℕ} → n ≡ length (walkBytes walk 0 (kindsOf ns) f s)
-      → n ≡ length (walkBytes which 0 (kindsOf ns) f s)
+  pub room_as : {n : ℕ} → n ≡ length (walk_bytes walk 0 (kinds_of ns) f s)
+      → n ≡ length (walk_bytes which 0 (kinds_of ns) f s)
   room_as l = rw e at l
 
-  pub bytes-as : {b : List ℕ} → b ≡ walkBytes which 0 (kindsOf ns) f s → b ≡ walkBytes walk 0 (kindsOf ns) f s
-  bytes-as p = rw e p
+  pub bytes_as : {b : List ℕ} → b ≡ walk_bytes which 0 (kinds_of ns) f s → b ≡ walk_bytes walk 0 (kinds_of ns) f s
+  bytes_as p = rw e p
 
 -- ---- a difference: both images have the element at the same place
 
 pub record Comparing (ns f s : List ℕ) (p i : ℕ) : Type 0 where
-  pub old : p + widths (drop i (kindsOf ns)) ≡ length f
-  pub new : p + widths (drop i (kindsOf ns)) ≡ length s
+  pub old : p + widths (drop i (kinds_of ns)) ≡ length f
+  pub new : p + widths (drop i (kinds_of ns)) ≡ length s
 
-pub none-compared : {ns f s : List ℕ} → ElementsLong ns f s → Comparing ns f s 0 0
-none-compared e = record { old = omega (arith, e.first); new = omega (arith, e.second) }
+pub none_compared : {ns f s : List ℕ} → ElementsLong ns f s → Comparing ns f s 0 0
+none_compared e = record { old = omega (arith, e.first); new = omega (arith, e.second) }
 
 module _ {ns f s : List ℕ} {p i : ℕ} (z : Comparing ns f s p i) (h : i < length ns) {w : ℕ}
-    (ew : w ≡ width_of (kind_at (kindsOf ns) i)) where
-  pub old-inside : p + w ≤ length f
-  old-inside = omega (arith, z.old, ap widths (kinds-next ns i h))
+    (ew : w ≡ width_of (kind_at (kinds_of ns) i)) where
+  pub old_inside : p + w ≤ length f
+  old_inside = omega (arith, z.old, ap widths (kinds_next ns i h))
 
-  pub new-inside : p + w ≤ length s
-  new-inside = omega (arith, z.new, ap widths (kinds-next ns i h))
+  pub new_inside : p + w ≤ length s
+  new_inside = omega (arith, z.new, ap widths (kinds_next ns i h))
 
-  pub place-fits : length f < 2 ^ 64 → p + w < 2 ^ 64
-  place-fits k = omega (arith, old-inside)
+  pub place_fits : length f < 2 ^ 64 → p + w < 2 ^ 64
+  place_fits k = omega (arith, old_inside)
 
-  pub one-compared : Comparing ns f s (p + w) (i + 1)
-  one-compared =
+  pub one_compared : Comparing ns f s (p + w) (i + 1)
+  one_compared =
       record {
-        old = omega (arith, z.old, ap widths (kinds-next ns i h));
-        new = omega (arith, z.new, ap widths (kinds-next ns i h));
+        old = omega (arith, z.old, ap widths (kinds_next ns i h));
+        new = omega (arith, z.new, ap widths (kinds_next ns i h));
       }
 
   module _ {a b : ℕ} (ea : a ≡ number (take w (drop p f))) (eb : b ≡ number (take w (drop p s))) where
     step : {c : Change} → c ≡ differ a b
         → Stepped Walk.Difference i w f p s p (record { change = c; agrees = true; first = w; second = w })
-    step ec = difference-step old-inside new-inside ea eb ec
+    step ec = difference_step old_inside new_inside ea eb ec
 
     onward : AllIdle Walk.Difference (i + 1) (i + 1) (length ns) (drop (p + w) f) (drop (p + w) s)
-    onward = idle-none Walk.Difference (i + 1) (length ns) (drop (p + w) f) (drop (p + w) s) (omega arith)
+    onward = idle_none Walk.Difference (i + 1) (length ns) (drop (p + w) f) (drop (p + w) s) (omega arith)
 
-    pub difference-sized : {count size m n : ℕ} → Sizing Walk.Difference ns f s count size p p i
-        → (m ≡ countIf (not (eqb a b))) × (m ≤ 1) → (n ≡ sizeIf (not (eqb a b)) w) × (n ≤ 10)
+    pub difference_sized : {count size m n : ℕ} → Sizing Walk.Difference ns f s count size p p i
+        → (m ≡ count_if (not (eqb a b))) × (m ≤ 1) → (n ≡ size_if (not (eqb a b)) w) × (n ≤ 10)
         → Sizing Walk.Difference ns f s (count + m) (size + n) (p + w) (p + w) (i + 1)
-    difference-sized y em en = one-sized y h ew (step refl) refl (differ-swap a b) em en onward
+    difference_sized y em en = one_sized y h ew (step refl) refl (differ_swap a b) em en onward
 
     module _ {c : Change} (ec : c ≡ differ a b) {part₀ part : List ℕ} {at n : ℕ}
         (y : Putting Walk.Difference ns f s part₀ part at p p i) (en : n ≡ span w c) where
-      pub difference-fits : length part₀ < 2 ^ 64 → at + n < 2 ^ 64
-      difference-fits k = put-fits y h ew (step ec) en k
+      pub difference_fits : length part₀ < 2 ^ 64 → at + n < 2 ^ 64
+      difference_fits k = put_fits y h ew (step ec) en k
 
       pub difference_inside : at + n ≤ length part
-      difference_inside = put-inside y h ew (step ec) en
+      difference_inside = put_inside y h ew (step ec) en
 
-      pub difference-long : length (mid_of at (at + n - at) part) ≡ span w c
-      difference-long = put-long y h ew (step ec) en
+      pub difference_long : length (mid_of at (at + n - at) part) ≡ span w c
+      difference_long = put_long y h ew (step ec) en
 
-      pub difference-put : {ys : List ℕ} → ys ≡ entryBytes i w c
+      pub difference_put : {ys : List ℕ} → ys ≡ entry_bytes i w c
           → Putting Walk.Difference ns f s part₀ (put_mid at (at + n - at) part ys) (at + n) (p + w) (p + w) (i + 1)
-      difference-put q = one-put y h ew (step ec) en q onward
+      difference_put q = one_put y h ew (step ec) en q onward
 
 -- ---- a join: what each list says of the object
 
 -- the cursor past an entry is still inside
 module _ (l : List ℕ) (p i w : ℕ) {t : Bool} {m : ℕ} (h : p ≤ length l) (e : t ≡ names i w (drop p l))
-    (em : (m ≡ sizeIf t w) × (m ≤ 10)) where
-  pub cursor-inside : p + m ≤ length l
-  cursor-inside = omega (arith, names-inside l p i w h e, em.0)
+    (em : (m ≡ size_if t w) × (m ≤ 10)) where
+  pub cursor_inside : p + m ≤ length l
+  cursor_inside = omega (arith, names_inside l p i w h e, em.0)
 
-  pub cursor-fits : length l < 2 ^ 64 → p + m < 2 ^ 64
-  cursor-fits k = omega (arith, cursor-inside)
+  pub cursor_fits : length l < 2 ^ 64 → p + m < 2 ^ 64
+  cursor_fits k = omega (arith, cursor_inside)
 
 module _ {ns f s : List ℕ} {p q i w : ℕ} {one other : Bool} (h : i < length ns)
-    (ew : w ≡ width_of (kind_at (kindsOf ns) i)) (eo : one ≡ names i w (drop p f))
+    (ew : w ≡ width_of (kind_at (kinds_of ns) i)) (eo : one ≡ names i w (drop p f))
     (es : other ≡ names i w (drop q s)) where
   module _ {count size : ℕ} (z : Sizing Walk.Join ns f s count size p q i) {t : Bool}
-      (et : t ≡ meets (saidIf one w (drop p f)) (saidIf other w (drop q s))) where
-    pub join-until : t ≡ false → Surveyed ns f s (record { misfit = i; size = record { count = count; bytes = size } })
-    join-until b = sized-until z h ew (join_step z.seek.near z.seek.far eo es refl et refl refl) b
+      (et : t ≡ meets (said_if one w (drop p f)) (said_if other w (drop q s))) where
+    pub join_until : t ≡ false → Surveyed ns f s (record { misfit = i; size = record { count = count; bytes = size } })
+    join_until b = sized_until z h ew (join_step z.seek.near z.seek.far eo es refl et refl refl) b
 
-    pub join-sized : t ≡ true → {kept : Bool}
-        → kept ≡ isSwap (joined (saidIf one w (drop p f)) (saidIf other w (drop q s)))
-        → {m n k l : ℕ} → (m ≡ countIf kept) × (m ≤ 1) → (n ≡ sizeIf kept w) × (n ≤ 10) → (k ≡ sizeIf one w) × (k ≤ 10)
-        → (l ≡ sizeIf other w) × (l ≤ 10)
+    pub join_sized : t ≡ true → {kept : Bool}
+        → kept ≡ is_swap (joined (said_if one w (drop p f)) (said_if other w (drop q s)))
+        → {m n k l : ℕ} → (m ≡ count_if kept) × (m ≤ 1) → (n ≡ size_if kept w) × (n ≤ 10) → (k ≡ size_if one w) × (k ≤ 10)
+        → (l ≡ size_if other w) × (l ≤ 10)
         → {j : ℕ} → AllIdle Walk.Join (i + 1) j (length ns) (drop (p + k) f) (drop (q + l) s)
         → Sizing Walk.Join ns f s (count + m) (size + n) (p + k) (q + l) j
-    join-sized b e em en ek el d =
-        one-sized z h ew (join_step z.seek.near z.seek.far eo es refl et ek.0 el.0) b e em en d
+    join_sized b e em en ek el d =
+        one_sized z h ew (join_step z.seek.near z.seek.far eo es refl et ek.0 el.0) b e em en d
 
   module _ {part₀ part : List ℕ} {at n : ℕ} (z : Putting Walk.Join ns f s part₀ part at p q i) {c : Change}
-      (ec : c ≡ joined (saidIf one w (drop p f)) (saidIf other w (drop q s))) (en : n ≡ span w c) where
+      (ec : c ≡ joined (said_if one w (drop p f)) (said_if other w (drop q s))) (en : n ≡ span w c) where
     joint : Stepped Walk.Join i w f p s q
         (record {
           change = c;
-          agrees = meets (saidIf one w (drop p f)) (saidIf other w (drop q s));
-          first = sizeIf one w;
-          second = sizeIf other w;
+          agrees = meets (said_if one w (drop p f)) (said_if other w (drop q s));
+          first = size_if one w;
+          second = size_if other w;
         })
     joint = join_step z.near z.far eo es ec refl refl refl
 
-    pub join-fits : length part₀ < 2 ^ 64 → at + n < 2 ^ 64
-    join-fits k = put-fits z h ew joint en k
+    pub join_fits : length part₀ < 2 ^ 64 → at + n < 2 ^ 64
+    join_fits k = put_fits z h ew joint en k
 
-    pub join-inside : at + n ≤ length part
-    join-inside = put-inside z h ew joint en
+    pub join_inside : at + n ≤ length part
+    join_inside = put_inside z h ew joint en
 
-    pub join-long : length (mid_of at (at + n - at) part) ≡ span w c
-    join-long = put-long z h ew joint en
+    pub join_long : length (mid_of at (at + n - at) part) ≡ span w c
+    join_long = put_long z h ew joint en
 
-    pub join-put : {ys : List ℕ} → ys ≡ entryBytes i w c → {k l : ℕ} → (k ≡ sizeIf one w) × (k ≤ 10)
-        → (l ≡ sizeIf other w) × (l ≤ 10)
+    pub join_put : {ys : List ℕ} → ys ≡ entry_bytes i w c → {k l : ℕ} → (k ≡ size_if one w) × (k ≤ 10)
+        → (l ≡ size_if other w) × (l ≤ 10)
         → {j : ℕ} → AllIdle Walk.Join (i + 1) j (length ns) (drop (p + k) f) (drop (q + l) s)
         → Putting Walk.Join ns f s part₀ (put_mid at (at + n - at) part ys) (at + n) (p + k) (q + l) j
-    join-put y ek el d = one-put z h ew (join_step z.near z.far eo es ec refl ek.0 el.0) en y d
+    join_put y ek el d = one_put z h ew (join_step z.near z.far eo es ec refl ek.0 el.0) en y d
 
 -- ---- turning back: what the list says of the object
 
@@ -154,40 +154,40 @@ module _ {ns f s : List ℕ} {p q i w : ℕ} {one other : Bool} (h : i < length 
 alone : (i : ℕ) (ks : List Kind) (f s t : List ℕ) → walked Walk.Turn i ks f s ≡ walked Walk.Turn i ks f t
 unfolding walked step_of
 alone i [] f s t = refl
-alone i (k ∷ ks) f s t = rw (alone (suc i) ks (drop (span (width_of k) (changeAt i (width_of k) f)) f) s t)
+alone i (k ∷ ks) f s t = rw (alone (suc i) ks (drop (span (width_of k) (change_at i (width_of k) f)) f) s t)
 
-bytes-alone : (ks : List Kind) (f s t : List ℕ) → walkBytes Walk.Turn 0 ks f s ≡ walkBytes Walk.Turn 0 ks f t
-bytes-alone ks f s t = ap (entriesBytes 0 ks) (alone 0 ks f s t)
+bytes_alone : (ks : List Kind) (f s t : List ℕ) → walk_bytes Walk.Turn 0 ks f s ≡ walk_bytes Walk.Turn 0 ks f t
+bytes_alone ks f s t = ap (entries_bytes 0 ks) (alone 0 ks f s t)
 
 module _ {walk : Walk} (e : walk ≡ Walk.Turn) (ns f s : List ℕ) where
-  pub room-alone : {n : ℕ} → n ≡ length (walkBytes walk 0 (kindsOf ns) f s)
-      → n ≡ length (walkBytes Walk.Turn 0 (kindsOf ns) f [])
-  room-alone l = room_as e ns f s l ∙ ap length (bytes-alone (kindsOf ns) f s [])
+  pub room_alone : {n : ℕ} → n ≡ length (walk_bytes walk 0 (kinds_of ns) f s)
+      → n ≡ length (walk_bytes Walk.Turn 0 (kinds_of ns) f [])
+  room_alone l = room_as e ns f s l ∙ ap length (bytes_alone (kinds_of ns) f s [])
 
-  pub bytes-turned : {b : List ℕ} → b ≡ walkBytes Walk.Turn 0 (kindsOf ns) f [] → b ≡ walkBytes walk 0 (kindsOf ns) f s
-  bytes-turned p = bytes-as e ns f s (p ∙ bytes-alone (kindsOf ns) f [] s)
+  pub bytes_turned : {b : List ℕ} → b ≡ walk_bytes Walk.Turn 0 (kinds_of ns) f [] → b ≡ walk_bytes walk 0 (kinds_of ns) f s
+  bytes_turned p = bytes_as e ns f s (p ∙ bytes_alone (kinds_of ns) f [] s)
 
-pub said_fits : (l : List ℕ) (p i w : ℕ) {c : Change} {m : ℕ} → p ≤ length l → c ≡ changeAt i w (drop p l)
+pub said_fits : (l : List ℕ) (p i w : ℕ) {c : Change} {m : ℕ} → p ≤ length l → c ≡ change_at i w (drop p l)
     → (m ≡ span w c) × (m ≤ 10) → length l < 2 ^ 64 → p + m < 2 ^ 64
-said_fits l p i w h ec em k = omega (arith, said-inside l p i w h ec em.0)
+said_fits l p i w h ec em k = omega (arith, said_inside l p i w h ec em.0)
 
 module _ {ns f s part₀ part : List ℕ} {at p i w n : ℕ} (z : Putting Walk.Turn ns f s part₀ part at p 0 i)
-    (h : i < length ns) (ew : w ≡ width_of (kind_at (kindsOf ns) i)) {c d : Change} (ec : c ≡ changeAt i w (drop p f))
+    (h : i < length ns) (ew : w ≡ width_of (kind_at (kinds_of ns) i)) {c d : Change} (ec : c ≡ change_at i w (drop p f))
     (ed : d ≡ back c) (en : n ≡ span w d) where
   turned : {m : ℕ} → m ≡ span w c
       → Stepped Walk.Turn i w f p s 0 (record { change = d; agrees = true; first = m; second = 0 })
   turned em = turn_step z.near z.far ec ed em
 
-  pub turn-fits : length part₀ < 2 ^ 64 → at + n < 2 ^ 64
-  turn-fits k = put-fits z h ew (turned refl) en k
+  pub turn_fits : length part₀ < 2 ^ 64 → at + n < 2 ^ 64
+  turn_fits k = put_fits z h ew (turned refl) en k
 
   pub turn_inside : at + n ≤ length part
-  turn_inside = put-inside z h ew (turned refl) en
+  turn_inside = put_inside z h ew (turned refl) en
 
-  pub turn-long : length (mid_of at (at + n - at) part) ≡ span w d
-  turn-long = put-long z h ew (turned refl) en
+  pub turn_long : length (mid_of at (at + n - at) part) ≡ span w d
+  turn_long = put_long z h ew (turned refl) en
 
-  pub turn-put : {ys : List ℕ} → ys ≡ entryBytes i w d → {m : ℕ} → (m ≡ span w c) × (m ≤ 10) → {j : ℕ}
+  pub turn_put : {ys : List ℕ} → ys ≡ entry_bytes i w d → {m : ℕ} → (m ≡ span w c) × (m ≤ 10) → {j : ℕ}
       → Silent (i + 1) j (length ns) (drop (p + m) f)
       → Putting Walk.Turn ns f s part₀ (put_mid at (at + n - at) part ys) (at + n) (p + m) 0 j
-  turn-put y em v = one-put z h ew (turned em.0) en y (idle-turn s v)
+  turn_put y em v = one_put z h ew (turned em.0) en y (idle_turn s v)

@@ -16,95 +16,95 @@ use Rattle.kinds.specs.declared.Kind.{Kind}
 use Rattle.history.specs.declared.Change.{Change}
 use Rattle.history.specs.declared.Change.TheVariants.{Keep as keep, Swap as swap}
 use Rattle.history.specs.Table.{kind_at}
-use Rattle.history.specs.Changes.{entriesBytes, entries}
+use Rattle.history.specs.Changes.{entries_bytes, entries}
 use Rattle.octets.proofs.Writing.{Filling, begin, along, keeps, has_room, write, ended}
 use Rattle.steps.specs.declared.Walk.{Walk}
-use Rattle.tables.specs.Outlines.{kindsOf}
-use Rattle.steps.specs.Steps.{span, entryBytes, countIf, sizeIf, isSwap, Step, Stepped, idle, AllIdle}
-use Rattle.steps.proofs.StepLaws.{count-swap, size-swap}
+use Rattle.tables.specs.Outlines.{kinds_of}
+use Rattle.steps.specs.Steps.{span, entry_bytes, count_if, size_if, is_swap, Step, Stepped, idle, AllIdle}
+use Rattle.steps.proofs.StepLaws.{count_swap, size_swap}
 use Rattle.walks.specs.declared.Survey.{Survey}
-use Rattle.walks.specs.Walks.{walked, walkBytes, Measured, Surveyed, misfit}
-use Rattle.walks.proofs.Bridges.{entries-cons, length-entry}
+use Rattle.walks.specs.Walks.{walked, walk_bytes, Measured, Surveyed, misfit}
+use Rattle.walks.proofs.Bridges.{entries_cons, length_entry}
 use Rattle.walks.proofs.Runs.{run}
-use Rattle.forms.proofs.KindLaws.{kinds-next, kinds-end}
+use Rattle.forms.proofs.KindLaws.{kinds_next, kinds_end}
 
 -- ---- one turn of the walk
 
-entries-more : (c : Change) (cs : List Change) → entries (c ∷ cs) ≡ entries (c ∷ []) + entries cs
-entries-more keep cs = omega arith
-entries-more (swap old new) cs = omega arith
+entries_more : (c : Change) (cs : List Change) → entries (c ∷ cs) ≡ entries (c ∷ []) + entries cs
+entries_more keep cs = omega arith
+entries_more (swap old new) cs = omega arith
 
-bytes-cons : (i j : ℕ) (k : Kind) (c : Change) {ks ks' : List Kind} {cs cs' : List Change} {w : ℕ} → ks ≡ k ∷ ks'
+bytes_cons : (i j : ℕ) (k : Kind) (c : Change) {ks ks' : List Kind} {cs cs' : List Change} {w : ℕ} → ks ≡ k ∷ ks'
     → cs ≡ c ∷ cs' → w ≡ width_of k → j ≡ suc i
-    → entriesBytes i ks cs ≡ entryBytes i w c ++ entriesBytes j ks' cs'
-bytes-cons i j k c {ks' = ks'} {cs' = cs'} e f g h = rw (e, f, g, h) (entries-cons i k ks' c cs')
+    → entries_bytes i ks cs ≡ entry_bytes i w c ++ entries_bytes j ks' cs'
+bytes_cons i j k c {ks' = ks'} {cs' = cs'} e f g h = rw (e, f, g, h) (entries_cons i k ks' c cs')
 
 module _ (walk : Walk) (ns f s : List ℕ) where
   -- what the walk still gives
   abbrev pub left : ℕ → ℕ → ℕ → List Change
-  left i p q = walked walk i (drop i (kindsOf ns)) (drop p f) (drop q s)
+  left i p q = walked walk i (drop i (kinds_of ns)) (drop p f) (drop q s)
 
-  abbrev pub leftBytes : ℕ → ℕ → ℕ → List ℕ
-  leftBytes i p q = entriesBytes i (drop i (kindsOf ns)) (left i p q)
+  abbrev pub left_bytes : ℕ → ℕ → ℕ → List ℕ
+  left_bytes i p q = entries_bytes i (drop i (kinds_of ns)) (left i p q)
 
   module _ (i p q : ℕ) where
-    module _ (h : i < length ns) {w : ℕ} (e : w ≡ width_of (kind_at (kindsOf ns) i)) {r : Step}
+    module _ (h : i < length ns) {w : ℕ} (e : w ≡ width_of (kind_at (kinds_of ns) i)) {r : Step}
         (t : Stepped walk i w f p s q r) where
-      left-next : left i p q ≡ r.change ∷ left (i + 1) (p + r.first) (q + r.second)
+      left_next : left i p q ≡ r.change ∷ left (i + 1) (p + r.first) (q + r.second)
       unfolding walked
-      left-next =
-          rw (kinds-next ns i h, ← e, ← t.is, add-one i, drop-drop r.first p f, drop-drop r.second q s)
+      left_next =
+          rw (kinds_next ns i h, ← e, ← t.is, add-one i, drop-drop r.first p f, drop-drop r.second q s)
 
-      bytes_next : leftBytes i p q ≡ entryBytes i w r.change ++ leftBytes (i + 1) (p + r.first) (q + r.second)
-      bytes_next = bytes-cons i (i + 1) (kind_at (kindsOf ns) i) r.change (kinds-next ns i h) left-next e (add-one i)
+      bytes_next : left_bytes i p q ≡ entry_bytes i w r.change ++ left_bytes (i + 1) (p + r.first) (q + r.second)
+      bytes_next = bytes_cons i (i + 1) (kind_at (kinds_of ns) i) r.change (kinds_next ns i h) left_next e (add-one i)
 
       count_next : entries (left i p q)
           ≡ entries (r.change ∷ []) + entries (left (i + 1) (p + r.first) (q + r.second))
-      count_next = ap entries left-next ∙ entries-more r.change (left (i + 1) (p + r.first) (q + r.second))
+      count_next = ap entries left_next ∙ entries_more r.change (left (i + 1) (p + r.first) (q + r.second))
 
-      misfit-next : misfit walk i (drop i (kindsOf ns)) (drop p f) (drop q s)
+      misfit_next : misfit walk i (drop i (kinds_of ns)) (drop p f) (drop q s)
           ≡ cond r.agrees
-          (misfit walk (i + 1) (drop (i + 1) (kindsOf ns)) (drop (p + r.first) f) (drop (q + r.second) s)) i
+          (misfit walk (i + 1) (drop (i + 1) (kinds_of ns)) (drop (p + r.first) f) (drop (q + r.second) s)) i
       unfolding misfit
-      misfit-next =
-          rw (kinds-next ns i h, ← e, ← t.is, add-one i, drop-drop r.first p f, drop-drop r.second q s)
+      misfit_next =
+          rw (kinds_next ns i h, ← e, ← t.is, add-one i, drop-drop r.first p f, drop-drop r.second q s)
 
     module _ (h : length ns ≤ i) where
       left_end : left i p q ≡ []
       unfolding walked
-      left_end = rw (kinds-end ns i h)
+      left_end = rw (kinds_end ns i h)
 
-      bytes-end : leftBytes i p q ≡ []
-      bytes-end = rw (kinds-end ns i h)
+      bytes_end : left_bytes i p q ≡ []
+      bytes_end = rw (kinds_end ns i h)
 
-      misfit-end : misfit walk i (drop i (kindsOf ns)) (drop p f) (drop q s) ≡ i
+      misfit_end : misfit walk i (drop i (kinds_of ns)) (drop p f) (drop q s) ≡ i
       unfolding misfit
-      misfit-end = rw (kinds-end ns i h)
+      misfit_end = rw (kinds_end ns i h)
 
   -- ---- a run of objects at which there is nothing to do
 
   module _ {i p q j n : ℕ} (near : p ≤ length f) (far : q ≤ length s) (d : AllIdle walk i j n (drop p f) (drop q s))
       (h : n ≤ length ns) where
-    still : (k : ℕ) → i ≤ k → k < j → Stepped walk k (width_of (kind_at (kindsOf ns) k)) f p s q idle
+    still : (k : ℕ) → i ≤ k → k < j → Stepped walk k (width_of (kind_at (kinds_of ns) k)) f p s q idle
     still k a b =
-        record { is = sym (d.is k (width_of (kind_at (kindsOf ns) k)) a b); near = omega arith; far = omega arith }
+        record { is = sym (d.is k (width_of (kind_at (kinds_of ns) k)) a b); near = omega arith; far = omega arith }
 
-    bytes_run : leftBytes i p q ≡ leftBytes j p q
+    bytes_run : left_bytes i p q ≡ left_bytes j p q
     bytes_run =
-        run (λ k. leftBytes k p q) d.on
+        run (λ k. left_bytes k p q) d.on
         (λ k a b. rw (add-zero p, add-zero q) at (bytes_next k p q (omega (arith, d.within)) refl (still k a b)))
 
-    count-run : entries (left i p q) ≡ entries (left j p q)
-    count-run =
+    count_run : entries (left i p q) ≡ entries (left j p q)
+    count_run =
         run (λ k. entries (left k p q)) d.on
         (λ k a b. rw (add-zero p, add-zero q, zero-add) at
         (count_next k p q (omega (arith, d.within)) refl (still k a b)))
 
-    misfit-run : misfit walk i (drop i (kindsOf ns)) (drop p f) (drop q s)
-        ≡ misfit walk j (drop j (kindsOf ns)) (drop p f) (drop q s)
-    misfit-run =
-        run (λ k. misfit walk k (drop k (kindsOf ns)) (drop p f) (drop q s)) d.on
-        (λ k a b. rw (add-zero p, add-zero q) at (misfit-next k p q (omega (arith, d.within)) refl (still k a b)))
+    misfit_run : misfit walk i (drop i (kinds_of ns)) (drop p f) (drop q s)
+        ≡ misfit walk j (drop j (kinds_of ns)) (drop p f) (drop q s)
+    misfit_run =
+        run (λ k. misfit walk k (drop k (kinds_of ns)) (drop p f) (drop q s)) d.on
+        (λ k a b. rw (add-zero p, add-zero q) at (misfit_next k p q (omega (arith, d.within)) refl (still k a b)))
 
 -- ---- the lowest object on which the forms do not agree
 
@@ -113,37 +113,37 @@ pub record Seeking (walk : Walk) (ns f s : List ℕ) (p q i : ℕ) : Type 0 wher
   pub inside : i ≤ length ns
   pub near : p ≤ length f
   pub far : q ≤ length s
-  pub same : misfit walk 0 (kindsOf ns) f s ≡ misfit walk i (drop i (kindsOf ns)) (drop p f) (drop q s)
+  pub same : misfit walk 0 (kinds_of ns) f s ≡ misfit walk i (drop i (kinds_of ns)) (drop p f) (drop q s)
 
-none-sought : (walk : Walk) (ns f s : List ℕ) → Seeking walk ns f s 0 0 0
-none-sought walk ns f s = record { inside = omega arith; near = omega arith; far = omega arith; same = refl }
+none_sought : (walk : Walk) (ns f s : List ℕ) → Seeking walk ns f s 0 0 0
+none_sought walk ns f s = record { inside = omega arith; near = omega arith; far = omega arith; same = refl }
 
 module _ {walk : Walk} {ns f s : List ℕ} {p q i : ℕ} (z : Seeking walk ns f s p q i) where
-  module _ (h : i < length ns) {w : ℕ} {r : Step} (e : w ≡ width_of (kind_at (kindsOf ns) i))
+  module _ (h : i < length ns) {w : ℕ} {r : Step} (e : w ≡ width_of (kind_at (kinds_of ns) i))
       (t : Stepped walk i w f p s q r) where
-    misfit-here : r.agrees ≡ false → i ≡ misfit walk 0 (kindsOf ns) f s
-    misfit-here b = sym (z.same ∙ misfit-next walk ns f s i p q h e t ∙ rw b)
+    misfit_here : r.agrees ≡ false → i ≡ misfit walk 0 (kinds_of ns) f s
+    misfit_here b = sym (z.same ∙ misfit_next walk ns f s i p q h e t ∙ rw b)
 
-    step-sought : r.agrees ≡ true → Seeking walk ns f s (p + r.first) (q + r.second) (i + 1)
-    step-sought b =
+    step_sought : r.agrees ≡ true → Seeking walk ns f s (p + r.first) (q + r.second) (i + 1)
+    step_sought b =
         record {
           inside = omega arith;
           near = t.near;
           far = t.far;
-          same = z.same ∙ misfit-next walk ns f s i p q h e t ∙ rw b;
+          same = z.same ∙ misfit_next walk ns f s i p q h e t ∙ rw b;
         }
 
-  all-sought : length ns ≤ i → i ≡ misfit walk 0 (kindsOf ns) f s
-  all-sought h = sym (z.same ∙ misfit-end walk ns f s i p q h)
+  all_sought : length ns ≤ i → i ≡ misfit walk 0 (kinds_of ns) f s
+  all_sought h = sym (z.same ∙ misfit_end walk ns f s i p q h)
 
 -- on to the next object at which there is something to do
-run-sought : {walk : Walk} {ns f s : List ℕ} {p q i j : ℕ} → Seeking walk ns f s p q i
+run_sought : {walk : Walk} {ns f s : List ℕ} {p q i j : ℕ} → Seeking walk ns f s p q i
     → AllIdle walk i j (length ns) (drop p f) (drop q s) → Seeking walk ns f s p q j
-run-sought {walk} {ns} {f} {s} z d = record {
+run_sought {walk} {ns} {f} {s} z d = record {
   inside = d.within;
   near = z.near;
   far = z.far;
-  same = z.same ∙ misfit-run walk ns f s z.near z.far d (omega arith);
+  same = z.same ∙ misfit_run walk ns f s z.near z.far d (omega arith);
 }
 
 -- ---- measuring
@@ -154,11 +154,11 @@ pub record Sizing (walk : Walk) (ns f s : List ℕ) (count size p q i : ℕ) : T
   pub few : count ≤ i
   pub short : size ≤ 10 * i
   pub entries : count + entries (left walk ns f s i p q) ≡ entries (left walk ns f s 0 0 0)
-  pub bytes : size + length (leftBytes walk ns f s i p q) ≡ length (leftBytes walk ns f s 0 0 0)
+  pub bytes : size + length (left_bytes walk ns f s i p q) ≡ length (left_bytes walk ns f s 0 0 0)
 
-pub none-sized : (walk : Walk) (ns f s : List ℕ) → Sizing walk ns f s 0 0 0 0 0
-none-sized walk ns f s = record {
-  seek = none-sought walk ns f s;
+pub none_sized : (walk : Walk) (ns f s : List ℕ) → Sizing walk ns f s 0 0 0 0 0
+none_sized walk ns f s = record {
+  seek = none_sought walk ns f s;
   few = omega arith;
   short = omega arith;
   entries = omega arith;
@@ -166,45 +166,45 @@ none-sized walk ns f s = record {
 }
 
 -- on to the next object at which there is something to do
-run-sized : {walk : Walk} {ns f s : List ℕ} {count size p q i j : ℕ} → Sizing walk ns f s count size p q i
+run_sized : {walk : Walk} {ns f s : List ℕ} {count size p q i j : ℕ} → Sizing walk ns f s count size p q i
     → AllIdle walk i j (length ns) (drop p f) (drop q s)
     → Sizing walk ns f s count size p q j
-run-sized {walk} {ns} {f} {s} z d = record {
-  seek = run-sought z.seek d;
+run_sized {walk} {ns} {f} {s} z d = record {
+  seek = run_sought z.seek d;
   few = omega (arith, z.few, d.on);
   short = omega (arith, z.short, d.on);
-  entries = omega (arith, z.entries, count-run walk ns f s z.seek.near z.seek.far d (omega arith));
+  entries = omega (arith, z.entries, count_run walk ns f s z.seek.near z.seek.far d (omega arith));
   bytes = omega (arith, z.bytes, ap length (bytes_run walk ns f s z.seek.near z.seek.far d (omega arith)));
 }
 
 module _ {walk : Walk} {ns f s : List ℕ} {count size p q i : ℕ} (z : Sizing walk ns f s count size p q i) where
-  pub one-sized : i < length ns → {w m n : ℕ} {r : Step} → w ≡ width_of (kind_at (kindsOf ns) i)
+  pub one_sized : i < length ns → {w m n : ℕ} {r : Step} → w ≡ width_of (kind_at (kinds_of ns) i)
       → Stepped walk i w f p s q r → r.agrees ≡ true
-      → {kept : Bool} → kept ≡ isSwap r.change → (m ≡ countIf kept) × (m ≤ 1) → (n ≡ sizeIf kept w) × (n ≤ 10)
+      → {kept : Bool} → kept ≡ is_swap r.change → (m ≡ count_if kept) × (m ≤ 1) → (n ≡ size_if kept w) × (n ≤ 10)
       → {j : ℕ} → AllIdle walk (i + 1) j (length ns) (drop (p + r.first) f) (drop (q + r.second) s)
       → Sizing walk ns f s (count + m) (size + n) (p + r.first) (q + r.second) j
-  one-sized h {w} {m} {n} {r} e t b ek em en d =
-      let counted : m ≡ entries (r.change ∷ []) = em.0 ∙ ap countIf ek ∙ count-swap r.change in
-      let spanned : n ≡ span w r.change = en.0 ∙ ap (λ (u : Bool). sizeIf u w) ek ∙ size-swap w r.change in
-      run-sized
+  one_sized h {w} {m} {n} {r} e t b ek em en d =
+      let counted : m ≡ entries (r.change ∷ []) = em.0 ∙ ap count_if ek ∙ count_swap r.change in
+      let spanned : n ≡ span w r.change = en.0 ∙ ap (λ (u : Bool). size_if u w) ek ∙ size_swap w r.change in
+      run_sized
       (record {
-        seek = step-sought z.seek h e t b;
+        seek = step_sought z.seek h e t b;
         few = omega arith;
         short = omega arith;
         entries = omega (arith, count_next walk ns f s i p q h e t);
         bytes =
             omega (
               arith,
-              length-entry i w r.change,
+              length_entry i w r.change,
               simp length-append at (ap length (bytes_next walk ns f s i p q h e t)),
             );
       })
       d
 
-  pub all-measured : length ns ≤ i → length ns ≤ 1024 → Measured walk (kindsOf ns) f s count size
-  all-measured h few = record {
+  pub all_measured : length ns ≤ i → length ns ≤ 1024 → Measured walk (kinds_of ns) f s count size
+  all_measured h few = record {
     entries = omega (arith, ap entries (left_end walk ns f s i p q h));
-    bytes = omega (arith, ap length (bytes-end walk ns f s i p q h));
+    bytes = omega (arith, ap length (bytes_end walk ns f s i p q h));
     few = omega arith;
     short = omega arith;
   }
@@ -216,14 +216,14 @@ module _ {ns f s : List ℕ} {count size p q i : ℕ} (z : Sizing Walk.Join ns f
   survey = record { misfit = i; size = record { count = count; bytes = size } }
 
   -- the lists do not agree on the object
-  pub sized-until : i < length ns → {w : ℕ} {r : Step} → w ≡ width_of (kind_at (kindsOf ns) i)
+  pub sized_until : i < length ns → {w : ℕ} {r : Step} → w ≡ width_of (kind_at (kinds_of ns) i)
       → Stepped Walk.Join i w f p s q r → r.agrees ≡ false → Surveyed ns f s survey
-  sized-until h e t b =
-      record { found = misfit-here z.seek h e t b; inside = omega arith; measured = λ k. absurd (omega arith) }
+  sized_until h e t b =
+      record { found = misfit_here z.seek h e t b; inside = omega arith; measured = λ k. absurd (omega arith) }
 
-  pub all-sized : length ns ≤ i → length ns ≤ 1024 → Surveyed ns f s survey
-  all-sized h few =
-      record { found = all-sought z.seek h; inside = z.seek.inside; measured = λ _. all-measured z h few }
+  pub all_sized : length ns ≤ i → length ns ≤ 1024 → Surveyed ns f s survey
+  all_sized h few =
+      record { found = all_sought z.seek h; inside = z.seek.inside; measured = λ _. all_measured z h few }
 
 -- ---- writing the entries
 
@@ -231,47 +231,47 @@ pub record Putting (walk : Walk) (ns f s part₀ part : List ℕ) (at p q i : �
   pub inside : i ≤ length ns
   pub near : p ≤ length f
   pub far : q ≤ length s
-  pub fill : Filling (leftBytes walk ns f s 0 0 0) part₀ (leftBytes walk ns f s i p q) at part
+  pub fill : Filling (left_bytes walk ns f s 0 0 0) part₀ (left_bytes walk ns f s i p q) at part
 
-pub none-put : (walk : Walk) (ns f s part : List ℕ) → length part ≡ length (walkBytes walk 0 (kindsOf ns) f s)
+pub none_put : (walk : Walk) (ns f s part : List ℕ) → length part ≡ length (walk_bytes walk 0 (kinds_of ns) f s)
     → Putting walk ns f s part part 0 0 0 0
-none-put walk ns f s part h =
+none_put walk ns f s part h =
     record { inside = omega arith; near = omega arith; far = omega arith; fill = begin _ part h }
 
 module _ {walk : Walk} {ns f s part₀ part : List ℕ} {at p q i : ℕ} (z : Putting walk ns f s part₀ part at p q i) where
   pub put_keeps : length part ≡ length part₀
   put_keeps = keeps z.fill
 
-  module _ (h : i < length ns) {w n : ℕ} {r : Step} (e : w ≡ width_of (kind_at (kindsOf ns) i))
+  module _ (h : i < length ns) {w n : ℕ} {r : Step} (e : w ≡ width_of (kind_at (kinds_of ns) i))
       (t : Stepped walk i w f p s q r) (en : n ≡ span w r.change) where
-    next : Filling (leftBytes walk ns f s 0 0 0) part₀
-        (entryBytes i w r.change ++ leftBytes walk ns f s (i + 1) (p + r.first) (q + r.second)) at part
+    next : Filling (left_bytes walk ns f s 0 0 0) part₀
+        (entry_bytes i w r.change ++ left_bytes walk ns f s (i + 1) (p + r.first) (q + r.second)) at part
     next = along z.fill (bytes_next walk ns f s i p q h e t)
 
     -- the entry has room
-    put-room : at + n ≤ length part₀
-    put-room = omega (arith, length-entry i w r.change, simp length-append at (has_room next))
+    put_room : at + n ≤ length part₀
+    put_room = omega (arith, length_entry i w r.change, simp length-append at (has_room next))
 
-    pub put-fits : length part₀ < 2 ^ 64 → at + n < 2 ^ 64
-    put-fits k = omega (arith, put-room)
+    pub put_fits : length part₀ < 2 ^ 64 → at + n < 2 ^ 64
+    put_fits k = omega (arith, put_room)
 
-    pub put-inside : at + n ≤ length part
-    put-inside = omega (arith, put-room, put_keeps)
+    pub put_inside : at + n ≤ length part
+    put_inside = omega (arith, put_room, put_keeps)
 
-    pub put-long : length (mid_of at (at + n - at) part) ≡ span w r.change
-    put-long = mid_len at (at + n) part put-inside ∙ omega arith
+    pub put_long : length (mid_of at (at + n - at) part) ≡ span w r.change
+    put_long = mid_len at (at + n) part put_inside ∙ omega arith
 
-    pub one-put : {ys : List ℕ} → ys ≡ entryBytes i w r.change → {j : ℕ}
+    pub one_put : {ys : List ℕ} → ys ≡ entry_bytes i w r.change → {j : ℕ}
         → AllIdle walk (i + 1) j (length ns) (drop (p + r.first) f) (drop (q + r.second) s)
         → Putting walk ns f s part₀ (put_mid at (at + n - at) part ys) (at + n) (p + r.first) (q + r.second) j
-    one-put q d = record {
+    one_put q d = record {
       inside = d.within;
       near = t.near;
       far = t.far;
       fill =
-          along (write next q (at + n) (ap (λ (m : ℕ). at + m) (length-entry i w r.change ∙ sym en)))
+          along (write next q (at + n) (ap (λ (m : ℕ). at + m) (length_entry i w r.change ∙ sym en)))
           (bytes_run walk ns f s t.near t.far d (omega arith));
     }
 
-  pub all-put : length ns ≤ i → part ≡ walkBytes walk 0 (kindsOf ns) f s
-  all-put h = ended (along z.fill (bytes-end walk ns f s i p q h))
+  pub all_put : length ns ≤ i → part ≡ walk_bytes walk 0 (kinds_of ns) f s
+  all_put h = ended (along z.fill (bytes_end walk ns f s i p q h))

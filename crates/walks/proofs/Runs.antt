@@ -12,9 +12,9 @@ use Rattle.kinds.specs.Kinds.{width_of}
 use Rattle.history.specs.declared.Change.TheVariants.{Keep as keep}
 use Rattle.history.specs.Table.{kind_at}
 use Rattle.history.specs.Image.{widths}
-use Rattle.tables.specs.Outlines.{kindsOf}
-use Rattle.steps.specs.Steps.{changeAt, Silent}
-use Rattle.forms.proofs.KindLaws.{kind-is}
+use Rattle.tables.specs.Outlines.{kinds_of}
+use Rattle.steps.specs.Steps.{change_at, Silent}
+use Rattle.forms.proofs.KindLaws.{kind_is_lem}
 
 -- ---- where the cursors stay
 
@@ -32,38 +32,38 @@ run g {i} {j} h step =
 
 -- ---- where a place moves by the objects' widths
 
-widths-first : (ns : List ℕ) (i d : ℕ) → i < length ns
-    → widths (kindsOf (take (suc d) (drop i ns)))
-    ≡ width_of (kind_at (kindsOf ns) i) + widths (kindsOf (take d (drop (i + 1) ns)))
-unfolding kindsOf
-widths-first ns i d h = rw (drop-cons ns i 0 h, add-one i, ← kind-is ns i)
+widths_first : (ns : List ℕ) (i d : ℕ) → i < length ns
+    → widths (kinds_of (take (suc d) (drop i ns)))
+    ≡ width_of (kind_at (kinds_of ns) i) + widths (kinds_of (take d (drop (i + 1) ns)))
+unfolding kinds_of
+widths_first ns i d h = rw (drop-cons ns i 0 h, add-one i, ← kind_is_lem ns i)
 
-pass-by : (ns : List ℕ) (g : ℕ → ℕ → Type 0) (d i a : ℕ) → i + d ≤ length ns
-    → ((k b : ℕ) → i ≤ k → k < i + d → g k b → g (k + 1) (b + width_of (kind_at (kindsOf ns) k)))
-    → g i a → g (i + d) (a + widths (kindsOf (take d (drop i ns))))
-unfolding kindsOf
-pass-by ns g zero i a h step z = rw (add-zero i, add-zero a) z
-pass-by ns g (suc d) i a h step z =
-    let w : ℕ = width_of (kind_at (kindsOf ns) i) in
+pass_by : (ns : List ℕ) (g : ℕ → ℕ → Type 0) (d i a : ℕ) → i + d ≤ length ns
+    → ((k b : ℕ) → i ≤ k → k < i + d → g k b → g (k + 1) (b + width_of (kind_at (kinds_of ns) k)))
+    → g i a → g (i + d) (a + widths (kinds_of (take d (drop i ns))))
+unfolding kinds_of
+pass_by ns g zero i a h step z = rw (add-zero i, add-zero a) z
+pass_by ns g (suc d) i a h step z =
+    let w : ℕ = width_of (kind_at (kinds_of ns) i) in
     let e : i + 1 + d ≡ i + suc d = omega arith in
-    let l : a + w + widths (kindsOf (take d (drop (i + 1) ns))) ≡ a + widths (kindsOf (take (suc d) (drop i ns))) =
-    omega (arith, widths-first ns i d (omega arith)) in
+    let l : a + w + widths (kinds_of (take d (drop (i + 1) ns))) ≡ a + widths (kinds_of (take (suc d) (drop i ns))) =
+    omega (arith, widths_first ns i d (omega arith)) in
     rw (e, l) at
-    (pass-by ns g d (i + 1) (a + w) (omega arith) (λ k b x y. step k b (omega arith) (omega arith))
+    (pass_by ns g d (i + 1) (a + w) (omega arith) (λ k b x y. step k b (omega arith) (omega arith))
     (step i a (omega arith) (omega arith) z))
 
 -- past all objects of which the entries e say nothing
 pub pass : (ns : List ℕ) {e : List ℕ} (g : ℕ → ℕ → Type 0) {i j a m : ℕ} → Silent i j (length ns) e
-    → m ≡ widths (kindsOf (take (j - i) (drop i ns)))
-    → ((k b : ℕ) → k < length ns → changeAt k (width_of (kind_at (kindsOf ns) k)) e ≡ keep → g k b
-    → g (k + 1) (b + width_of (kind_at (kindsOf ns) k)))
+    → m ≡ widths (kinds_of (take (j - i) (drop i ns)))
+    → ((k b : ℕ) → k < length ns → change_at k (width_of (kind_at (kinds_of ns) k)) e ≡ keep → g k b
+    → g (k + 1) (b + width_of (kind_at (kinds_of ns) k)))
     → g i a → g j (a + m)
 pass ns g {i} {j} {a} {m} d q step z =
     let l : i + (j - i) ≡ j = omega (arith, d.on) in
     rw (l, ← q)
-    at (pass-by ns g (j - i) i a (omega (arith, d.on, d.within))
+    at (pass_by ns g (j - i) i a (omega (arith, d.on, d.within))
     (λ k b x y. step k b (omega (arith, d.on, d.within)) (d.says k _ x (omega (arith, d.on)))) z)
 
 -- a part of at most 1,024 layout numbers has at most 1,024
-pub few-part : (ns : List ℕ) (i m : ℕ) → length ns ≤ 1024 → length (take m (drop i ns)) ≤ 1024
-few-part ns i m h = simp (length-take, length-drop) (omega arith)
+pub few_part : (ns : List ℕ) (i m : ℕ) → length ns ≤ 1024 → length (take m (drop i ns)) ≤ 1024
+few_part ns i m h = simp (length-take, length-drop) (omega arith)

@@ -6,11 +6,11 @@ use Rattle.octets.specs.Octets.{number}
 use Rattle.kinds.specs.Kinds.{width_of}
 use Rattle.kinds.specs.declared.Kind.{Kind}
 use Rattle.history.specs.declared.Change.{Change}
-use Rattle.history.specs.Changes.{entriesBytes, entries, fits}
+use Rattle.history.specs.Changes.{entries_bytes, entries, fits}
 use Rattle.history.specs.Image.{widths}
-use Rattle.tables.specs.Outlines.{kindsOf}
+use Rattle.tables.specs.Outlines.{kinds_of}
 use Rattle.steps.specs.declared.Walk.{Walk}
-use Rattle.steps.specs.Steps.{span, changeAt, step_of, renewed}
+use Rattle.steps.specs.Steps.{span, change_at, step_of, renewed}
 use Rattle.walks.specs.declared.Survey.{Survey}
 
 -- the changes of the objects from i on, and their entries
@@ -21,13 +21,13 @@ walked walk i (k ∷ ks) f s =
     ∷ walked walk (suc i) ks (drop (step_of walk i (width_of k) f s).first f)
     (drop (step_of walk i (width_of k) f s).second s)
 
-abbrev pub walkBytes : Walk → ℕ → List Kind → List ℕ → List ℕ → List ℕ
-walkBytes walk i ks f s = entriesBytes i ks (walked walk i ks f s)
+abbrev pub walk_bytes : Walk → ℕ → List Kind → List ℕ → List ℕ → List ℕ
+walk_bytes walk i ks f s = entries_bytes i ks (walked walk i ks f s)
 
 -- f and s are as long as the objects' elements together, as those of an image are
 pub record ElementsLong (ns f s : List ℕ) : Type 0 where
-  pub first : length f ≡ widths (kindsOf ns)
-  pub second : length s ≡ widths (kindsOf ns)
+  pub first : length f ≡ widths (kinds_of ns)
+  pub second : length s ≡ widths (kinds_of ns)
 
 -- what a walk asks of the two forms
 abbrev pub Asked : Walk → List ℕ → List ℕ → List ℕ → Type 0
@@ -38,7 +38,7 @@ Asked Walk.Turn ns f s = Unit {0}
 -- the count of a walk's entries, and the bytes that they take
 pub record Measured (walk : Walk) (ks : List Kind) (f s : List ℕ) (count size : ℕ) : Type 0 where
   pub entries : count ≡ entries (walked walk 0 ks f s)
-  pub bytes : size ≡ length (walkBytes walk 0 ks f s)
+  pub bytes : size ≡ length (walk_bytes walk 0 ks f s)
   pub few : count ≤ 1024
   pub short : size ≤ 10240
 
@@ -53,9 +53,9 @@ misfit walk i (k ∷ ks) f s =
 
 -- what is found of a join: that object; and the size, if there is none
 pub record Surveyed (ns f s : List ℕ) (r : Survey) : Type 0 where
-  pub found : r.misfit ≡ misfit Walk.Join 0 (kindsOf ns) f s
+  pub found : r.misfit ≡ misfit Walk.Join 0 (kinds_of ns) f s
   pub inside : r.misfit ≤ length ns
-  pub measured : length ns ≤ r.misfit → Measured Walk.Join (kindsOf ns) f s r.size.count r.size.bytes
+  pub measured : length ns ≤ r.misfit → Measured Walk.Join (kinds_of ns) f s r.size.count r.size.bytes
 
 -- ---- the elements b under the entries e
 
@@ -63,13 +63,13 @@ pub record Surveyed (ns f s : List ℕ) (r : Survey) : Type 0 where
 unfoldable pub unfit : ℕ → List Kind → List ℕ → List ℕ → ℕ
 unfit i [] e b = i
 unfit i (k ∷ ks) e b =
-    cond (fits (changeAt i (width_of k) e) (number (take (width_of k) b)))
-    (unfit (suc i) ks (drop (span (width_of k) (changeAt i (width_of k) e)) e) (drop (width_of k) b))
+    cond (fits (change_at i (width_of k) e) (number (take (width_of k) b)))
+    (unfit (suc i) ks (drop (span (width_of k) (change_at i (width_of k) e)) e) (drop (width_of k) b))
     i
 
 -- the elements after the entries
 unfoldable pub renewal : ℕ → List Kind → List ℕ → List ℕ → List ℕ
 renewal i [] e b = []
 renewal i (k ∷ ks) e b =
-    renewed (changeAt i (width_of k) e) (take (width_of k) b)
-    ++ renewal (suc i) ks (drop (span (width_of k) (changeAt i (width_of k) e)) e) (drop (width_of k) b)
+    renewed (change_at i (width_of k) e) (take (width_of k) b)
+    ++ renewal (suc i) ks (drop (span (width_of k) (change_at i (width_of k) e)) e) (drop (width_of k) b)

@@ -4,8 +4,8 @@
 // head; the caller has checked the forms.
 ghost use Rattle.std.specs.Prelude.{◌≡◌, ◌≤◌, [], length};
 ghost use Rattle.history.specs.Image.{widths};
-ghost use Rattle.tables.specs.Outlines.{kindsOf};
-ghost use Rattle.walks.specs.Walks.{walkBytes, ElementsLong, Asked, Measured, Surveyed, unfit, renewal};
+ghost use Rattle.tables.specs.Outlines.{kinds_of};
+ghost use Rattle.walks.specs.Walks.{walk_bytes, ElementsLong, Asked, Measured, Surveyed, unfit, renewal};
 
 use steps::Walk;
 
@@ -30,7 +30,7 @@ pub struct Survey {
 pub fn measure_difference(kinds: &[u8], old: &[u8], new: &[u8]) -> Size
     requires kinds_len_bound { length kinds.now ≤ 1024 }
     requires elements_long { ElementsLong kinds.now old.now new.now }
-    ensures { Measured Walk.Difference (kindsOf kinds.now) old.now new.now result.count
+    ensures { Measured Walk.Difference (kinds_of kinds.now) old.now new.now result.count
         result.bytes }
 {
     let mut count: usize = 0;
@@ -89,9 +89,9 @@ pub fn measure_join(kinds: &[u8], first: &[u8], second: &[u8]) -> Survey
 pub fn put_changes(part: &mut [u8], walk: Walk, kinds: &[u8], first: &[u8], second: &[u8])
     requires kinds_len_bound { length kinds.now ≤ 1024 }
     requires asked { Asked walk kinds.now first.now second.now }
-    requires part_len { length part.old ≡ length (walkBytes walk 0 (kindsOf kinds.now) first.now second.now) }
+    requires part_len { length part.old ≡ length (walk_bytes walk 0 (kinds_of kinds.now) first.now second.now) }
     ensures { part.new
-        ≡ walkBytes walk 0 (kindsOf kinds.now) first.now second.now }
+        ≡ walk_bytes walk 0 (kinds_of kinds.now) first.now second.now }
 {
     match walk {
         Walk::Difference => put_difference(part, kinds, first, second),
@@ -104,9 +104,9 @@ pub fn put_changes(part: &mut [u8], walk: Walk, kinds: &[u8], first: &[u8], seco
 fn put_difference(part: &mut [u8], kinds: &[u8], old: &[u8], new: &[u8])
     requires kinds_len_bound { length kinds.now ≤ 1024 }
     requires elements_long { ElementsLong kinds.now old.now new.now }
-    requires part_len { length part.old ≡ length (walkBytes Walk.Difference 0 (kindsOf kinds.now) old.now new.now) }
+    requires part_len { length part.old ≡ length (walk_bytes Walk.Difference 0 (kinds_of kinds.now) old.now new.now) }
     ensures { part.new
-        ≡ walkBytes Walk.Difference 0 (kindsOf kinds.now) old.now new.now }
+        ≡ walk_bytes Walk.Difference 0 (kinds_of kinds.now) old.now new.now }
 {
     let mut at: usize = 0;
     let mut place: usize = 0;
@@ -127,9 +127,9 @@ fn put_difference(part: &mut [u8], kinds: &[u8], old: &[u8], new: &[u8])
 // The entries of the join of two lists.
 fn put_joined(part: &mut [u8], kinds: &[u8], first: &[u8], second: &[u8])
     requires kinds_len_bound { length kinds.now ≤ 1024 }
-    requires part_len { length part.old ≡ length (walkBytes Walk.Join 0 (kindsOf kinds.now) first.now second.now) }
+    requires part_len { length part.old ≡ length (walk_bytes Walk.Join 0 (kinds_of kinds.now) first.now second.now) }
     ensures { part.new
-        ≡ walkBytes Walk.Join 0 (kindsOf kinds.now) first.now second.now }
+        ≡ walk_bytes Walk.Join 0 (kinds_of kinds.now) first.now second.now }
 {
     let mut at: usize = 0;
     let mut near: usize = 0;
@@ -152,8 +152,8 @@ fn put_joined(part: &mut [u8], kinds: &[u8], first: &[u8], second: &[u8])
 // The entries of the list turned back; there is no second form.
 fn put_turned(part: &mut [u8], kinds: &[u8], entries: &[u8])
     requires kinds_len_bound { length kinds.now ≤ 1024 }
-    requires part_len { length part.old ≡ length (walkBytes Walk.Turn 0 (kindsOf kinds.now) entries.now []) }
-    ensures { part.new ≡ walkBytes Walk.Turn 0 (kindsOf kinds.now) entries.now [] }
+    requires part_len { length part.old ≡ length (walk_bytes Walk.Turn 0 (kinds_of kinds.now) entries.now []) }
+    ensures { part.new ≡ walk_bytes Walk.Turn 0 (kinds_of kinds.now) entries.now [] }
 {
     let mut at: usize = 0;
     let mut entry_at: usize = 0;
@@ -175,8 +175,8 @@ fn put_turned(part: &mut [u8], kinds: &[u8], entries: &[u8])
 // The lowest object whose element is not its entry's old one, or the count of objects.
 pub fn find_unfit(kinds: &[u8], entries: &[u8], elements: &[u8]) -> usize
     requires kinds_len_bound { length kinds.now ≤ 1024 }
-    requires elements_len { length elements.now ≡ widths (kindsOf kinds.now) }
-    ensures { (result ≡ unfit 0 (kindsOf kinds.now) entries.now elements.now)
+    requires elements_len { length elements.now ≡ widths (kinds_of kinds.now) }
+    ensures { (result ≡ unfit 0 (kinds_of kinds.now) entries.now elements.now)
         × (result ≤ length kinds.now) }
 {
     let mut at: usize = 0;
@@ -200,8 +200,8 @@ pub fn find_unfit(kinds: &[u8], entries: &[u8], elements: &[u8]) -> usize
 // Writes each entry's new element over the object's, in place.
 pub fn renew(part: &mut [u8], kinds: &[u8], entries: &[u8])
     requires kinds_len_bound { length kinds.now ≤ 1024 }
-    requires part_len { length part.old ≡ widths (kindsOf kinds.now) }
-    ensures { part.new ≡ renewal 0 (kindsOf kinds.now) entries.now part.old }
+    requires part_len { length part.old ≡ widths (kinds_of kinds.now) }
+    ensures { part.new ≡ renewal 0 (kinds_of kinds.now) entries.now part.old }
 {
     let mut at: usize = 0;
     let mut entry_at: usize = 0;

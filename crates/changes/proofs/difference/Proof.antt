@@ -2,25 +2,25 @@
 -- under an accepted one the other forms decide.
 -- Assumes nothing.
 use borrow.Author.Rules.{rules}
-use Rattle.history.proofs.OutputLaws.{leaves-as}
-use Rattle.forms.proofs.UnderPlan.{table-leaves, kinds-inside, few-kinds}
-use Rattle.changes.proofs.Calls.{difference-starts, difference-goes}
+use Rattle.history.proofs.OutputLaws.{leaves_as}
+use Rattle.forms.proofs.UnderPlan.{table_leaves, kinds_inside, few_kinds}
+use Rattle.changes.proofs.Calls.{difference_starts, difference_goes}
 use Rattle.changes.proofs.difference.Statement.{statement}
 use Rattle.changes.proofs.difference.Tie as tie
 
 returns : tie.Need-returns
-returns c = table-leaves c.before.before.before.outline.ensures c.if1.true (difference-starts _ _ _) _
+returns c = table_leaves c.before.before.before.outline.ensures c.if1.true (difference_starts _ _ _) _
 
 returns-2 : tie.Need-returns-2
-returns-2 c = leaves-as _ (search difference-goes) c.before.before.difference-under.ensures
+returns-2 c = leaves_as _ (search difference_goes) c.before.before.difference_under_lem.ensures
 
-pub difference-spec : {M : Type 1} → statement M
-difference-spec =
+pub difference_spec : {M : Type 1} → statement M
+difference_spec =
     tie.close
     (tie.spec
     (λ c κs. search rules)
     returns
-    (λ c κs. search kinds-inside)
-    (λ c κs. search few-kinds)
+    (λ c κs. search kinds_inside)
+    (λ c κs. search few_kinds)
     (λ c. search rules)
     returns-2)

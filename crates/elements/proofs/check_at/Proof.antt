@@ -13,6 +13,6 @@ returns c = search (number_at, shown, not-true)
 returns-2 : tie.Need-returns-2
 returns-2 c = search number_at
 
-pub check-at-spec : {M : Type 1} → statement M
-check-at-spec =
+pub check_at_spec : {M : Type 1} → statement M
+check_at_spec =
     tie.close (tie.spec (λ c κs. search rules) (λ c κs. search rules) returns (λ c κs. search rules) returns-2)

@@ -9,7 +9,7 @@ use Rattle.elements.proofs.check_element.Tie as tie
 returns : tie.Need-returns
 returns c = search (shown, not-true)
 
-pub check-element-spec : {M : Type 1} → statement M
-check-element-spec =
+pub check_element_spec : {M : Type 1} → statement M
+check_element_spec =
     tie.close (tie.spec (λ c κs. search rules) (λ c κs. search rules) returns (λ c κs. search rules)
     (λ c. search rules))

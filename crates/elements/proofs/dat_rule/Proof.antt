@@ -11,5 +11,5 @@ returns c = rw c.if1.true at (sym c.before.is-stale.ensures)
 returns-2 : tie.Need-returns-2
 returns-2 c = rw c.if1.false at (sym c.before.is-stale.ensures)
 
-pub dat-rule-spec : {M : Type 1} → statement M
-dat-rule-spec = tie.close (tie.spec (λ c κs. search rules) returns returns-2)
+pub dat_rule_spec : {M : Type 1} → statement M
+dat_rule_spec = tie.close (tie.spec (λ c κs. search rules) returns returns-2)

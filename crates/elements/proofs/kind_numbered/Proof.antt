@@ -2,18 +2,18 @@
 -- Assumes nothing.
 use mathlib.Core.Path.{◌∙◌, sym, ap}
 use borrow.Author.Rules.{rules}
-use Rattle.elements.specs.Elements.{carriedKind, kindNumbered}
+use Rattle.elements.specs.Elements.{carried_kind, kind_numbered}
 use Rattle.elements.proofs.kind_numbered.Statement.{statement}
 use Rattle.elements.proofs.kind_numbered.Tie as tie
 
 returns : tie.Need-returns
-unfolding kindNumbered
-returns c = ap carriedKind (sym c.enum_told.given.1 ∙ c.before.before.find-by-number.ensures)
+unfolding kind_numbered
+returns c = ap carried_kind (sym c.enum_told.given.1 ∙ c.before.before.find-by-number.ensures)
 
 returns-2 : tie.Need-returns-2
-unfolding kindNumbered
-returns-2 c = ap carriedKind (sym c.before.found.given.1 ∙ c.before.before.before.find-by-number.ensures)
+unfolding kind_numbered
+returns-2 c = ap carried_kind (sym c.before.found.given.1 ∙ c.before.before.before.find-by-number.ensures)
 
-pub kind-numbered-spec : {M : Type 1} → statement M
-kind-numbered-spec =
+pub kind_numbered_spec : {M : Type 1} → statement M
+kind_numbered_spec =
     tie.close (tie.spec (λ c κs. search rules) (λ c. search rules) (λ c. search rules) returns returns-2)

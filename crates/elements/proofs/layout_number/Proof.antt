@@ -9,5 +9,5 @@ use Rattle.elements.proofs.layout_number.Tie as tie
 returns : tie.Need-returns
 returns c = ap (λ (l : Layout). l.number) c.layout.ensures
 
-pub layout-number-spec : {M : Type 1} → statement M
-layout-number-spec = tie.close (tie.spec (λ c κs. search rules) returns)
+pub layout_number_spec : {M : Type 1} → statement M
+layout_number_spec = tie.close (tie.spec (λ c κs. search rules) returns)

@@ -9,5 +9,5 @@ use Rattle.elements.proofs.same_kind.Tie as tie
 returns : tie.Need-returns
 returns c = ap₂ eqb c.before.layout-number.ensures c.layout-number2.ensures
 
-pub same-kind-spec : {M : Type 1} → statement M
-same-kind-spec = tie.close (tie.spec (λ c κs. search rules) (λ c κs. search rules) returns)
+pub same_kind_spec : {M : Type 1} → statement M
+same_kind_spec = tie.close (tie.spec (λ c κs. search rules) (λ c κs. search rules) returns)

@@ -14,7 +14,7 @@ compose-rows-requires c κs =
 returns : tie.Need-returns
 returns c = c.compose-rows.ensures ∙ search whole
 
-pub word-of-spec : {M : Type 1} → statement M
-word-of-spec =
+pub word_of_spec : {M : Type 1} → statement M
+word_of_spec =
     tie.close (tie.spec (λ c κs. search rules) (λ c κs. search rules) (λ c κs. search rules)
     compose-rows-requires returns)

@@ -3,16 +3,16 @@
 use mathlib.Core.Path.{◌∙◌, ap}
 use borrow.Author.Rules.{rules}
 use Rattle.rows.specs.declared.Layout.{Layout}
-use Rattle.rows.specs.Covering.{layoutRows}
+use Rattle.rows.specs.Covering.{layout_rows}
 use Rattle.elements.proofs.Answers.{in_rows}
-use Rattle.fields.specs.PlainFields.{checkNamed}
+use Rattle.fields.specs.PlainFields.{check_named}
 use Rattle.fields.proofs.check_values.Statement.{statement}
 use Rattle.fields.proofs.check_values.Tie as tie
 
 returns : tie.Need-returns
 returns c =
     c.check-named.ensures
-    ∙ ap (λ (l : Layout). checkNamed (layoutRows l) c.before.before.args.values) c.before.layout.ensures
+    ∙ ap (λ (l : Layout). check_named (layout_rows l) c.before.before.args.values) c.before.layout.ensures
 
-pub check-values-spec : {M : Type 1} → statement M
-check-values-spec = tie.close (tie.spec (λ c κs. search rules) (λ c κs. search in_rows) returns)
+pub check_values_spec : {M : Type 1} → statement M
+check_values_spec = tie.close (tie.spec (λ c κs. search rules) (λ c κs. search in_rows) returns)

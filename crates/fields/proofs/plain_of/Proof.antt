@@ -14,5 +14,5 @@ returns-2 : tie.Need-returns-2
 unfolding plain_of
 returns-2 c = sym (ap plain_of c.before.reading2.given.1)
 
-pub plain-of-spec : {M : Type 1} → statement M
-plain-of-spec = tie.close (tie.spec (λ c. search rules) (λ c κs. search rules) (λ c. search rules) returns returns-2)
+pub plain_of_spec : {M : Type 1} → statement M
+plain_of_spec = tie.close (tie.spec (λ c. search rules) (λ c κs. search rules) (λ c. search rules) returns returns-2)

@@ -9,5 +9,5 @@ use Rattle.fields.proofs.read_fields.Tie as tie
 returns : tie.Need-returns
 returns c = c.plain_of_lem.ensures ∙ ap plain_of c.before.read-state.ensures
 
-pub read-fields-spec : {M : Type 1} → statement M
-read-fields-spec = tie.close (tie.spec (λ c κs. search rules) (λ c κs. search rules) returns)
+pub read_fields_spec : {M : Type 1} → statement M
+read_fields_spec = tie.close (tie.spec (λ c κs. search rules) (λ c κs. search rules) returns)

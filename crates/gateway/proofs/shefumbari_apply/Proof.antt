@@ -8,5 +8,5 @@ use Rattle.gateway.proofs.shefumbari_apply.Tie as tie
 returns : tie.Need-returns
 returns c = wrote _ _ c.answer-slots.ensures c.before.before.before.apply.ensures
 
-pub shefumbari-apply-spec : {M : Type 1} → statement M
-shefumbari-apply-spec = tie.close (tie.spec (λ c κs. search rules) (λ c κs. search rules) (λ c. search rules) returns)
+pub shefumbari_apply_spec : {M : Type 1} → statement M
+shefumbari_apply_spec = tie.close (tie.spec (λ c κs. search rules) (λ c κs. search rules) (λ c. search rules) returns)

@@ -8,5 +8,5 @@ use Rattle.gateway.proofs.shefumbari_check_element.Tie as tie
 returns : tie.Need-returns
 returns c = answered c.answer-slots.ensures c.before.check-element-alone.ensures
 
-pub shefumbari-check-element-spec : {M : Type 1} → statement M
-shefumbari-check-element-spec = tie.close (tie.spec (λ c κs. search rules) (λ c κs. search rules) returns)
+pub shefumbari_check_element_spec : {M : Type 1} → statement M
+shefumbari_check_element_spec = tie.close (tie.spec (λ c κs. search rules) (λ c κs. search rules) returns)

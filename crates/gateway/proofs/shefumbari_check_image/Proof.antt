@@ -8,5 +8,5 @@ use Rattle.gateway.proofs.shefumbari_check_image.Tie as tie
 returns : tie.Need-returns
 returns c = answered c.answer-slots.ensures c.before.check-image.ensures
 
-pub shefumbari-check-image-spec : {M : Type 1} → statement M
-shefumbari-check-image-spec = tie.close (tie.spec (λ c κs. search rules) (λ c κs. search rules) returns)
+pub shefumbari_check_image_spec : {M : Type 1} → statement M
+shefumbari_check_image_spec = tie.close (tie.spec (λ c κs. search rules) (λ c κs. search rules) returns)

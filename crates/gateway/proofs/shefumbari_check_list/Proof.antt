@@ -8,5 +8,5 @@ use Rattle.gateway.proofs.shefumbari_check_list.Tie as tie
 returns : tie.Need-returns
 returns c = answered c.answer-slots.ensures c.before.check-list.ensures
 
-pub shefumbari-check-list-spec : {M : Type 1} → statement M
-shefumbari-check-list-spec = tie.close (tie.spec (λ c κs. search rules) (λ c κs. search rules) returns)
+pub shefumbari_check_list_spec : {M : Type 1} → statement M
+shefumbari_check_list_spec = tie.close (tie.spec (λ c κs. search rules) (λ c κs. search rules) returns)

@@ -8,5 +8,5 @@ use Rattle.gateway.proofs.shefumbari_check_table.Tie as tie
 returns : tie.Need-returns
 returns c = answered c.answer-slots.ensures c.before.check-table.ensures
 
-pub shefumbari-check-table-spec : {M : Type 1} → statement M
-shefumbari-check-table-spec = tie.close (tie.spec (λ c κs. search rules) (λ c κs. search rules) returns)
+pub shefumbari_check_table_spec : {M : Type 1} → statement M
+shefumbari_check_table_spec = tie.close (tie.spec (λ c κs. search rules) (λ c κs. search rules) returns)

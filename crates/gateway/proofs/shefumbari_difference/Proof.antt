@@ -8,6 +8,6 @@ use Rattle.gateway.proofs.shefumbari_difference.Tie as tie
 returns : tie.Need-returns
 returns c = wrote _ _ c.answer-slots.ensures c.before.before.before.difference.ensures
 
-pub shefumbari-difference-spec : {M : Type 1} → statement M
-shefumbari-difference-spec =
+pub shefumbari_difference_spec : {M : Type 1} → statement M
+shefumbari_difference_spec =
     tie.close (tie.spec (λ c κs. search rules) (λ c κs. search rules) (λ c. search rules) returns)

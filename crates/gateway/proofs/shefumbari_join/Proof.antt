@@ -8,5 +8,5 @@ use Rattle.gateway.proofs.shefumbari_join.Tie as tie
 returns : tie.Need-returns
 returns c = wrote _ _ c.answer-slots.ensures c.before.before.before.join.ensures
 
-pub shefumbari-join-spec : {M : Type 1} → statement M
-shefumbari-join-spec = tie.close (tie.spec (λ c κs. search rules) (λ c κs. search rules) (λ c. search rules) returns)
+pub shefumbari_join_spec : {M : Type 1} → statement M
+shefumbari_join_spec = tie.close (tie.spec (λ c κs. search rules) (λ c κs. search rules) (λ c. search rules) returns)

@@ -7,5 +7,5 @@ use Rattle.gateway.proofs.shefumbari_label.Tie as tie
 returns : tie.Need-returns
 returns c = c.label-slots.ensures
 
-pub shefumbari-label-spec : {M : Type 1} → statement M
-shefumbari-label-spec = tie.close (tie.spec (λ c κs. search rules) returns)
+pub shefumbari_label_spec : {M : Type 1} → statement M
+shefumbari_label_spec = tie.close (tie.spec (λ c κs. search rules) returns)

@@ -8,5 +8,5 @@ use Rattle.gateway.proofs.shefumbari_listing.Tie as tie
 returns : tie.Need-returns
 returns c = wrote _ _ c.answer-slots.ensures c.before.before.before.list-into.ensures
 
-pub shefumbari-listing-spec : {M : Type 1} → statement M
-shefumbari-listing-spec = tie.close (tie.spec (λ c κs. search rules) (λ c κs. search rules) (λ c. search rules) returns)
+pub shefumbari_listing_spec : {M : Type 1} → statement M
+shefumbari_listing_spec = tie.close (tie.spec (λ c κs. search rules) (λ c κs. search rules) (λ c. search rules) returns)

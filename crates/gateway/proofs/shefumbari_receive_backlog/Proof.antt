@@ -2,7 +2,7 @@
 -- a backlog by value.
 -- Assumes nothing.
 use borrow.Author.Rules.{rules}
-use Rattle.gateway.proofs.CallLaws.{backlog-answer, backlog-output, backlog-tallies}
+use Rattle.gateway.proofs.CallLaws.{backlog_answer, backlog_output_lem, backlog_tallies}
 use Rattle.gateway.proofs.shefumbari_receive_backlog.Statement.{statement}
 use Rattle.gateway.proofs.shefumbari_receive_backlog.Tie as tie
 
@@ -12,14 +12,14 @@ returns c =
     let r = taken.backlog-received.ensures in
     let s = taken.before.standing-in.ensures in
     let tallies = taken.before.before.before.before.before.before.before.before.args.standing.now in (
-      backlog-answer _ _ _ _ _ r.0 tallies s c.progress-slots.ensures,
+      backlog_answer _ _ _ _ _ r.0 tallies s c.progress-slots.ensures,
       (
-        backlog-output _ _ _ _ _ r.0 tallies s r.1,
-        backlog-tallies _ _ _ _ _ r.0 tallies s c.before.tallies-of.ensures,
+        backlog_output_lem _ _ _ _ _ r.0 tallies s r.1,
+        backlog_tallies _ _ _ _ _ r.0 tallies s c.before.tallies-of.ensures,
       ),
     )
 
-pub shefumbari-receive-backlog-spec : {M : Type 1} → statement M
-shefumbari-receive-backlog-spec =
+pub shefumbari_receive_backlog_spec : {M : Type 1} → statement M
+shefumbari_receive_backlog_spec =
     tie.close (tie.spec (λ c κs. search rules) (λ c κs. search rules) (λ c κs. search rules) (λ c κs. search rules)
     (λ c. search rules) returns)

@@ -8,6 +8,6 @@ use Rattle.gateway.proofs.shefumbari_turn_back.Tie as tie
 returns : tie.Need-returns
 returns c = wrote _ _ c.answer-slots.ensures c.before.before.before.turn-back.ensures
 
-pub shefumbari-turn-back-spec : {M : Type 1} → statement M
-shefumbari-turn-back-spec =
+pub shefumbari_turn_back_spec : {M : Type 1} → statement M
+shefumbari_turn_back_spec =
     tie.close (tie.spec (λ c κs. search rules) (λ c κs. search rules) (λ c. search rules) returns)

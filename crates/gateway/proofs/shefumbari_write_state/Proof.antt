@@ -8,6 +8,6 @@ use Rattle.gateway.proofs.shefumbari_write_state.Tie as tie
 returns : tie.Need-returns
 returns c = wrote _ _ c.answer-slots.ensures c.before.before.before.write-fields.ensures
 
-pub shefumbari-write-state-spec : {M : Type 1} → statement M
-shefumbari-write-state-spec =
+pub shefumbari_write_state_spec : {M : Type 1} → statement M
+shefumbari_write_state_spec =
     tie.close (tie.spec (λ c κs. search rules) (λ c κs. search rules) (λ c. search rules) returns)

@@ -7,9 +7,9 @@ use Rattle.kinds.specs.Kinds.{width_of}
 use Rattle.kinds.proofs.glance_at.Statement.{statement}
 use Rattle.kinds.proofs.glance_at.Tie as tie
 
-pub glance-at-spec : {M : Type 1} → statement M
+pub glance_at_spec : {M : Type 1} → statement M
 unfolding layouts
-glance-at-spec =
+glance_at_spec =
     tie.close (tie.spec (λ c. c.match.keys1)
     (λ c κs. (sym (ap width_of c.enum_told.given.1), lit≤ tt, c.before.before.before.requires))
     (λ c. c.glance-by.ensures) (λ c. c.match.keys2)

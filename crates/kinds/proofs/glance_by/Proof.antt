@@ -19,5 +19,5 @@ returns c =
       shown = c.shows-listed.ensures;
     }
 
-pub glance-by-spec : {M : Type 1} → statement M
-glance-by-spec = tie.close (tie.spec (λ c κs. (omega arith, omega arith)) (λ c κs. tt) returns)
+pub glance_by_spec : {M : Type 1} → statement M
+glance_by_spec = tie.close (tie.spec (λ c κs. (omega arith, omega arith)) (λ c κs. tt) returns)

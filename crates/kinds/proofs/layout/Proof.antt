@@ -6,9 +6,9 @@ use Rattle.kinds.specs.Kinds.{layout_of}
 use Rattle.kinds.proofs.layout.Statement.{statement}
 use Rattle.kinds.proofs.layout.Tie as tie
 
-pub layout-spec : {M : Type 1} → statement M
+pub layout_spec : {M : Type 1} → statement M
 unfolding layouts
-layout-spec =
+layout_spec =
     tie.close (tie.spec (λ c. c.match.keys1) (λ c. sym (ap layout_of c.enum_told.given.1)) (λ c. c.match.keys2)
     (λ c. sym (ap layout_of c.enum-told2.given.1)) (λ c. c.match.keys3)
     (λ c. sym (ap layout_of c.enum-told3.given.1)) (λ c. c.match.keys4)

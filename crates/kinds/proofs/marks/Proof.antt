@@ -13,9 +13,9 @@ use Rattle.kinds.proofs.marks.Tie as tie
 fits : (add carry : ℕ) {k j : Kind} → k ≡ j → T (marked add carry (rows_of j)) → T (marked add carry (rows_of k))
 fits add carry e t = subst⁻¹ (λ (k : Kind). T (marked add carry (rows_of k))) e t
 
-pub marks-spec : {M : Type 1} → statement M
+pub marks_spec : {M : Type 1} → statement M
 unfolding cells layouts
-marks-spec =
+marks_spec =
     tie.close (tie.spec (λ c. c.match.keys1) (λ c. fits _ _ c.enum_told.given.1 tt) (λ c. c.match.keys2)
     (λ c. fits _ _ c.enum-told2.given.1 tt) (λ c. c.match.keys3) (λ c. fits _ _ c.enum-told3.given.1 tt)
     (λ c. c.match.keys4) (λ c. fits _ _ c.enum-told4.given.1 tt) (λ c. c.match.keys5)

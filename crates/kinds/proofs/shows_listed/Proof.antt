@@ -7,5 +7,5 @@ use Rattle.kinds.proofs.shows_listed.Tie as tie
 returns : tie.Need-returns
 returns c = shows _ _ c.before.marks.ensures c.carries-none.ensures
 
-pub shows-listed-spec : {M : Type 1} → statement M
-shows-listed-spec = tie.close (tie.spec (λ c κs. tt) (λ c κs. tt) returns)
+pub shows_listed_spec : {M : Type 1} → statement M
+shows_listed_spec = tie.close (tie.spec (λ c κs. tt) (λ c κs. tt) returns)

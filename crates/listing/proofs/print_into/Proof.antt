@@ -3,7 +3,7 @@
 -- Assumes nothing.
 use native.Mathlib.Omega.{arith}
 use borrow.Author.Rules.{rules}
-use Rattle.listing.proofs.InputLaws.{stays, line-printed, text-printed}
+use Rattle.listing.proofs.InputLaws.{stays, line_printed, text_printed}
 use Rattle.listing.proofs.print_into.Statement.{statement}
 use Rattle.listing.proofs.print_into.Tie as tie
 
@@ -11,13 +11,13 @@ returns : tie.Need-returns
 returns c = stays _ _ (omega arith)
 
 returns-2 : tie.Need-returns-2
-returns-2 c = search line-printed
+returns-2 c = search line_printed
 
 returns-3 : tie.Need-returns-3
-returns-3 c = search text-printed
+returns-3 c = search text_printed
 
-pub print-into-spec : {M : Type 1} → statement M
-print-into-spec =
+pub print_into_spec : {M : Type 1} → statement M
+print_into_spec =
     tie.close
     (tie.spec
     returns

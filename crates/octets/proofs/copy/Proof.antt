@@ -6,7 +6,7 @@ use Prim.Native.Nat.{◌≤◌, ◌-◌}
 use native.Mathlib.Omega.{arith}
 use borrow.Author.Rules.{rules}
 use lib.ListN.{length, take, drop, length-set}
-use Rattle.octets.proofs.Cursors.{copy-turn, copy-end}
+use Rattle.octets.proofs.Cursors.{copy_turn, copy_end}
 use Rattle.octets.proofs.copy.Statement.{statement}
 use Rattle.octets.proofs.copy.Tie as tie
 
@@ -34,7 +34,7 @@ loop-less c = omega arith
 loop-again : tie.Need-loop-preserved invariant-loop decreases-loop
 loop-again c =
     let l = c.before.before.loop in
-    (omega arith, simp length-set (search rules), l.invariant.2 ∙ copy-turn l.part _ l.i (omega arith) (omega arith))
+    (omega arith, simp length-set (search rules), l.invariant.2 ∙ copy_turn l.part _ l.i (omega arith) (omega arith))
 
 same_length : tie.Need-same-length invariant-loop decreases-loop
 same_length c = search rules
@@ -42,7 +42,7 @@ same_length c = search rules
 returns : tie.Need-returns invariant-loop decreases-loop
 returns c =
     let l = c.before.loop in
-    sym (l.invariant.2 ∙ copy-end l.part _ l.i (omega arith) (omega arith))
+    sym (l.invariant.2 ∙ copy_end l.part _ l.i (omega arith) (omega arith))
 
 pub copy_spec : {M : Type 1} → statement M
 copy_spec =

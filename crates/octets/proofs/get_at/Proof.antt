@@ -26,8 +26,8 @@ returns-4 c = search c.if4.true
 returns-5 : tie.Need-returns-5
 returns-5 c = rw (fourth c.before.if4.false (omega arith) (omega arith)) c.get-next4.ensures
 
-pub get-at-spec : {M : Type 1} → statement M
-get-at-spec =
+pub get_at_spec : {M : Type 1} → statement M
+get_at_spec =
     tie.close
     (tie.spec
     returns

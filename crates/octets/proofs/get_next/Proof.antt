@@ -3,7 +3,7 @@
 use borrow.Author.Rules.{rules}
 use Prim.Native.Nat.{◌+◌}
 use native.Mathlib.Omega.{arith}
-use Rattle.octets.proofs.NumberLaws.{number-next, small-next, fits_next}
+use Rattle.octets.proofs.NumberLaws.{number_next, small_next, fits_next}
 use Rattle.octets.proofs.get_next.Statement.{statement}
 use Rattle.octets.proofs.get_next.Tie as tie
 
@@ -26,9 +26,9 @@ add-result-2 c =
 returns : tie.Need-returns
 returns c =
     let a = c.before.args in (
-      number-next a.s.now a.at a.i _ (omega arith) c.before.requires.2,
-      small-next a.i a.value _ c.before.requires.3 (c.shared-slice-known.given _).fits,
+      number_next a.s.now a.at a.i _ (omega arith) c.before.requires.2,
+      small_next a.i a.value _ c.before.requires.3 (c.shared-slice-known.given _).fits,
     )
 
-pub get-next-spec : {M : Type 1} → statement M
-get-next-spec = tie.close (tie.spec mul-result (λ c. search rules) (λ c. search rules) cast-result add-result-2 returns)
+pub get_next_spec : {M : Type 1} → statement M
+get_next_spec = tie.close (tie.spec mul-result (λ c. search rules) (λ c. search rules) cast-result add-result-2 returns)

@@ -4,12 +4,12 @@
 use native.Mathlib.Omega.{arith}
 use borrow.Author.Rules.{rules}
 use lib.ListN.{length-set}
-use Rattle.octets.proofs.Cursors.{put-none, put_one, put_two, put_three, put_four}
+use Rattle.octets.proofs.Cursors.{put_none, put_one, put_two, put_three, put_four}
 use Rattle.octets.proofs.put.Statement.{statement}
 use Rattle.octets.proofs.put.Tie as tie
 
 returns : tie.Need-returns
-returns c = search put-none
+returns c = search put_none
 
 returns-2 : tie.Need-returns-2
 returns-2 c = search put_one

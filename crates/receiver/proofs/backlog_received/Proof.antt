@@ -2,25 +2,25 @@
 -- under an accepted one the image and the lists decide.
 -- Assumes nothing.
 use borrow.Author.Rules.{rules}
-use Rattle.forms.proofs.UnderPlan.{kinds-inside, few-kinds}
-use Rattle.receiver.proofs.BacklogSteps.{table-stops, table-goes}
+use Rattle.forms.proofs.UnderPlan.{kinds_inside, few_kinds}
+use Rattle.receiver.proofs.BacklogSteps.{table_stops, table_goes}
 use Rattle.receiver.proofs.backlog_received.Statement.{statement}
 use Rattle.receiver.proofs.backlog_received.Tie as tie
 
 returns : tie.Need-returns
-returns c = search table-stops
+returns c = search table_stops
 
 returns-2 : tie.Need-returns-2
-returns-2 c = search table-goes
+returns-2 c = search table_goes
 
-pub backlog-received-spec : {M : Type 1} → statement M
-backlog-received-spec =
+pub backlog_received_spec : {M : Type 1} → statement M
+backlog_received_spec =
     tie.close
     (tie.spec
     (λ c κs. search rules)
     (λ c κs. search rules)
     returns
-    (λ c κs. search kinds-inside)
-    (λ c κs. search few-kinds)
+    (λ c κs. search kinds_inside)
+    (λ c κs. search few_kinds)
     (λ c. search rules)
     returns-2)

@@ -49,7 +49,7 @@ use denote.Triple.Walked.{says, Stays, stay_none_slice, gave_slice, stay_ref, wa
 use denote.Triple.Walked.{Goes-ref, Walks, ends_at, walked, walk_Meets}
 use denote.Exit.{yes}
 use denote.Signature.{plain}
-use Rattle.receiver.specs.Receive.{outputOf}
+use Rattle.receiver.specs.Receive.{output_of}
 use Rattle.receiver.specs.Receive.{taken_of}
 use Rattle.history.specs.declared.Answer.{Answer}
 use Rattle.history.specs.declared.Standing.{Standing}
@@ -171,7 +171,7 @@ module _ {M : Type 1} {𝓤 : Ura M} (𝓛 : Logic 𝓤) (at_mem : Memory → SP
 
   -- what the callee ensures of its result and of the final output
   abbrev Said : Taken → List ℕ → Type 0
-  Said r zs = (r ≡ taken_of x₀.now x₁.now x₂.now ys h) × (zs ≡ outputOf x₀.now x₁.now x₂.now ys)
+  Said r zs = (r ≡ taken_of x₀.now x₁.now x₂.now ys h) × (zs ≡ output_of x₀.now x₁.now x₂.now ys)
 
   exits : (r : Taken) (zs : List ℕ) → Said r zs → length zs ≡ length ys
       → Is N.the_row r.answer (answered r.answer ∷ [])
@@ -314,10 +314,10 @@ module _ {M : Type 1} {𝓤 : Ura M} (𝓛 : Logic 𝓤) (at_mem : Memory → SP
     (run : Routine → Fun 𝓤) where
   open 𝓛 use {H}
 
-  receive-walks : (C : Calls 𝓤 H) (Λ : Loops 𝓤 H) → FmC 𝓤 H 𝓛.laws C
+  receive_walks : (C : Calls 𝓤 H) (Λ : Loops 𝓤 H) → FmC 𝓤 H 𝓛.laws C
       → Triple 𝓤 (C #receiver·received) (Step 𝓛 at_mem run)
       → Walks 𝓛 receive.ended stayed (WpFn 𝓤 H C Λ code.function) (receive.clauses 𝓛 at_mem run)
-  receive-walks C Λ fm known =
+  receive_walks C Λ fm known =
       walked 𝓛 receive.ended stayed (receive.clauses 𝓛 at_mem run) (WpFn 𝓤 H C Λ code.function)
       (λ κs. (shr_slice_vals, (shr_slice_vals, (shr_slice_vals, (shr_slice_vals, (shr_vals, tt))))))
       (λ κs. (
@@ -340,11 +340,11 @@ module _ {M : Type 1} {𝓤 : Ura M} (𝓛 : Logic 𝓤) (at_mem : Memory → SP
       a.1.1.1.1.0.ref_ptr.1 a.1.1.1.1.0.ghost_name a.1.1.1.1.0.now
       C Λ fm known are.0 are.1.0 are.1.1.0 are.1.1.1.0.0.1))
 
-receive-meets : {M : Type 1} {𝓤 : Ura M} (𝓛 : Logic 𝓤) →
+receive_meets : {M : Type 1} {𝓤 : Ura M} (𝓛 : Logic 𝓤) →
     (at_mem : Memory → SProp 𝓤) (run : Routine → Fun 𝓤) (𝓣 : Tables 𝓤 𝓛.H)
     → Triple 𝓤 (𝓣.C #receiver·received) (Step 𝓛 at_mem run)
     → Meets 𝓛 receive.signature (WpFn 𝓤 𝓛.H 𝓣.C 𝓣.Λ code.function) (receive.spec 𝓛 at_mem run)
-receive-meets {𝓤 = 𝓤} 𝓛 at_mem run 𝓣 known =
+receive_meets {𝓤 = 𝓤} 𝓛 at_mem run 𝓣 known =
     walk_Meets 𝓛 receive.ended stayed (
       Goes-none_slice 𝓛 5 (0 ∷ []) tt (plain (λ _. u8)) yes,
       (
@@ -359,13 +359,13 @@ receive-meets {𝓤 = 𝓤} 𝓛 at_mem run 𝓣 known =
       ),
     )
     (receive.clauses 𝓛 at_mem run) (WpFn 𝓤 𝓛.H 𝓣.C 𝓣.Λ code.function) (WpFn-mono 𝓤 𝓛.H 𝓛.laws 𝓣 code.function)
-    (receive-walks 𝓛 at_mem run 𝓣.C 𝓣.Λ (fm_of 𝓤 𝓛.H 𝓛.laws 𝓣) known)
+    (receive_walks 𝓛 at_mem run 𝓣.C 𝓣.Λ (fm_of 𝓤 𝓛.H 𝓛.laws 𝓣) known)
 
-pub receive-spec : {M : Type 1} → stated.statement M
+pub receive_spec : {M : Type 1} → stated.statement M
 unfolding code.routine tables_of
-receive-spec 𝓤 𝓛 𝓜 𝓡 =
+receive_spec 𝓤 𝓛 𝓜 𝓡 =
     entered 𝓤 𝓛.H (triple_of 𝓛 receive.signature (receive.spec 𝓛 𝓜.mem 𝓡.run))
     (tables 𝓤 𝓛.H 𝓜 𝓡 code.env).C (tables 𝓤 𝓛.H 𝓜 𝓡 code.env).Λ #receiver·receive code.function (code.unfolded 𝓤 𝓛.H 𝓜 𝓡)
-    (receive-meets 𝓛 𝓜.mem 𝓡.run (tables_of 𝓤 𝓛.H 𝓜 (tables 𝓤 𝓛.H 𝓜 𝓡 code.env))
+    (receive_meets 𝓛 𝓜.mem 𝓡.run (tables_of 𝓤 𝓛.H 𝓜 (tables 𝓤 𝓛.H 𝓜 𝓡 code.env))
     (cited 𝓤 𝓛.H (Step 𝓛 𝓜.mem 𝓡.run) 𝓜 𝓡 code.env #receiver·received received-def.routine
     code.calls-receiver::received (received-thm.met 𝓤 𝓛 𝓜 𝓡)))

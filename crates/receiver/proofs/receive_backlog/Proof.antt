@@ -49,8 +49,8 @@ use denote.Triple.Walked.{says, Stays, stay_none_slice, gave_slice, stay_ref, wa
 use denote.Triple.Walked.{Goes-ref, Walks, ends_at, walked, walk_Meets}
 use denote.Exit.{yes}
 use denote.Signature.{plain}
-use Rattle.receiver.specs.Backlogs.{backlogOutput}
-use Rattle.receiver.specs.Backlogs.{backlogAdvance}
+use Rattle.receiver.specs.Backlogs.{backlog_output}
+use Rattle.receiver.specs.Backlogs.{backlog_advance}
 use Rattle.receiver.specs.declared.Progress.{Progress}
 use Rattle.history.specs.declared.Standing.{Standing}
 use Rattle.receiver.specs.declared.Advance.{Advance}
@@ -175,7 +175,7 @@ module _ {M : Type 1} {𝓤 : Ura M} (𝓛 : Logic 𝓤) (at_mem : Memory → SP
   -- what the callee ensures of its result and of the final output
   abbrev Said : Advance → List ℕ → Type 0
   Said r zs =
-      (r ≡ backlogAdvance x₀.now x₁.now x₂.now ys h) × (zs ≡ backlogOutput x₀.now x₁.now x₂.now ys h)
+      (r ≡ backlog_advance x₀.now x₁.now x₂.now ys h) × (zs ≡ backlog_output x₀.now x₁.now x₂.now ys h)
 
   exits : (r : Advance) (zs : List ℕ) → Said r zs → length zs ≡ length ys
       → Is N.the_row r.progress (answered r.progress ∷ [])
@@ -320,10 +320,10 @@ module _ {M : Type 1} {𝓤 : Ura M} (𝓛 : Logic 𝓤) (at_mem : Memory → SP
     (run : Routine → Fun 𝓤) where
   open 𝓛 use {H}
 
-  receive-backlog-walks : (C : Calls 𝓤 H) (Λ : Loops 𝓤 H) → FmC 𝓤 H 𝓛.laws C
+  receive_backlog_walks : (C : Calls 𝓤 H) (Λ : Loops 𝓤 H) → FmC 𝓤 H 𝓛.laws C
       → Triple 𝓤 (C #receiver·backlog-received) (Step 𝓛 at_mem run)
       → Walks 𝓛 receive-backlog.ended stayed (WpFn 𝓤 H C Λ code.function) (receive-backlog.clauses 𝓛 at_mem run)
-  receive-backlog-walks C Λ fm known =
+  receive_backlog_walks C Λ fm known =
       walked 𝓛 receive-backlog.ended stayed (receive-backlog.clauses 𝓛 at_mem run) (WpFn 𝓤 H C Λ code.function)
       (λ κs. (shr_slice_vals, (shr_slice_vals, (shr_slice_vals, (shr_slice_vals, (shr_vals, tt))))))
       (λ κs. (
@@ -346,12 +346,12 @@ module _ {M : Type 1} {𝓤 : Ura M} (𝓛 : Logic 𝓤) (at_mem : Memory → SP
       a.1.1.1.1.0.ref_ptr.1 a.1.1.1.1.0.ghost_name a.1.1.1.1.0.now
       C Λ fm known are.0 are.1.0 are.1.1.0 are.1.1.1.0.0.1))
 
-receive-backlog-meets : {M : Type 1} {𝓤 : Ura M} (𝓛 : Logic 𝓤) →
+receive_backlog_meets : {M : Type 1} {𝓤 : Ura M} (𝓛 : Logic 𝓤) →
     (at_mem : Memory → SProp 𝓤) (run : Routine → Fun 𝓤) (𝓣 : Tables 𝓤 𝓛.H)
     → Triple 𝓤 (𝓣.C #receiver·backlog-received) (Step 𝓛 at_mem run)
     → Meets 𝓛 receive-backlog.signature (WpFn 𝓤 𝓛.H 𝓣.C 𝓣.Λ code.function)
     (receive-backlog.spec 𝓛 at_mem run)
-receive-backlog-meets {𝓤 = 𝓤} 𝓛 at_mem run 𝓣 known =
+receive_backlog_meets {𝓤 = 𝓤} 𝓛 at_mem run 𝓣 known =
     walk_Meets 𝓛 receive-backlog.ended stayed (
       Goes-none_slice 𝓛 5 (0 ∷ []) tt (plain (λ _. u8)) yes,
       (
@@ -367,14 +367,14 @@ receive-backlog-meets {𝓤 = 𝓤} 𝓛 at_mem run 𝓣 known =
     )
     (receive-backlog.clauses 𝓛 at_mem run) (WpFn 𝓤 𝓛.H 𝓣.C 𝓣.Λ code.function)
     (WpFn-mono 𝓤 𝓛.H 𝓛.laws 𝓣 code.function)
-    (receive-backlog-walks 𝓛 at_mem run 𝓣.C 𝓣.Λ (fm_of 𝓤 𝓛.H 𝓛.laws 𝓣) known)
+    (receive_backlog_walks 𝓛 at_mem run 𝓣.C 𝓣.Λ (fm_of 𝓤 𝓛.H 𝓛.laws 𝓣) known)
 
-pub receive-backlog-spec : {M : Type 1} → stated.statement M
+pub receive_backlog_spec : {M : Type 1} → stated.statement M
 unfolding code.routine tables_of
-receive-backlog-spec 𝓤 𝓛 𝓜 𝓡 =
+receive_backlog_spec 𝓤 𝓛 𝓜 𝓡 =
     entered 𝓤 𝓛.H (triple_of 𝓛 receive-backlog.signature (receive-backlog.spec 𝓛 𝓜.mem 𝓡.run))
     (tables 𝓤 𝓛.H 𝓜 𝓡 code.env).C (tables 𝓤 𝓛.H 𝓜 𝓡 code.env).Λ #receiver·receive-backlog code.function
     (code.unfolded 𝓤 𝓛.H 𝓜 𝓡)
-    (receive-backlog-meets 𝓛 𝓜.mem 𝓡.run (tables_of 𝓤 𝓛.H 𝓜 (tables 𝓤 𝓛.H 𝓜 𝓡 code.env))
+    (receive_backlog_meets 𝓛 𝓜.mem 𝓡.run (tables_of 𝓤 𝓛.H 𝓜 (tables 𝓤 𝓛.H 𝓜 𝓡 code.env))
     (cited 𝓤 𝓛.H (Step 𝓛 𝓜.mem 𝓡.run) 𝓜 𝓡 code.env #receiver·backlog-received backlog-received-def.routine
     code.calls-receiver::backlog-received (backlog-received-thm.met 𝓤 𝓛 𝓜 𝓡)))

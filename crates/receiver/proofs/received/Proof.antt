@@ -8,5 +8,5 @@ use Rattle.receiver.proofs.received.Tie as tie
 returns : tie.Need-returns
 returns c = taken_is _ _ _ _ _ c.before.before.before.apply.ensures c.count.ensures
 
-pub received-spec : {M : Type 1} → statement M
-received-spec = tie.close (tie.spec (λ c κs. search rules) (λ c κs. search rules) (λ c. search rules) returns)
+pub received_spec : {M : Type 1} → statement M
+received_spec = tie.close (tie.spec (λ c κs. search rules) (λ c κs. search rules) (λ c. search rules) returns)

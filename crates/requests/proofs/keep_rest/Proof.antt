@@ -46,8 +46,8 @@ same-length-2 c = omega arith
 returns-2 : tie.Need-returns-2 invariant-loop decreases-loop
 returns-2 c = omega arith
 
-pub keep-rest-spec : {M : Type 1} → statement M
-keep-rest-spec =
+pub keep_rest_spec : {M : Type 1} → statement M
+keep_rest_spec =
     tie.close
     (tie.spec
     invariant-loop

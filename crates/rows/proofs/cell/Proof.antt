@@ -14,5 +14,5 @@ element-copy-out-result c = search rules
 returns : tie.Need-returns
 returns c = ap (λ (l : List ℕ). get_or l c.before.args.place 0) c.before.requires.0
 
-pub cell-spec : {M : Type 1} → statement M
-cell-spec = tie.close (tie.spec element-copy-out-result returns)
+pub cell_spec : {M : Type 1} → statement M
+cell_spec = tie.close (tie.spec element-copy-out-result returns)

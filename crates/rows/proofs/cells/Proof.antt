@@ -9,5 +9,5 @@ returns : tie.Need-returns
 unfolding cells
 returns c = refl
 
-pub cells-spec : {M : Type 1} → statement M
-cells-spec = tie.close (tie.spec returns)
+pub cells_spec : {M : Type 1} → statement M
+cells_spec = tie.close (tie.spec returns)

@@ -4,7 +4,7 @@ use borrow.Author.Rules.{rules}
 use Prim.Native.Nat.{◌-◌}
 use native.Mathlib.Omega.{arith}
 use Rattle.rows.proofs.Covering.{low_small}
-use Rattle.rows.proofs.Loops.{Composing, compose-starts, compose-fits, compose-turn, compose-ends}
+use Rattle.rows.proofs.Loops.{Composing, compose_starts, compose_fits, compose_turn, compose_ends}
 use Rattle.rows.proofs.compose_rows.Statement.{statement}
 use Rattle.rows.proofs.compose_rows.Tie as tie
 
@@ -18,16 +18,16 @@ shl-word : tie.Need-overflow-shl-word invariant-loop decreases-loop
 shl-word c = low_small _ (omega arith) c.cell.ensures
 
 returns : tie.Need-returns invariant-loop decreases-loop
-returns c = search compose-ends
+returns c = search compose_ends
 
-pub compose-rows-spec : {M : Type 1} → statement M
-compose-rows-spec =
+pub compose_rows_spec : {M : Type 1} → statement M
+compose_rows_spec =
     tie.close
     (tie.spec
     invariant-loop
     decreases-loop
     (λ c κs. search rules)
-    (λ c. compose-starts _ _ _)
+    (λ c. compose_starts _ _ _)
     (λ c. omega arith)
     (λ c. omega arith)
     (λ c. omega arith)
@@ -36,8 +36,8 @@ compose-rows-spec =
     (λ c. omega arith)
     (λ c. omega arith)
     shl-word
-    (λ c. record { fits = search compose-fits })
+    (λ c. record { fits = search compose_fits })
     (λ c. omega arith)
     (λ c. omega arith)
-    (λ c. search compose-turn)
+    (λ c. search compose_turn)
     returns)

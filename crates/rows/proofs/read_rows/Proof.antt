@@ -22,8 +22,8 @@ loop-again c = search turn
 returns-2 : tie.Need-returns-2 invariant-loop decreases-loop
 returns-2 c = search ends
 
-pub read-rows-spec : {M : Type 1} → statement M
-read-rows-spec =
+pub read_rows_spec : {M : Type 1} → statement M
+read_rows_spec =
     tie.close
     (tie.spec
     invariant-loop

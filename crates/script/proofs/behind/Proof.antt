@@ -45,8 +45,8 @@ returns-3 c = omega arith
 returns-4 : tie.Need-returns-4 invariant-loop decreases-loop
 returns-4 c = omega arith
 
-pub behind-spec : {M : Type 1} → statement M
-behind-spec =
+pub behind_spec : {M : Type 1} → statement M
+behind_spec =
     tie.close
     (tie.spec
     invariant-loop

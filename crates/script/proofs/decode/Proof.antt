@@ -86,8 +86,8 @@ same-length-5 c = omega arith
 returns-5 : tie.Need-returns-5 invariant-loop decreases-loop
 returns-5 c = prefix_len_of_le _ _ (omega arith)
 
-pub decode-spec : {M : Type 1} → statement M
-decode-spec =
+pub decode_spec : {M : Type 1} → statement M
+decode_spec =
     tie.close
     (tie.spec
     invariant-loop

@@ -13,8 +13,8 @@ invariant-loop text from values₀ at₀ k₀ values at k = length values ≡ 32
 abbrev decreases-loop : tie.decreases-loop
 decreases-loop text from values₀ at₀ k₀ values at k = 32 - k
 
-pub numbers-spec : {M : Type 1} → statement M
-numbers-spec =
+pub numbers_spec : {M : Type 1} → statement M
+numbers_spec =
     tie.close
     (tie.spec
     invariant-loop decreases-loop (λ c. search rules) (λ c κs. search rules) (λ c. search rules) (λ c. search rules)

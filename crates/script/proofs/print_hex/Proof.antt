@@ -39,8 +39,8 @@ loop-again c = search rules
 returns : tie.Need-returns invariant-loop decreases-loop
 returns c = search rules
 
-pub print-hex-spec : {M : Type 1} → statement M
-print-hex-spec =
+pub print_hex_spec : {M : Type 1} → statement M
+print_hex_spec =
     tie.close
     (tie.spec
     invariant-loop

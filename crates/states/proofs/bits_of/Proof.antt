@@ -53,8 +53,8 @@ returns c =
       b21 = c.bit22.ensures i;
     }
 
-pub bits-of-spec : {M : Type 1} → statement M
-bits-of-spec =
+pub bits_of_spec : {M : Type 1} → statement M
+bits_of_spec =
     tie.close (tie.spec (λ c κs. lit< tt) (λ c κs. lit< tt) (λ c κs. lit< tt) (λ c κs. lit< tt) (λ c κs. lit< tt)
     (λ c κs. lit< tt) (λ c κs. lit< tt) (λ c κs. lit< tt) (λ c κs. lit< tt) (λ c κs. lit< tt) (λ c κs. lit< tt)
     (λ c κs. lit< tt) (λ c κs. lit< tt) (λ c κs. lit< tt) (λ c κs. lit< tt) (λ c κs. lit< tt) (λ c κs. lit< tt)

@@ -9,5 +9,5 @@ use Rattle.steps.proofs.back.Tie as tie
 returns-2 : tie.Need-returns-2
 returns-2 c = sym (ap back c.before.change.given.1)
 
-pub back-spec : {M : Type 1} → statement M
-back-spec = tie.close (tie.spec (λ c. search rules) (λ c. search rules) (λ c. search rules) returns-2)
+pub back_spec : {M : Type 1} → statement M
+back_spec = tie.close (tie.spec (λ c. search rules) (λ c. search rules) (λ c. search rules) returns-2)

@@ -10,5 +10,5 @@ use Rattle.steps.proofs.fits.Tie as tie
 returns-2 : tie.Need-returns-2
 returns-2 c = sym (ap (λ (d : Change). fits d c.before.before.before.args.element) c.before.change.given.1)
 
-pub fits-spec : {M : Type 1} → statement M
-fits-spec = tie.close (tie.spec (λ c. search rules) (λ c. search rules) (λ c. search rules) returns-2)
+pub fits_spec : {M : Type 1} → statement M
+fits_spec = tie.close (tie.spec (λ c. search rules) (λ c. search rules) (λ c. search rules) returns-2)

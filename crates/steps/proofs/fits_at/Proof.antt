@@ -6,8 +6,8 @@ use Rattle.steps.proofs.StepLaws.{there, fits-keep, fits-old}
 use Rattle.steps.proofs.fits_at.Statement.{statement}
 use Rattle.steps.proofs.fits_at.Tie as tie
 
-pub fits-at-spec : {M : Type 1} → statement M
-fits-at-spec =
+pub fits_at_spec : {M : Type 1} → statement M
+fits_at_spec =
     tie.close
     (tie.spec
     (λ c. search (fits-keep, not-true))

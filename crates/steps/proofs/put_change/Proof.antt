@@ -2,12 +2,12 @@
 -- nothing for a kept object.
 -- Assumes nothing.
 use borrow.Author.Rules.{rules}
-use Rattle.steps.proofs.StepLaws.{number-inside, old-inside, new-inside, entry-put, entry_kept}
+use Rattle.steps.proofs.StepLaws.{number_inside, old_inside, new_inside, entry_put, entry_kept}
 use Rattle.steps.proofs.put_change.Statement.{statement}
 use Rattle.steps.proofs.put_change.Tie as tie
 
-pub put-change-spec : {M : Type 1} → statement M
-put-change-spec =
+pub put_change_spec : {M : Type 1} → statement M
+put_change_spec =
     tie.close
     (tie.spec
     (λ c. search rules)
@@ -15,17 +15,17 @@ put-change-spec =
     (λ c. search rules)
     (λ c. search rules)
     (λ c. search rules)
-    (λ c. search number-inside)
+    (λ c. search number_inside)
     (λ c κs. search rules)
     (λ c. search rules)
     (λ c. search rules)
-    (λ c. search old-inside)
+    (λ c. search old_inside)
     (λ c κs. search rules)
     (λ c. search rules)
     (λ c. search rules)
-    (λ c. search new-inside)
+    (λ c. search new_inside)
     (λ c κs. search rules)
     (λ c. search rules)
     (λ c. search rules)
-    (λ c. search entry-put)
+    (λ c. search entry_put)
     (λ c. search entry_kept))

@@ -9,5 +9,5 @@ use Rattle.steps.proofs.width_at.Tie as tie
 returns : tie.Need-returns
 returns c = (c.width.ensures.0 ∙ ap width_of c.before.kind_at.ensures, c.width.ensures.1)
 
-pub width-at-spec : {M : Type 1} → statement M
-width-at-spec = tie.close (tie.spec (λ c κs. search rules) (λ c κs. search rules) returns)
+pub width_at_spec : {M : Type 1} → statement M
+width_at_spec = tie.close (tie.spec (λ c κs. search rules) (λ c κs. search rules) returns)

@@ -11,5 +11,5 @@ outline-requires c κs = search rules
 returns : tie.Need-returns
 returns c = counted c.outline.ensures
 
-pub count-of-spec : {M : Type 1} → statement M
-count-of-spec = tie.close (tie.spec outline-requires returns)
+pub count_of_spec : {M : Type 1} → statement M
+count_of_spec = tie.close (tie.spec outline-requires returns)

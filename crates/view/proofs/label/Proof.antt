@@ -48,12 +48,12 @@ use denote.Triple.Table.{entered, cited}
 use denote.Triple.Walked.{says, Stays, stay_none, walk_of, Goes-none, Walks, ends_at, walked, walk_Meets}
 use denote.Exit.{yes}
 use denote.Triple.Clauses.{ensured, lasts}
-use Rattle.history.specs.Calls.{labelCall}
-use Rattle.view.specs.Parts.{givenPlace, Part}
+use Rattle.history.specs.Calls.{label_call}
+use Rattle.view.specs.Parts.{given_place, Part}
 use Rattle.view.specs.declared.TableView.{TableView}
 use Rattle.view.specs.contracts.TableView as T
 use Rattle.view.proofs.TableView.TheLaws as T'
-use Rattle.view.specs.contracts.label_part as label-part
+use Rattle.view.specs.contracts.label_part as label_part
 use Rattle.view.proofs.label_part.Symbol as label-part-def
 use Rattle.view.proofs.label_part.Symbol.{name as #view·label-part}
 use Rattle.view.proofs.label_part.Met as label-part-thm
@@ -72,7 +72,7 @@ stayed = (stay_none B yes, (stay_none (λ _. u16) yes, tt))
 -- the contract that the proof cites
 abbrev LabelPart : {M : Type 1} {𝓤 : Ura M} (𝓛 : Logic 𝓤) (mem : Memory → SProp 𝓤) (run : Routine → Fun 𝓤)
     → Contract 𝓤
-LabelPart 𝓛 mem run = triple_of 𝓛 label-part.signature (label-part.spec 𝓛 mem run)
+LabelPart 𝓛 mem run = triple_of 𝓛 label_part.signature (label_part.spec 𝓛 mem run)
 
 module _ {M : Type 1} {𝓤 : Ura M} (𝓛 : Logic 𝓤) (mem : Memory → SProp 𝓤)
     (run : Routine → Fun 𝓤) (κ : Lft) (q : Share) (d : TableView) (n : ℕ) (n-fits : n < 2 ^ 16) where
@@ -87,7 +87,7 @@ module _ {M : Type 1} {𝓤 : Ura M} (𝓛 : Logic 𝓤) (mem : Memory → SProp
 
   -- what the callee ensures of its result
   abbrev Said : Bor (List ℕ) → Type 0
-  Said r = Part d.table r (givenPlace (labelCall d.table.now n))
+  Said r = Part d.table r (given_place (label_call d.table.now n))
 
   abbrev Arg : Type 0
   Arg = TableView × (ℕ × Unit {0})
@@ -121,13 +121,13 @@ module _ {M : Type 1} {𝓤 : Ura M} (𝓛 : Logic 𝓤) (mem : Memory → SProp
   abbrev passed : Passed
   passed = (d.table, (n, tt))
 
-  abbrev pvals : Vals label-part.signature (κ, tt)
+  abbrev pvals : Vals label_part.signature (κ, tt)
   pvals = (v ∷ [], (vint w16 n ∷ [], tt))
 
   abbrev to : (LabelPart 𝓛 mem run).Ghost
   to = (((κ, tt), (q, tt), tt, passed, pvals), tt)
 
-  asked : ent 𝓤 (on_entry 𝓛 label-part.signature (κ, tt) (q, tt) passed pvals) ((LabelPart 𝓛 mem run).pre to)
+  asked : ent 𝓤 (on_entry 𝓛 label_part.signature (κ, tt) (q, tt) passed pvals) ((LabelPart 𝓛 mem run).pre to)
   asked =
       qed 𝓛 ((‵ (flft κ q) ⊛ ‵ ftrue) ∷ ‵ (owns (ShrSlice (named 0) κ u8 ∷ u16 ∷ []) passed pvals) ∷ []) ∵ join ! $
       frame ! $ done !
@@ -150,8 +150,8 @@ module _ {M : Type 1} {𝓤 : Ura M} (𝓛 : Logic 𝓤) (mem : Memory → SProp
 
   -- of the callee's `ensured`, the clause alone: it has no `&mut`, so what is said of last values is dropped
   said : (r : Bor (List ℕ))
-      → ent 𝓤 (ensured 𝓛 label-part.ended (label-part.clauses 𝓛 mem run) (κ, tt) passed tt r) (fact 𝓤 (Said r))
-  said r = ex_e 𝓤 _ (λ ws. snd∗ 𝓤 (sem 𝓛 (lasts label-part.ended (κ, tt) passed ws)) (fact 𝓤 (Said r)))
+      → ent 𝓤 (ensured 𝓛 label_part.ended (label_part.clauses 𝓛 mem run) (κ, tt) passed tt r) (fact 𝓤 (Said r))
+  said r = ex_e 𝓤 _ (λ ws. snd∗ 𝓤 (sem 𝓛 (lasts label_part.ended (κ, tt) passed ws)) (fact 𝓤 (Said r)))
 
   exits : (r : Bor (List ℕ)) (u : Val) → Said r
       → ent 𝓤 (⋆ 𝓛 (‵ ((ShrSlice (named 0) κ u8).own_val r (u ∷ [])) ∷ (‵ (flft κ q) ⊛ ‵ ftrue) ∷ ‵ Own ∷ [])) (Post u)
@@ -185,7 +185,7 @@ module _ {M : Type 1} {𝓤 : Ura M} (𝓛 : Logic 𝓤) (mem : Memory → SProp
         (and_then ! (load ! (from ! (stop !)) (look ! 4 refl)) (no_more !))) (λ u.
         use1 𝓛 (later
         (some (λ (r : Bor (List ℕ)). ((‵ (flft κ q) ⊛ ‵ ftrue) ⊛ ‵ ((ShrSlice (named 0) κ u8).own_val r (u ∷ []))) ⊛ raw
-        (ensured 𝓛 label-part.ended (label-part.clauses 𝓛 mem run) (κ, tt) passed tt r)))) (id⊢ 𝓤 _) $
+        (ensured 𝓛 label_part.ended (label_part.clauses 𝓛 mem run) (κ, tt) passed tt r)))) (id⊢ 𝓤 _) $
         await ! tt $ pick ! (λ r.
         split ! $ move ! (1 ∷ []) $ use1 𝓛 (raw (fact 𝓤 (Said r))) (said r) $
         heard ! (Said r) (λ e. split ! $ move ! (1 ∷ []) $
@@ -201,10 +201,10 @@ module _ {M : Type 1} {𝓤 : Ura M} (𝓛 : Logic 𝓤) (mem : Memory → SProp
     (run : Routine → Fun 𝓤) where
   open 𝓛 use {H}
 
-  label-walks : (C : Calls 𝓤 H) (Λ : Loops 𝓤 H) → FmC 𝓤 H 𝓛.laws C
+  label_walks : (C : Calls 𝓤 H) (Λ : Loops 𝓤 H) → FmC 𝓤 H 𝓛.laws C
       → Triple 𝓤 (C #view·label-part) (LabelPart 𝓛 mem run)
       → Walks 𝓛 label.ended stayed (WpFn 𝓤 H C Λ code.function) (label.clauses 𝓛 mem run)
-  label-walks C Λ fm known = walked 𝓛 label.ended stayed (label.clauses 𝓛 mem run) (WpFn 𝓤 H C Λ code.function)
+  label_walks C Λ fm known = walked 𝓛 label.ended stayed (label.clauses 𝓛 mem run) (WpFn 𝓤 H C Λ code.function)
       (λ κs. (LL.vals (T.the_type (named_lft 1 0 tt κs)) (T'.the_laws (named_lft 1 0 tt κs)), (uint_vals w16, tt)))
       (λ κs. (LL.tells (T.the_type (named_lft 1 0 tt κs)) (T'.the_laws (named_lft 1 0 tt κs)), (uint_Tells w16, tt)))
       (λ κs qs bounds a g are. via 𝓤 _ (fst∗ 𝓤 _ (emp 𝓤))
@@ -212,21 +212,21 @@ module _ {M : Type 1} {𝓤 : Ura M} (𝓛 : Logic 𝓤) (mem : Memory → SProp
       ((LL.lawful (T.the_type (named_lft 1 0 tt κs)) (T'.the_laws (named_lft 1 0 tt κs)) 𝓛).typed a.0 _
       are.0).0))
 
-label-meets : {M : Type 1} {𝓤 : Ura M} (𝓛 : Logic 𝓤) (mem : Memory → SProp 𝓤)
+label_meets : {M : Type 1} {𝓤 : Ura M} (𝓛 : Logic 𝓤) (mem : Memory → SProp 𝓤)
     (run : Routine → Fun 𝓤) (𝓣 : Tables 𝓤 𝓛.H)
     → Triple 𝓤 (𝓣.C #view·label-part) (LabelPart 𝓛 mem run)
     → Meets 𝓛 label.signature (WpFn 𝓤 𝓛.H 𝓣.C 𝓣.Λ code.function) (label.spec 𝓛 mem run)
-label-meets {𝓤 = 𝓤} 𝓛 mem run 𝓣 known =
+label_meets {𝓤 = 𝓤} 𝓛 mem run 𝓣 known =
     walk_Meets 𝓛 label.ended stayed
     (Goes-none 𝓛 1 B yes (λ κs x f. refl), (Goes-none 𝓛 1 (λ _. u16) yes (λ κs x f. refl), tt))
     (label.clauses 𝓛 mem run) (WpFn 𝓤 𝓛.H 𝓣.C 𝓣.Λ code.function) (WpFn-mono 𝓤 𝓛.H 𝓛.laws 𝓣 code.function)
-    (label-walks 𝓛 mem run 𝓣.C 𝓣.Λ (fm_of 𝓤 𝓛.H 𝓛.laws 𝓣) known)
+    (label_walks 𝓛 mem run 𝓣.C 𝓣.Λ (fm_of 𝓤 𝓛.H 𝓛.laws 𝓣) known)
 
-pub label-spec : {M : Type 1} → stated.statement M
+pub label_spec : {M : Type 1} → stated.statement M
 unfolding code.routine tables_of
-label-spec 𝓤 𝓛 𝓜 𝓡 =
+label_spec 𝓤 𝓛 𝓜 𝓡 =
     entered 𝓤 𝓛.H (triple_of 𝓛 label.signature (label.spec 𝓛 𝓜.mem 𝓡.run))
     (tables 𝓤 𝓛.H 𝓜 𝓡 code.env).C (tables 𝓤 𝓛.H 𝓜 𝓡 code.env).Λ #view·label code.function (code.unfolded 𝓤 𝓛.H 𝓜 𝓡)
-    (label-meets 𝓛 𝓜.mem 𝓡.run (tables_of 𝓤 𝓛.H 𝓜 (tables 𝓤 𝓛.H 𝓜 𝓡 code.env))
+    (label_meets 𝓛 𝓜.mem 𝓡.run (tables_of 𝓤 𝓛.H 𝓜 (tables 𝓤 𝓛.H 𝓜 𝓡 code.env))
     (cited 𝓤 𝓛.H (LabelPart 𝓛 𝓜.mem 𝓡.run) 𝓜 𝓡 code.env #view·label-part label-part-def.routine
-    code.calls-view::label-part (label-part-thm.met 𝓤 𝓛 𝓜 𝓡)))
+    code.calls-view::label_part (label-part-thm.met 𝓤 𝓛 𝓜 𝓡)))

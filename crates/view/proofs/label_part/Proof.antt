@@ -24,7 +24,7 @@ part-result-end c = search rules
 returns : tie.Need-returns
 returns c = found_part _ c.before.before.label-place.ensures refl refl
 
-pub label-part-spec : {M : Type 1} → statement M
-label-part-spec =
+pub label_part_spec : {M : Type 1} → statement M
+label_part_spec =
     tie.close
     (tie.spec label-place-requires add-end sub-result part-result-start part-result-end returns)

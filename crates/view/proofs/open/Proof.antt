@@ -42,8 +42,8 @@ use denote.Triple.Spec.{Meets, triple_of}
 use denote.Triple.Table.{entered, cited}
 use denote.Triple.Walked.{says, Stays, stay_none_slice, walk_of, Goes-none_slice, Walks, ends_at, walked, walk_Meets}
 use denote.Exit.{yes}
-use Rattle.history.specs.Calls.{tableCall}
-use Rattle.view.specs.Parts.{countOf}
+use Rattle.history.specs.Calls.{table_call}
+use Rattle.view.specs.Parts.{count_of}
 use Rattle.view.specs.declared.TableView.{TableView}
 use Rattle.view.specs.contracts.TableView as T
 use Rattle.view.proofs.TableView.TheLaws as T'
@@ -105,12 +105,12 @@ module _ {M : Type 1} {𝓤 : Ura M} (𝓛 : Logic 𝓤) (mem : Memory → SProp
 
   said : (n : ℕ)
       → ent 𝓤 (ensured 𝓛 count.ended (count.clauses 𝓛 mem run) (κ, tt) (s, tt) tt n)
-      (fact 𝓤 (n ≡ countOf (tableCall s.now)))
+      (fact 𝓤 (n ≡ count_of (table_call s.now)))
   said n =
       ex_e 𝓤 _ (λ ws. snd∗ 𝓤 (sem 𝓛 (lasts count.ended (κ, tt) (s, tt) ws))
-      (fact 𝓤 (n ≡ countOf (tableCall s.now))))
+      (fact 𝓤 (n ≡ count_of (table_call s.now))))
 
-  exits : (n : ℕ) → n ≡ countOf (tableCall s.now) → n < 2 ^ 64
+  exits : (n : ℕ) → n ≡ count_of (table_call s.now) → n < 2 ^ 64
       → ent 𝓤 (⋆ 𝓛 ((‵ (flft κ q) ⊛ ‵ ftrue) ∷ ‵ Own ∷ [])) (Post (T'.lowered (made n)))
   exits n e fits =
       qed 𝓛 ((‵ (flft κ q) ⊛ ‵ ftrue) ∷ ‵ Own ∷ []) ∵
@@ -142,8 +142,8 @@ module _ {M : Type 1} {𝓤 : Ura M} (𝓛 : Logic 𝓤) (mem : Memory → SProp
         (some (λ (n : ℕ). ((‵ (flft κ q) ⊛ ‵ ftrue) ⊛ ‵ (usize.own_val n (u ∷ []))) ⊛ raw
         (ensured 𝓛 count.ended (count.clauses 𝓛 mem run) (κ, tt) (s, tt) tt n)))) (id⊢ 𝓤 _) $
         await ! tt $ pick ! (λ n.
-        split ! $ move ! (1 ∷ []) $ use1 𝓛 (raw (fact 𝓤 (n ≡ countOf (tableCall s.now)))) (said n) $
-        heard ! (n ≡ countOf (tableCall s.now)) (λ e. split ! $ move ! (1 ∷ []) $
+        split ! $ move ! (1 ∷ []) $ use1 𝓛 (raw (fact 𝓤 (n ≡ count_of (table_call s.now)))) (said n) $
+        heard ! (n ≡ count_of (table_call s.now)) (λ e. split ! $ move ! (1 ∷ []) $
         -- [the result; the token; what s owns; room for _2; …; _1; …; room for _0; …]
         peeks ! usize (Is usize) (shows 𝓛 usize) n (u ∷ []) (λ is.
         land ! (from ! (stop !)) (init ! 3 refl ((uint_Lawful 𝓛 w64).typed n _ is).0) $
@@ -166,28 +166,28 @@ module _ {M : Type 1} {𝓤 : Ura M} (𝓛 : Logic 𝓤) (mem : Memory → SProp
     (run : Routine → Fun 𝓤) where
   open 𝓛 use {H}
 
-  open-walks : (C : Calls 𝓤 H) (Λ : Loops 𝓤 H) → FmC 𝓤 H 𝓛.laws C → Triple 𝓤 (C #view·count-of) (Count 𝓛 mem run)
+  open_walks : (C : Calls 𝓤 H) (Λ : Loops 𝓤 H) → FmC 𝓤 H 𝓛.laws C → Triple 𝓤 (C #view·count-of) (Count 𝓛 mem run)
       → Walks 𝓛 open'.ended stayed (WpFn 𝓤 H C Λ code.function) (open'.clauses 𝓛 mem run)
-  open-walks C Λ fm known =
+  open_walks C Λ fm known =
       walked 𝓛 open'.ended stayed (open'.clauses 𝓛 mem run) (WpFn 𝓤 H C Λ code.function)
       (λ κs. (shr_slice_vals, tt)) (λ κs. (shr_slice_Tells (named 0) κs.0 u8, tt))
       (λ κs qs bounds a g are. via 𝓤 _ (fst∗ 𝓤 _ (emp 𝓤))
       (walk 𝓛 mem run κs.0 qs.0 a.0 C Λ fm known are.0))
 
-open-meets : {M : Type 1} {𝓤 : Ura M} (𝓛 : Logic 𝓤) →
+open_meets : {M : Type 1} {𝓤 : Ura M} (𝓛 : Logic 𝓤) →
     (mem : Memory → SProp 𝓤) (run : Routine → Fun 𝓤) (𝓣 : Tables 𝓤 𝓛.H)
     → Triple 𝓤 (𝓣.C #view·count-of) (Count 𝓛 mem run)
     → Meets 𝓛 open'.signature (WpFn 𝓤 𝓛.H 𝓣.C 𝓣.Λ code.function) (open'.spec 𝓛 mem run)
-open-meets {𝓤 = 𝓤} 𝓛 mem run 𝓣 known =
+open_meets {𝓤 = 𝓤} 𝓛 mem run 𝓣 known =
     walk_Meets 𝓛 open'.ended stayed (Goes-none_slice 𝓛 1 (0 ∷ []) tt (plain (λ _. u8)) yes, tt)
     (open'.clauses 𝓛 mem run) (WpFn 𝓤 𝓛.H 𝓣.C 𝓣.Λ code.function) (WpFn-mono 𝓤 𝓛.H 𝓛.laws 𝓣 code.function)
-    (open-walks 𝓛 mem run 𝓣.C 𝓣.Λ (fm_of 𝓤 𝓛.H 𝓛.laws 𝓣) known)
+    (open_walks 𝓛 mem run 𝓣.C 𝓣.Λ (fm_of 𝓤 𝓛.H 𝓛.laws 𝓣) known)
 
 pub open_spec : {M : Type 1} → stated.statement M
 unfolding code.routine tables_of
 open_spec 𝓤 𝓛 𝓜 𝓡 =
     entered 𝓤 𝓛.H (triple_of 𝓛 open'.signature (open'.spec 𝓛 𝓜.mem 𝓡.run))
     (tables 𝓤 𝓛.H 𝓜 𝓡 code.env).C (tables 𝓤 𝓛.H 𝓜 𝓡 code.env).Λ #view·open code.function (code.unfolded 𝓤 𝓛.H 𝓜 𝓡)
-    (open-meets 𝓛 𝓜.mem 𝓡.run (tables_of 𝓤 𝓛.H 𝓜 (tables 𝓤 𝓛.H 𝓜 𝓡 code.env))
+    (open_meets 𝓛 𝓜.mem 𝓡.run (tables_of 𝓤 𝓛.H 𝓜 (tables 𝓤 𝓛.H 𝓜 𝓡 code.env))
     (cited 𝓤 𝓛.H (Count 𝓛 𝓜.mem 𝓡.run) 𝓜 𝓡 code.env #view·count-of count-def.routine
     code.calls-view::count-of (count-thm.met 𝓤 𝓛 𝓜 𝓡)))

@@ -4,9 +4,9 @@ use Prim.Native.Nat.{◌-◌}
 use lib.ListN.{length}
 use borrow.Author.Rules.{rules}
 use borrow.Author.Tests.{not-true, not-false}
-use Rattle.walks.proofs.Runs.{few-part}
-use Rattle.walks.proofs.Application.{Fitting, element-inside, element-fits, entry-inside, run_fits, none-fitted}
-use Rattle.walks.proofs.Application.{unfit-here, one-fitted, all-fitted}
+use Rattle.walks.proofs.Runs.{few_part}
+use Rattle.walks.proofs.Application.{Fitting, element_inside, element_fits, entry_inside, run_fits, none_fitted}
+use Rattle.walks.proofs.Application.{unfit_here, one_fitted, all_fitted}
 use Rattle.walks.proofs.find_unfit.Statement.{statement}
 use Rattle.walks.proofs.find_unfit.Tie as tie
 
@@ -16,28 +16,28 @@ invariant-loop kinds entries elements at₀ p₀ i₀ at p i = Fitting kinds ent
 abbrev decreases-loop : tie.decreases-loop
 decreases-loop kinds entries elements at₀ p₀ i₀ at p i = length kinds - i
 
-pub find-unfit-spec : {M : Type 1} → statement M
-find-unfit-spec =
+pub find_unfit_spec : {M : Type 1} → statement M
+find_unfit_spec =
     tie.close
     (tie.spec
     invariant-loop
     decreases-loop
-    (λ c. search none-fitted)
+    (λ c. search none_fitted)
     (λ c κs. search rules)
-    (λ c. search element-fits)
+    (λ c. search element_fits)
     (λ c κs. search rules)
-    (λ c κs. (search element-inside, search rules))
+    (λ c κs. (search element_inside, search rules))
     (λ c κs. search rules)
-    (λ c. (search (unfit-here, not-true), search rules))
+    (λ c. (search (unfit_here, not-true), search rules))
     (λ c κs. search rules)
     (λ c. search rules)
     (λ c. search rules)
-    (λ c κs. (search entry-inside, search rules))
+    (λ c κs. (search entry_inside, search rules))
     (λ c. search rules)
     (λ c. search rules)
     (λ c. search rules)
-    (λ c κs. search few-part)
+    (λ c κs. search few_part)
     (λ c. search run_fits)
     (λ c. search rules)
-    (λ c. search (one-fitted, not-false))
-    (λ c. search (all-fitted, rules)))
+    (λ c. search (one_fitted, not-false))
+    (λ c. search (all_fitted, rules)))

@@ -5,9 +5,9 @@ use Prim.Native.Nat.{◌-◌}
 use lib.ListN.{length}
 use borrow.Author.Rules.{rules}
 use Rattle.steps.specs.declared.Walk.{Walk}
-use Rattle.walks.proofs.Rounds.{Sizing, none-sized, all-measured}
-use Rattle.walks.proofs.Lists.{Comparing, none-compared, old-inside, new-inside, place-fits, one-compared}
-use Rattle.walks.proofs.Lists.{difference-sized}
+use Rattle.walks.proofs.Rounds.{Sizing, none_sized, all_measured}
+use Rattle.walks.proofs.Lists.{Comparing, none_compared, old_inside, new_inside, place_fits, one_compared}
+use Rattle.walks.proofs.Lists.{difference_sized}
 use Rattle.walks.proofs.measure_difference.Statement.{statement}
 use Rattle.walks.proofs.measure_difference.Tie as tie
 
@@ -28,27 +28,27 @@ loop-again c =
     let inv = turn.before.loop.invariant in
     let h = turn.loop-test.true in
     let ew = wide.width-at.ensures.0 in (
-      difference-sized inv.1 h ew old.get_at.ensures.0 new.get-at2.ensures.0 inv.0
+      difference_sized inv.1 h ew old.get_at.ensures.0 new.get-at2.ensures.0 inv.0
           counted.count-if.ensures c.size-if.ensures,
-      one-compared inv.1 h ew,
+      one_compared inv.1 h ew,
     )
 
-pub measure-difference-spec : {M : Type 1} → statement M
-measure-difference-spec =
+pub measure_difference_spec : {M : Type 1} → statement M
+measure_difference_spec =
     tie.close
     (tie.spec
     invariant-loop
     decreases-loop
-    (λ c. (search none-sized, search none-compared))
+    (λ c. (search none_sized, search none_compared))
     (λ c κs. search rules)
-    (λ c κs. (search old-inside, search rules))
-    (λ c κs. (search new-inside, search rules))
-    (λ c κs. search rules)
-    (λ c. search rules)
+    (λ c κs. (search old_inside, search rules))
+    (λ c κs. (search new_inside, search rules))
     (λ c κs. search rules)
     (λ c. search rules)
-    (λ c. search place-fits)
+    (λ c κs. search rules)
+    (λ c. search rules)
+    (λ c. search place_fits)
     (λ c. search rules)
     (λ c. search rules)
     loop-again
-    (λ c. search all-measured))
+    (λ c. search all_measured))

@@ -7,9 +7,9 @@ use lib.ListN.{length}
 use borrow.Author.Rules.{rules}
 use borrow.Author.Tests.{not-true, not-false}
 use Rattle.steps.specs.declared.Walk.{Walk}
-use Rattle.steps.proofs.StepLaws.{names-inside}
-use Rattle.walks.proofs.Rounds.{Sizing, none-sized, all-sized}
-use Rattle.walks.proofs.Lists.{cursor-inside, cursor-fits, join-until, join-sized}
+use Rattle.steps.proofs.StepLaws.{names_inside}
+use Rattle.walks.proofs.Rounds.{Sizing, none_sized, all_sized}
+use Rattle.walks.proofs.Lists.{cursor_inside, cursor_fits, join_until, join_sized}
 use Rattle.walks.proofs.measure_join.Statement.{statement}
 use Rattle.walks.proofs.measure_join.Tie as tie
 
@@ -27,7 +27,7 @@ returns c =
     let one = other.before in
     let wide = one.before in
     let turn = wide.before in
-    join-until turn.loop-test.true wide.width-at.ensures.0 one.names.ensures other.names2.ensures
+    join_until turn.loop-test.true wide.width-at.ensures.0 one.names.ensures other.names2.ensures
     turn.before.loop.invariant met.meet-at.ensures (not-true _ c.if1.true)
 
 loop-again : tie.Need-loop-preserved invariant-loop decreases-loop
@@ -43,7 +43,7 @@ loop-again c =
     let one = other.before in
     let wide = one.before in
     let turn = wide.before in
-    join-sized turn.loop-test.true wide.width-at.ensures.0 one.names.ensures other.names2.ensures
+    join_sized turn.loop-test.true wide.width-at.ensures.0 one.names.ensures other.names2.ensures
     turn.before.loop.invariant met.meet-at.ensures (not-false _ agreed.if1.false)
     kept.join_names.ensures counted.count-if.ensures sized.size-if.ensures near.size-if2.ensures
     far.size-if3.ensures c.next.ensures
@@ -54,7 +54,7 @@ add-near c =
     let one = met.before.before in
     let turn = one.before.before in
     record {
-      fits = cursor-fits _ _ _ _ turn.before.loop.invariant.seek.near one.names.ensures
+      fits = cursor_fits _ _ _ _ turn.before.loop.invariant.seek.near one.names.ensures
           c.size-if2.ensures (omega (arith, turn));
     }
 
@@ -64,7 +64,7 @@ add-far c =
     let other = met.before in
     let turn = other.before.before.before in
     record {
-      fits = cursor-fits _ _ _ _ turn.before.loop.invariant.seek.far other.names2.ensures
+      fits = cursor_fits _ _ _ _ turn.before.loop.invariant.seek.far other.names2.ensures
           c.size-if3.ensures (omega (arith, turn));
     }
 
@@ -76,24 +76,24 @@ next-requires c κs =
     let one = other.before in
     let turn = one.before.before in
     let inv = turn.before.loop.invariant in (
-      cursor-inside _ _ _ _ inv.seek.near one.names.ensures near.size-if2.ensures,
-      cursor-inside _ _ _ _ inv.seek.far other.names2.ensures c.size-if3.ensures,
+      cursor_inside _ _ _ _ inv.seek.near one.names.ensures near.size-if2.ensures,
+      cursor_inside _ _ _ _ inv.seek.far other.names2.ensures c.size-if3.ensures,
       omega (arith, turn),
     )
 
-pub measure-join-spec : {M : Type 1} → statement M
-measure-join-spec =
+pub measure_join_spec : {M : Type 1} → statement M
+measure_join_spec =
     tie.close
     (tie.spec
     invariant-loop
     decreases-loop
-    (λ c. search none-sized)
+    (λ c. search none_sized)
     (λ c κs. search rules)
     (λ c κs. search rules)
     (λ c κs. search rules)
-    (λ c κs. (search names-inside, search names-inside, search rules))
+    (λ c κs. (search names_inside, search names_inside, search rules))
     returns
-    (λ c κs. (search names-inside, search names-inside, search rules))
+    (λ c κs. (search names_inside, search names_inside, search rules))
     (λ c κs. search rules)
     (λ c. search rules)
     (λ c κs. search rules)
@@ -106,4 +106,4 @@ measure-join-spec =
     next-requires
     (λ c. search rules)
     loop-again
-    (λ c. search all-sized))
+    (λ c. search all_sized))

@@ -5,9 +5,9 @@ use Prim.Native.Nat.{◌-◌}
 use lib.ListN.{length}
 use borrow.Author.Rules.{rules}
 use Rattle.steps.specs.declared.Walk.{Walk}
-use Rattle.walks.proofs.Rounds.{Putting, none-put, put_keeps, all-put}
-use Rattle.walks.proofs.Lists.{Comparing, none-compared, old-inside, new-inside, place-fits, one-compared}
-use Rattle.walks.proofs.Lists.{difference-fits, difference_inside, difference-long, difference-put}
+use Rattle.walks.proofs.Rounds.{Putting, none_put, put_keeps, all_put}
+use Rattle.walks.proofs.Lists.{Comparing, none_compared, old_inside, new_inside, place_fits, one_compared}
+use Rattle.walks.proofs.Lists.{difference_fits, difference_inside, difference_long, difference_put}
 use Rattle.walks.proofs.put_difference.Statement.{statement}
 use Rattle.walks.proofs.put_difference.Tie as tie
 
@@ -27,7 +27,7 @@ put-change-requires c κs =
     let wide = old.before in
     let turn = wide.before in
     let inv = turn.before.loop.invariant in (
-      difference-long inv.1 turn.loop-test.true wide.width-at.ensures.0 old.get_at.ensures.0
+      difference_long inv.1 turn.loop-test.true wide.width-at.ensures.0 old.get_at.ensures.0
           new.get-at2.ensures.0 made.differ.ensures inv.0 spanned.span.ensures.0,
       wide.width-at.ensures.1,
     )
@@ -44,32 +44,32 @@ loop-again c =
     let inv = turn.before.loop.invariant in
     let h = turn.loop-test.true in
     let ew = wide.width-at.ensures.0 in (
-      difference-put inv.1 h ew old.get_at.ensures.0 new.get-at2.ensures.0 made.differ.ensures inv.0
+      difference_put inv.1 h ew old.get_at.ensures.0 new.get-at2.ensures.0 made.differ.ensures inv.0
           spanned.span.ensures.0 put.put-change.ensures,
-      one-compared inv.1 h ew,
+      one_compared inv.1 h ew,
     )
 
-pub put-difference-spec : {M : Type 1} → statement M
-put-difference-spec =
+pub put_difference_spec : {M : Type 1} → statement M
+put_difference_spec =
     tie.close
     (tie.spec
     invariant-loop
     decreases-loop
-    (λ c. (search none-put, search none-compared))
+    (λ c. (search none_put, search none_compared))
     (λ c κs. search rules)
-    (λ c κs. (search old-inside, search rules))
-    (λ c κs. (search new-inside, search rules))
+    (λ c κs. (search old_inside, search rules))
+    (λ c κs. (search new_inside, search rules))
     (λ c κs. search rules)
     (λ c κs. search rules)
-    (λ c. search difference-fits)
+    (λ c. search difference_fits)
     (λ c. search rules)
     (λ c. search rules)
     (λ c. search difference_inside)
     (λ c. search rules)
     put-change-requires
-    (λ c. search place-fits)
+    (λ c. search place_fits)
     (λ c. search rules)
     (λ c. search rules)
     loop-again
     (λ c. search put_keeps)
-    (λ c. search all-put))
+    (λ c. search all_put))

@@ -6,9 +6,9 @@ use native.Mathlib.Omega.{arith}
 use lib.ListN.{length}
 use borrow.Author.Rules.{rules}
 use Rattle.steps.specs.declared.Walk.{Walk}
-use Rattle.steps.proofs.StepLaws.{names-inside}
-use Rattle.walks.proofs.Rounds.{Putting, none-put, put_keeps, all-put}
-use Rattle.walks.proofs.Lists.{cursor-inside, cursor-fits, join-fits, join-inside, join-long, join-put}
+use Rattle.steps.proofs.StepLaws.{names_inside}
+use Rattle.walks.proofs.Rounds.{Putting, none_put, put_keeps, all_put}
+use Rattle.walks.proofs.Lists.{cursor_inside, cursor_fits, join_fits, join_inside, join_long, join_put}
 use Rattle.walks.proofs.put_joined.Statement.{statement}
 use Rattle.walks.proofs.put_joined.Tie as tie
 
@@ -26,7 +26,7 @@ add-end c =
     let wide = one.before in
     let turn = wide.before in
     record {
-      fits = join-fits turn.loop-test.true wide.width-at.ensures.0 one.names.ensures
+      fits = join_fits turn.loop-test.true wide.width-at.ensures.0 one.names.ensures
           other.names2.ensures turn.before.loop.invariant made.join-change.ensures c.span.ensures.0
           (omega (arith, turn));
     }
@@ -38,7 +38,7 @@ put-change-end c =
     let one = other.before in
     let wide = one.before in
     let turn = wide.before in
-    join-inside turn.loop-test.true wide.width-at.ensures.0 one.names.ensures other.names2.ensures
+    join_inside turn.loop-test.true wide.width-at.ensures.0 one.names.ensures other.names2.ensures
     turn.before.loop.invariant made.join-change.ensures c.span.ensures.0
 
 put-change-requires : tie.Need-put-change-requires invariant-loop decreases-loop
@@ -49,7 +49,7 @@ put-change-requires c κs =
     let one = other.before in
     let wide = one.before in
     let turn = wide.before in (
-      join-long turn.loop-test.true wide.width-at.ensures.0 one.names.ensures other.names2.ensures
+      join_long turn.loop-test.true wide.width-at.ensures.0 one.names.ensures other.names2.ensures
           turn.before.loop.invariant made.join-change.ensures spanned.span.ensures.0,
       wide.width-at.ensures.1,
     )
@@ -65,7 +65,7 @@ loop-again c =
     let one = other.before in
     let wide = one.before in
     let turn = wide.before in
-    join-put turn.loop-test.true wide.width-at.ensures.0 one.names.ensures other.names2.ensures
+    join_put turn.loop-test.true wide.width-at.ensures.0 one.names.ensures other.names2.ensures
     turn.before.loop.invariant made.join-change.ensures spanned.span.ensures.0
     put.put-change.ensures near.size-if.ensures far.size-if2.ensures c.next.ensures
 
@@ -76,7 +76,7 @@ add-near c =
     let one = other.before in
     let turn = one.before.before in
     record {
-      fits = cursor-fits _ _ _ _ turn.before.loop.invariant.near one.names.ensures c.size-if.ensures
+      fits = cursor_fits _ _ _ _ turn.before.loop.invariant.near one.names.ensures c.size-if.ensures
           (omega (arith, turn));
     }
 
@@ -86,7 +86,7 @@ add-far c =
     let other = put.before.before.before.before in
     let turn = other.before.before.before in
     record {
-      fits = cursor-fits _ _ _ _ turn.before.loop.invariant.far other.names2.ensures c.size-if2.ensures
+      fits = cursor_fits _ _ _ _ turn.before.loop.invariant.far other.names2.ensures c.size-if2.ensures
           (omega (arith, turn));
     }
 
@@ -98,22 +98,22 @@ next-requires c κs =
     let one = other.before in
     let turn = one.before.before in
     let inv = turn.before.loop.invariant in (
-      cursor-inside _ _ _ _ inv.near one.names.ensures near.size-if.ensures,
-      cursor-inside _ _ _ _ inv.far other.names2.ensures c.size-if2.ensures,
+      cursor_inside _ _ _ _ inv.near one.names.ensures near.size-if.ensures,
+      cursor_inside _ _ _ _ inv.far other.names2.ensures c.size-if2.ensures,
       omega (arith, turn),
     )
 
-pub put-joined-spec : {M : Type 1} → statement M
-put-joined-spec =
+pub put_joined_spec : {M : Type 1} → statement M
+put_joined_spec =
     tie.close
     (tie.spec
     invariant-loop
     decreases-loop
-    (λ c. search none-put)
+    (λ c. search none_put)
     (λ c κs. search rules)
     (λ c κs. search rules)
     (λ c κs. search rules)
-    (λ c κs. (search names-inside, search names-inside, search rules))
+    (λ c κs. (search names_inside, search names_inside, search rules))
     (λ c κs. search rules)
     add-end
     (λ c. search rules)
@@ -130,4 +130,4 @@ put-joined-spec =
     (λ c. search rules)
     loop-again
     (λ c. search put_keeps)
-    (λ c. search all-put))
+    (λ c. search all_put))

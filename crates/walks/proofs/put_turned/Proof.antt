@@ -6,9 +6,9 @@ use mathlib.Core.List.{[]}
 use lib.ListN.{length}
 use borrow.Author.Rules.{rules}
 use Rattle.steps.specs.declared.Walk.{Walk}
-use Rattle.steps.proofs.StepLaws.{said-inside}
-use Rattle.walks.proofs.Rounds.{Putting, none-put, put_keeps, all-put}
-use Rattle.walks.proofs.Lists.{said_fits, turn-fits, turn_inside, turn-long, turn-put}
+use Rattle.steps.proofs.StepLaws.{said_inside}
+use Rattle.walks.proofs.Rounds.{Putting, none_put, put_keeps, all_put}
+use Rattle.walks.proofs.Lists.{said_fits, turn_fits, turn_inside, turn_long, turn_put}
 use Rattle.walks.proofs.put_turned.Statement.{statement}
 use Rattle.walks.proofs.put_turned.Tie as tie
 
@@ -18,28 +18,28 @@ invariant-loop part₀ kinds entries at₀ p₀ i₀ part at p i = Putting Walk.
 abbrev decreases-loop : tie.decreases-loop
 decreases-loop part₀ kinds entries at₀ p₀ i₀ part at p i = length kinds - i
 
-pub put-turned-spec : {M : Type 1} → statement M
-put-turned-spec =
+pub put_turned_spec : {M : Type 1} → statement M
+put_turned_spec =
     tie.close
     (tie.spec
     invariant-loop
     decreases-loop
-    (λ c. search none-put)
+    (λ c. search none_put)
     (λ c κs. search rules)
     (λ c κs. search rules)
     (λ c κs. search rules)
     (λ c κs. search rules)
-    (λ c. search turn-fits)
+    (λ c. search turn_fits)
     (λ c. search rules)
     (λ c. search rules)
     (λ c. search turn_inside)
     (λ c. search rules)
-    (λ c κs. (search turn-long, search rules))
+    (λ c κs. (search turn_long, search rules))
     (λ c κs. search rules)
     (λ c. search said_fits)
     (λ c. search rules)
-    (λ c κs. (search said-inside, search rules))
+    (λ c κs. (search said_inside, search rules))
     (λ c. search rules)
-    (λ c. search turn-put)
+    (λ c. search turn_put)
     (λ c. search put_keeps)
-    (λ c. search all-put))
+    (λ c. search all_put))

@@ -2,15 +2,15 @@
 -- Written by catalogue/write.py. Assumes nothing.
 use mathlib.Core.Path.{sym, ap}
 use lib.ListN.{get_or-eq_default}
-use Rattle.cases.specs.Cases.{autoRouteCases, autoRouteOf}
+use Rattle.cases.specs.Cases.{auto_route_cases, auto_route_of}
 use Rattle.rows.proofs.Tests.{past}
 use Rattle.cases.proofs.AutoRoute.of.Statement.{statement}
 use Rattle.cases.proofs.AutoRoute.of.Tie as tie
 
 unlisted : tie.Need-returns-5
-unlisted c = sym (get_or-eq_default autoRouteCases _ (past _ 4 c.match.rest))
+unlisted c = sym (get_or-eq_default auto_route_cases _ (past _ 4 c.match.rest))
 
 pub of_spec : {M : Type 1} → statement M
 of_spec =
-    tie.close (tie.spec (λ c. sym (ap autoRouteOf c.match.keys1)) (λ c. sym (ap autoRouteOf c.match.keys2))
-    (λ c. sym (ap autoRouteOf c.match.keys3)) (λ c. sym (ap autoRouteOf c.match.keys4)) unlisted)
+    tie.close (tie.spec (λ c. sym (ap auto_route_of c.match.keys1)) (λ c. sym (ap auto_route_of c.match.keys2))
+    (λ c. sym (ap auto_route_of c.match.keys3)) (λ c. sym (ap auto_route_of c.match.keys4)) unlisted)

@@ -2,15 +2,15 @@
 -- Written by catalogue/write.py. Assumes nothing.
 use mathlib.Core.Path.{sym, ap}
 use lib.ListN.{get_or-eq_default}
-use Rattle.cases.specs.Cases.{boardAspectCases, boardAspectOf}
+use Rattle.cases.specs.Cases.{board_aspect_cases, board_aspect_of}
 use Rattle.rows.proofs.Tests.{past}
 use Rattle.cases.proofs.BoardAspect.of.Statement.{statement}
 use Rattle.cases.proofs.BoardAspect.of.Tie as tie
 
 unlisted : tie.Need-returns-4
-unlisted c = sym (get_or-eq_default boardAspectCases _ (past _ 3 c.match.rest))
+unlisted c = sym (get_or-eq_default board_aspect_cases _ (past _ 3 c.match.rest))
 
 pub of_spec : {M : Type 1} → statement M
 of_spec =
-    tie.close (tie.spec (λ c. sym (ap boardAspectOf c.match.keys1)) (λ c. sym (ap boardAspectOf c.match.keys2))
-    (λ c. sym (ap boardAspectOf c.match.keys3)) unlisted)
+    tie.close (tie.spec (λ c. sym (ap board_aspect_of c.match.keys1)) (λ c. sym (ap board_aspect_of c.match.keys2))
+    (λ c. sym (ap board_aspect_of c.match.keys3)) unlisted)

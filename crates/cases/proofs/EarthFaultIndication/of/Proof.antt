@@ -2,16 +2,16 @@
 -- Written by catalogue/write.py. Assumes nothing.
 use mathlib.Core.Path.{sym, ap}
 use lib.ListN.{get_or-eq_default}
-use Rattle.cases.specs.Cases.{earthFaultIndicationCases, earthFaultIndicationOf}
+use Rattle.cases.specs.Cases.{earth_fault_indication_cases, earth_fault_indication_of}
 use Rattle.rows.proofs.Tests.{past}
 use Rattle.cases.proofs.EarthFaultIndication.of.Statement.{statement}
 use Rattle.cases.proofs.EarthFaultIndication.of.Tie as tie
 
 unlisted : tie.Need-returns-4
-unlisted c = sym (get_or-eq_default earthFaultIndicationCases _ (past _ 3 c.match.rest))
+unlisted c = sym (get_or-eq_default earth_fault_indication_cases _ (past _ 3 c.match.rest))
 
 pub of_spec : {M : Type 1} → statement M
 of_spec =
-    tie.close (tie.spec (λ c. sym (ap earthFaultIndicationOf c.match.keys1))
-    (λ c. sym (ap earthFaultIndicationOf c.match.keys2))
-    (λ c. sym (ap earthFaultIndicationOf c.match.keys3)) unlisted)
+    tie.close (tie.spec (λ c. sym (ap earth_fault_indication_of c.match.keys1))
+    (λ c. sym (ap earth_fault_indication_of c.match.keys2))
+    (λ c. sym (ap earth_fault_indication_of c.match.keys3)) unlisted)

@@ -2,16 +2,16 @@
 -- Written by catalogue/write.py. Assumes nothing.
 use mathlib.Core.Path.{sym, ap}
 use lib.ListN.{get_or-eq_default}
-use Rattle.cases.specs.Cases.{gaugePresenceCases, gaugePresenceOf}
+use Rattle.cases.specs.Cases.{gauge_presence_cases, gauge_presence_of}
 use Rattle.rows.proofs.Tests.{past}
 use Rattle.cases.proofs.GaugePresence.of.Statement.{statement}
 use Rattle.cases.proofs.GaugePresence.of.Tie as tie
 
 unlisted : tie.Need-returns-6
-unlisted c = sym (get_or-eq_default gaugePresenceCases _ (past _ 5 c.match.rest))
+unlisted c = sym (get_or-eq_default gauge_presence_cases _ (past _ 5 c.match.rest))
 
 pub of_spec : {M : Type 1} → statement M
 of_spec =
-    tie.close (tie.spec (λ c. sym (ap gaugePresenceOf c.match.keys1))
-    (λ c. sym (ap gaugePresenceOf c.match.keys2)) (λ c. sym (ap gaugePresenceOf c.match.keys3))
-    (λ c. sym (ap gaugePresenceOf c.match.keys4)) (λ c. sym (ap gaugePresenceOf c.match.keys5)) unlisted)
+    tie.close (tie.spec (λ c. sym (ap gauge_presence_of c.match.keys1))
+    (λ c. sym (ap gauge_presence_of c.match.keys2)) (λ c. sym (ap gauge_presence_of c.match.keys3))
+    (λ c. sym (ap gauge_presence_of c.match.keys4)) (λ c. sym (ap gauge_presence_of c.match.keys5)) unlisted)

@@ -2,16 +2,16 @@
 -- Written by catalogue/write.py. Assumes nothing.
 use mathlib.Core.Path.{sym, ap}
 use lib.ListN.{get_or-eq_default}
-use Rattle.cases.specs.Cases.{legOccupancyCases, legOccupancyOf}
+use Rattle.cases.specs.Cases.{leg_occupancy_cases, leg_occupancy_of}
 use Rattle.rows.proofs.Tests.{past}
 use Rattle.cases.proofs.LegOccupancy.of.Statement.{statement}
 use Rattle.cases.proofs.LegOccupancy.of.Tie as tie
 
 unlisted : tie.Need-returns-5
-unlisted c = sym (get_or-eq_default legOccupancyCases _ (past _ 4 c.match.rest))
+unlisted c = sym (get_or-eq_default leg_occupancy_cases _ (past _ 4 c.match.rest))
 
 pub of_spec : {M : Type 1} → statement M
 of_spec =
-    tie.close (tie.spec (λ c. sym (ap legOccupancyOf c.match.keys1))
-    (λ c. sym (ap legOccupancyOf c.match.keys2)) (λ c. sym (ap legOccupancyOf c.match.keys3))
-    (λ c. sym (ap legOccupancyOf c.match.keys4)) unlisted)
+    tie.close (tie.spec (λ c. sym (ap leg_occupancy_of c.match.keys1))
+    (λ c. sym (ap leg_occupancy_of c.match.keys2)) (λ c. sym (ap leg_occupancy_of c.match.keys3))
+    (λ c. sym (ap leg_occupancy_of c.match.keys4)) unlisted)

@@ -2,15 +2,15 @@
 -- Written by catalogue/write.py. Assumes nothing.
 use mathlib.Core.Path.{sym, ap}
 use lib.ListN.{get_or-eq_default}
-use Rattle.cases.specs.Cases.{legShownCases, legShownOf}
+use Rattle.cases.specs.Cases.{leg_shown_cases, leg_shown_of}
 use Rattle.rows.proofs.Tests.{past}
 use Rattle.cases.proofs.LegShown.of.Statement.{statement}
 use Rattle.cases.proofs.LegShown.of.Tie as tie
 
 unlisted : tie.Need-returns-4
-unlisted c = sym (get_or-eq_default legShownCases _ (past _ 3 c.match.rest))
+unlisted c = sym (get_or-eq_default leg_shown_cases _ (past _ 3 c.match.rest))
 
 pub of_spec : {M : Type 1} → statement M
 of_spec =
-    tie.close (tie.spec (λ c. sym (ap legShownOf c.match.keys1)) (λ c. sym (ap legShownOf c.match.keys2))
-    (λ c. sym (ap legShownOf c.match.keys3)) unlisted)
+    tie.close (tie.spec (λ c. sym (ap leg_shown_of c.match.keys1)) (λ c. sym (ap leg_shown_of c.match.keys2))
+    (λ c. sym (ap leg_shown_of c.match.keys3)) unlisted)

@@ -2,21 +2,21 @@
 -- Written by catalogue/write.py. Assumes nothing.
 use mathlib.Core.Path.{sym, ap}
 use lib.ListN.{get_or-eq_default}
-use Rattle.cases.specs.Cases.{mixedGaugeIndicationCases, mixedGaugeIndicationOf}
+use Rattle.cases.specs.Cases.{mixed_gauge_indication_cases, mixed_gauge_indication_of}
 use Rattle.rows.proofs.Tests.{past}
 use Rattle.cases.proofs.MixedGaugeIndication.of.Statement.{statement}
 use Rattle.cases.proofs.MixedGaugeIndication.of.Tie as tie
 
 unlisted : tie.Need-returns-9
-unlisted c = sym (get_or-eq_default mixedGaugeIndicationCases _ (past _ 8 c.match.rest))
+unlisted c = sym (get_or-eq_default mixed_gauge_indication_cases _ (past _ 8 c.match.rest))
 
 pub of_spec : {M : Type 1} → statement M
 of_spec =
-    tie.close (tie.spec (λ c. sym (ap mixedGaugeIndicationOf c.match.keys1))
-    (λ c. sym (ap mixedGaugeIndicationOf c.match.keys2))
-    (λ c. sym (ap mixedGaugeIndicationOf c.match.keys3))
-    (λ c. sym (ap mixedGaugeIndicationOf c.match.keys4))
-    (λ c. sym (ap mixedGaugeIndicationOf c.match.keys5))
-    (λ c. sym (ap mixedGaugeIndicationOf c.match.keys6))
-    (λ c. sym (ap mixedGaugeIndicationOf c.match.keys7))
-    (λ c. sym (ap mixedGaugeIndicationOf c.match.keys8)) unlisted)
+    tie.close (tie.spec (λ c. sym (ap mixed_gauge_indication_of c.match.keys1))
+    (λ c. sym (ap mixed_gauge_indication_of c.match.keys2))
+    (λ c. sym (ap mixed_gauge_indication_of c.match.keys3))
+    (λ c. sym (ap mixed_gauge_indication_of c.match.keys4))
+    (λ c. sym (ap mixed_gauge_indication_of c.match.keys5))
+    (λ c. sym (ap mixed_gauge_indication_of c.match.keys6))
+    (λ c. sym (ap mixed_gauge_indication_of c.match.keys7))
+    (λ c. sym (ap mixed_gauge_indication_of c.match.keys8)) unlisted)

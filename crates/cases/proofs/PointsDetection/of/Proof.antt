@@ -2,17 +2,17 @@
 -- Written by catalogue/write.py. Assumes nothing.
 use mathlib.Core.Path.{sym, ap}
 use lib.ListN.{get_or-eq_default}
-use Rattle.cases.specs.Cases.{pointsDetectionCases, pointsDetectionOf}
+use Rattle.cases.specs.Cases.{points_detection_cases, points_detection_of}
 use Rattle.rows.proofs.Tests.{past}
 use Rattle.cases.proofs.PointsDetection.of.Statement.{statement}
 use Rattle.cases.proofs.PointsDetection.of.Tie as tie
 
 unlisted : tie.Need-returns-6
-unlisted c = sym (get_or-eq_default pointsDetectionCases _ (past _ 5 c.match.rest))
+unlisted c = sym (get_or-eq_default points_detection_cases _ (past _ 5 c.match.rest))
 
 pub of_spec : {M : Type 1} → statement M
 of_spec =
-    tie.close (tie.spec (λ c. sym (ap pointsDetectionOf c.match.keys1))
-    (λ c. sym (ap pointsDetectionOf c.match.keys2)) (λ c. sym (ap pointsDetectionOf c.match.keys3))
-    (λ c. sym (ap pointsDetectionOf c.match.keys4))
-    (λ c. sym (ap pointsDetectionOf c.match.keys5)) unlisted)
+    tie.close (tie.spec (λ c. sym (ap points_detection_of c.match.keys1))
+    (λ c. sym (ap points_detection_of c.match.keys2)) (λ c. sym (ap points_detection_of c.match.keys3))
+    (λ c. sym (ap points_detection_of c.match.keys4))
+    (λ c. sym (ap points_detection_of c.match.keys5)) unlisted)

@@ -2,16 +2,16 @@
 -- Written by catalogue/write.py. Assumes nothing.
 use mathlib.Core.Path.{sym, ap}
 use lib.ListN.{get_or-eq_default}
-use Rattle.cases.specs.Cases.{routerIndicationCases, routerIndicationOf}
+use Rattle.cases.specs.Cases.{router_indication_cases, router_indication_of}
 use Rattle.rows.proofs.Tests.{past}
 use Rattle.cases.proofs.RouterIndication.of.Statement.{statement}
 use Rattle.cases.proofs.RouterIndication.of.Tie as tie
 
 unlisted : tie.Need-returns-4
-unlisted c = sym (get_or-eq_default routerIndicationCases _ (past _ 3 c.match.rest))
+unlisted c = sym (get_or-eq_default router_indication_cases _ (past _ 3 c.match.rest))
 
 pub of_spec : {M : Type 1} → statement M
 of_spec =
-    tie.close (tie.spec (λ c. sym (ap routerIndicationOf c.match.keys1))
-    (λ c. sym (ap routerIndicationOf c.match.keys2))
-    (λ c. sym (ap routerIndicationOf c.match.keys3)) unlisted)
+    tie.close (tie.spec (λ c. sym (ap router_indication_of c.match.keys1))
+    (λ c. sym (ap router_indication_of c.match.keys2))
+    (λ c. sym (ap router_indication_of c.match.keys3)) unlisted)

@@ -2,16 +2,16 @@
 -- Written by catalogue/write.py. Assumes nothing.
 use mathlib.Core.Path.{sym, ap}
 use lib.ListN.{get_or-eq_default}
-use Rattle.cases.specs.Cases.{sectionOccupancyCases, sectionOccupancyOf}
+use Rattle.cases.specs.Cases.{section_occupancy_cases, section_occupancy_of}
 use Rattle.rows.proofs.Tests.{past}
 use Rattle.cases.proofs.SectionOccupancy.of.Statement.{statement}
 use Rattle.cases.proofs.SectionOccupancy.of.Tie as tie
 
 unlisted : tie.Need-returns-5
-unlisted c = sym (get_or-eq_default sectionOccupancyCases _ (past _ 4 c.match.rest))
+unlisted c = sym (get_or-eq_default section_occupancy_cases _ (past _ 4 c.match.rest))
 
 pub of_spec : {M : Type 1} → statement M
 of_spec =
-    tie.close (tie.spec (λ c. sym (ap sectionOccupancyOf c.match.keys1))
-    (λ c. sym (ap sectionOccupancyOf c.match.keys2)) (λ c. sym (ap sectionOccupancyOf c.match.keys3))
-    (λ c. sym (ap sectionOccupancyOf c.match.keys4)) unlisted)
+    tie.close (tie.spec (λ c. sym (ap section_occupancy_of c.match.keys1))
+    (λ c. sym (ap section_occupancy_of c.match.keys2)) (λ c. sym (ap section_occupancy_of c.match.keys3))
+    (λ c. sym (ap section_occupancy_of c.match.keys4)) unlisted)

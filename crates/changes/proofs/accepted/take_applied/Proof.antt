@@ -1,16 +1,16 @@
 -- `changes::accepted::take_applied` meets its contract: a refusal is the answer, else the entries are taken.
 -- Assumes nothing.
 use borrow.Author.Rules.{rules}
-use Rattle.history.specs.Calls.{applyUnder}
+use Rattle.history.specs.Calls.{apply_under}
 use Rattle.heads.proofs.Parts.{list_inside}
-use Rattle.changes.proofs.Outcomes.{stays, image-sized, apply-takes}
+use Rattle.changes.proofs.Outcomes.{stays, image_sized, apply_takes}
 use Rattle.changes.proofs.accepted.take_applied.Statement.{statement}
 use Rattle.changes.proofs.accepted.take_applied.Tie as tie
 
 returns : tie.Need-returns
 returns c =
     let checked = c.before.before in
-    (checked.check-applies.ensures, stays (applyUnder _ _ _) _ checked.check-applies.ensures c.if1.true)
+    (checked.check-applies.ensures, stays (apply_under _ _ _) _ checked.check-applies.ensures c.if1.true)
 
 returns-2 : tie.Need-returns-2
 returns-2 c =
@@ -20,12 +20,12 @@ returns-2 c =
     let checked = tested.before.before in
     let known = checked.before.before.before.before.before.before in (
       checked.check-applies.ensures,
-      apply-takes _ _ _ known.requires.0 known.requires.1.1.0 known.requires.1.1.1 checked.check-applies.ensures
+      apply_takes _ _ _ known.requires.0 known.requires.1.1.0 known.requires.1.1.1 checked.check-applies.ensures
           tested.if1.false entries.entries-of.ensures (search) took.take-entries.ensures,
     )
 
-pub take-applied-spec : {M : Type 1} → statement M
-take-applied-spec =
+pub take_applied_spec : {M : Type 1} → statement M
+take_applied_spec =
     tie.close
     (tie.spec
     (λ c κs. search rules)
@@ -33,6 +33,6 @@ take-applied-spec =
     returns
     (λ c κs. search list_inside)
     (λ c κs. search list_inside)
-    (λ c κs. (search, (search, search image-sized)))
+    (λ c κs. (search, (search, search image_sized)))
     (λ c. search rules)
     returns-2)

@@ -2,17 +2,17 @@
 -- agree, else the list is written.
 -- Assumes nothing.
 use borrow.Author.Rules.{rules}
-use Rattle.history.proofs.OutputLaws.{leaves-as, refused-leaves}
+use Rattle.history.proofs.OutputLaws.{leaves_as, refused_leaves}
 use Rattle.heads.proofs.Parts.{list_inside}
-use Rattle.changes.proofs.Outcomes.{join_apart, join-misfits, join-size, join_is}
+use Rattle.changes.proofs.Outcomes.{join_apart, join_misfits, join_size, join_is}
 use Rattle.changes.proofs.accepted.write_joined.Statement.{statement}
 use Rattle.changes.proofs.accepted.write_joined.Tie as tie
 
 returns : tie.Need-returns
-returns c = refused-leaves _ _ (search join_apart) c.refused.ensures
+returns c = refused_leaves _ _ (search join_apart) c.refused.ensures
 
 returns-2 : tie.Need-returns-2
-returns-2 c = refused-leaves _ _ (search join-misfits) c.refused-at.ensures
+returns-2 c = refused_leaves _ _ (search join_misfits) c.refused-at.ensures
 
 returns-3 : tie.Need-returns-3
 returns-3 c =
@@ -27,14 +27,14 @@ returns-3 c =
     let start = tested.before in
     let end = start.before in
     let known = end.before.before.before.before.before in
-    leaves-as _
+    leaves_as _
     (join_is _ _ _ known.requires.0 known.requires.1.0 known.requires.1.1 end.to-of.ensures start.from-of.ensures
     tested.if1.false first.entries-of.ensures second.entries-of2.ensures
     sized.measure-join.ensures.found agreed.if2.false from.from-of2.ensures to.to-of2.ensures)
     wrote.write-list.ensures
 
-pub write-joined-spec : {M : Type 1} → statement M
-write-joined-spec =
+pub write_joined_spec : {M : Type 1} → statement M
+write_joined_spec =
     tie.close
     (tie.spec
     (λ c κs. search list_inside)
@@ -49,6 +49,6 @@ write-joined-spec =
     returns-2
     (λ c κs. search list_inside)
     (λ c κs. search list_inside)
-    (λ c κs. (search rules, (tt {0}, search join-size)))
+    (λ c κs. (search rules, (tt {0}, search join_size)))
     (λ c. search rules)
     returns-3)

@@ -2,16 +2,16 @@
 -- Assumes nothing.
 use borrow.Author.Rules.{rules}
 use Rattle.heads.proofs.Parts.{list_inside}
-use Rattle.history.proofs.OutputLaws.{leaves-as}
-use Rattle.changes.proofs.Outcomes.{turn-size, turn_is}
+use Rattle.history.proofs.OutputLaws.{leaves_as}
+use Rattle.changes.proofs.Outcomes.{turn_size, turn_is}
 use Rattle.changes.proofs.accepted.write_turned.Statement.{statement}
 use Rattle.changes.proofs.accepted.write_turned.Tie as tie
 
 returns : tie.Need-returns
-returns c = leaves-as _ (search turn_is) c.before.before.write-list.ensures
+returns c = leaves_as _ (search turn_is) c.before.before.write-list.ensures
 
-pub write-turned-spec : {M : Type 1} → statement M
-write-turned-spec =
+pub write_turned_spec : {M : Type 1} → statement M
+write_turned_spec =
     tie.close
     (tie.spec
     (λ c κs. search list_inside)
@@ -21,6 +21,6 @@ write-turned-spec =
     (λ c. search rules)
     (λ c. search rules)
     (λ c. search rules)
-    (λ c κs. (search rules, (tt {0}, search turn-size)))
+    (λ c κs. (search rules, (tt {0}, search turn_size)))
     (λ c. search rules)
     returns)

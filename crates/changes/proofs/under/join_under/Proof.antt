@@ -2,8 +2,8 @@
 -- where both forms are accepted the operation decides.
 -- Assumes nothing.
 use borrow.Author.Rules.{rules}
-use Rattle.forms.proofs.Accepted.{list-accepted}
-use Rattle.changes.proofs.Calls.{join_first, join-second}
+use Rattle.forms.proofs.Accepted.{list_accepted}
+use Rattle.changes.proofs.Calls.{join_first, join_second}
 use Rattle.changes.proofs.under.join_under.Statement.{statement}
 use Rattle.changes.proofs.under.join_under.Tie as tie
 
@@ -11,16 +11,16 @@ returns : tie.Need-returns
 returns c = join_first _ _ _ _ c.if1.true (search)
 
 returns-2 : tie.Need-returns-2
-returns-2 c = join-second _ _ _ _ c.if2.true (search list-accepted) (search)
+returns-2 c = join_second _ _ _ _ c.if2.true (search list_accepted) (search)
 
-pub join-under-spec : {M : Type 1} → statement M
-join-under-spec =
+pub join_under_spec : {M : Type 1} → statement M
+join_under_spec =
     tie.close
     (tie.spec
     (λ c κs. search rules)
     returns
     (λ c κs. search rules)
     returns-2
-    (λ c κs. (search, (search list-accepted, search list-accepted)))
+    (λ c κs. (search, (search list_accepted, search list_accepted)))
     (λ c. search rules)
     (λ c. c.before.before.write-joined.ensures))

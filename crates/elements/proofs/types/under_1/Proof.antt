@@ -2,15 +2,15 @@
 -- Written by catalogue/write.py. Assumes nothing.
 use mathlib.Core.Path.{sym, ap}
 use Prim.Native.Nat.{ℕ}
-use Rattle.kinds.specs.Kinds.{findIn}
+use Rattle.kinds.specs.Kinds.{find_in}
 use Rattle.kinds.proofs.Lookup.{not_found}
-use Rattle.elements.specs.Types.{typesUnder1}
+use Rattle.elements.specs.Types.{types_under1}
 use Rattle.elements.proofs.types.under_1.Statement.{statement}
 use Rattle.elements.proofs.types.under_1.Tie as tie
 
 other : tie.Need-returns-12
 other c =
-    not_found c.before.args.ty typesUnder1 (
+    not_found c.before.args.ty types_under1 (
       c.match.rest.0.0.0.0.0.0.0.0.0.0.1,
       (
         c.match.rest.0.0.0.0.0.0.0.0.0.1,
@@ -39,16 +39,16 @@ other c =
       ),
     )
 
-pub under-1-spec : {M : Type 1} → statement M
-under-1-spec =
-    tie.close (tie.spec (λ c. sym (ap (λ (n : ℕ). findIn n typesUnder1) c.match.keys1))
-    (λ c. sym (ap (λ (n : ℕ). findIn n typesUnder1) c.match.keys2))
-    (λ c. sym (ap (λ (n : ℕ). findIn n typesUnder1) c.match.keys3))
-    (λ c. sym (ap (λ (n : ℕ). findIn n typesUnder1) c.match.keys4))
-    (λ c. sym (ap (λ (n : ℕ). findIn n typesUnder1) c.match.keys5))
-    (λ c. sym (ap (λ (n : ℕ). findIn n typesUnder1) c.match.keys6))
-    (λ c. sym (ap (λ (n : ℕ). findIn n typesUnder1) c.match.keys7))
-    (λ c. sym (ap (λ (n : ℕ). findIn n typesUnder1) c.match.keys8))
-    (λ c. sym (ap (λ (n : ℕ). findIn n typesUnder1) c.match.keys9))
-    (λ c. sym (ap (λ (n : ℕ). findIn n typesUnder1) c.match.keys10))
-    (λ c. sym (ap (λ (n : ℕ). findIn n typesUnder1) c.match.keys11)) other)
+pub under_1_spec : {M : Type 1} → statement M
+under_1_spec =
+    tie.close (tie.spec (λ c. sym (ap (λ (n : ℕ). find_in n types_under1) c.match.keys1))
+    (λ c. sym (ap (λ (n : ℕ). find_in n types_under1) c.match.keys2))
+    (λ c. sym (ap (λ (n : ℕ). find_in n types_under1) c.match.keys3))
+    (λ c. sym (ap (λ (n : ℕ). find_in n types_under1) c.match.keys4))
+    (λ c. sym (ap (λ (n : ℕ). find_in n types_under1) c.match.keys5))
+    (λ c. sym (ap (λ (n : ℕ). find_in n types_under1) c.match.keys6))
+    (λ c. sym (ap (λ (n : ℕ). find_in n types_under1) c.match.keys7))
+    (λ c. sym (ap (λ (n : ℕ). find_in n types_under1) c.match.keys8))
+    (λ c. sym (ap (λ (n : ℕ). find_in n types_under1) c.match.keys9))
+    (λ c. sym (ap (λ (n : ℕ). find_in n types_under1) c.match.keys10))
+    (λ c. sym (ap (λ (n : ℕ). find_in n types_under1) c.match.keys11)) other)

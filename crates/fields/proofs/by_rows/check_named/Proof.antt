@@ -25,8 +25,8 @@ loop-again c =
 returns-2 : tie.Need-returns-2 invariant-loop decreases-loop
 returns-2 c = search checked
 
-pub check-named-spec : {M : Type 1} → statement M
-check-named-spec =
+pub check_named_spec : {M : Type 1} → statement M
+check_named_spec =
     tie.close
     (tie.spec
     invariant-loop

@@ -3,7 +3,7 @@
 use borrow.Author.Rules.{rules}
 use Prim.Native.Nat.{◌-◌}
 use native.Mathlib.Omega.{arith}
-use Rattle.fields.proofs.Loops.{Showing, showing, shows-on, shown-all}
+use Rattle.fields.proofs.Loops.{Showing, showing, shows_on, shown_all}
 use Rattle.fields.proofs.by_rows.show_rows.Statement.{statement}
 use Rattle.fields.proofs.by_rows.show_rows.Tie as tie
 
@@ -16,14 +16,14 @@ decreases-loop first count values rows fields₀ n₀ k₀ fields n k = count - 
 loop-again : tie.Need-loop-preserved invariant-loop decreases-loop
 loop-again c =
     let tested = c.before.before.before in
-    shows-on tested.before.loop.invariant (omega arith) (omega arith) (omega arith) c.before.highest.ensures
+    shows_on tested.before.loop.invariant (omega arith) (omega arith) (omega arith) c.before.highest.ensures
     (λ x. x.taken) (λ x. x.left) c.if1.branch
 
 returns : tie.Need-returns invariant-loop decreases-loop
-returns c = search shown-all
+returns c = search shown_all
 
-pub show-rows-spec : {M : Type 1} → statement M
-show-rows-spec =
+pub show_rows_spec : {M : Type 1} → statement M
+show_rows_spec =
     tie.close
     (tie.spec
     invariant-loop

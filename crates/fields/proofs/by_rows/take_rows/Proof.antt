@@ -3,7 +3,7 @@
 use borrow.Author.Rules.{rules}
 use Prim.Native.Nat.{◌-◌}
 use native.Mathlib.Omega.{arith}
-use Rattle.fields.proofs.Loops.{Taking, taking, takes-on, taken-all}
+use Rattle.fields.proofs.Loops.{Taking, taking, takes_on, taken_all}
 use Rattle.fields.proofs.by_rows.take_rows.Statement.{statement}
 use Rattle.fields.proofs.by_rows.take_rows.Tie as tie
 
@@ -16,14 +16,14 @@ decreases-loop first count fields rows values₀ n₀ k₀ values n k = count - 
 loop-again : tie.Need-loop-preserved invariant-loop decreases-loop
 loop-again c =
     let tested = c.before.before.before in
-    takes-on tested.before.loop.invariant (omega arith) (omega arith) c.before.highest.ensures (λ x. x.taken)
+    takes_on tested.before.loop.invariant (omega arith) (omega arith) c.before.highest.ensures (λ x. x.taken)
     (λ x. x.left) c.if1.branch
 
 returns : tie.Need-returns invariant-loop decreases-loop
-returns c = search taken-all
+returns c = search taken_all
 
-pub take-rows-spec : {M : Type 1} → statement M
-take-rows-spec =
+pub take_rows_spec : {M : Type 1} → statement M
+take_rows_spec =
     tie.close
     (tie.spec
     invariant-loop

@@ -4,22 +4,22 @@
 use mathlib.Core.Path.{ap, ◌∙◌}
 use borrow.Author.Rules.{rules}
 use Rattle.history.specs.Verdict.{told}
-use Rattle.forms.proofs.UnderPlan.{table-refused, image-starts, image-under, kinds-inside, few-kinds}
+use Rattle.forms.proofs.UnderPlan.{table_refused, image_starts, image_under, kinds_inside, few_kinds}
 use Rattle.forms.proofs.image.check_image.Statement.{statement}
 use Rattle.forms.proofs.image.check_image.Tie as tie
 
 returns : tie.Need-returns
-returns c = table-refused c.before.before.before.outline.ensures c.if1.true (image-starts _ _)
+returns c = table_refused c.before.before.before.outline.ensures c.if1.true (image_starts _ _)
 
 returns-2 : tie.Need-returns-2
-returns-2 c = c.check-image-under.ensures ∙ ap told (search image-under)
+returns-2 c = c.check-image-under.ensures ∙ ap told (search image_under)
 
-pub check-image-spec : {M : Type 1} → statement M
-check-image-spec =
+pub check_image_spec : {M : Type 1} → statement M
+check_image_spec =
     tie.close
     (tie.spec
     (λ c κs. search rules)
     returns
-    (λ c κs. search kinds-inside)
-    (λ c κs. search few-kinds)
+    (λ c κs. search kinds_inside)
+    (λ c κs. search few_kinds)
     returns-2)

@@ -4,34 +4,34 @@ use native.Mathlib.Omega.{arith}
 use mathlib.Core.Path.{◌∙◌}
 use borrow.Author.Rules.{rules}
 use Rattle.tables.proofs.AnswerLaws.{no, yes}
-use Rattle.heads.proofs.Forms.{long-enough}
-use Rattle.heads.proofs.Places.{head-inside, elements-fill}
-use Rattle.forms.proofs.ImageAnswers.{not-whole, other-version, not-under, other-size, by-words}
+use Rattle.heads.proofs.Forms.{long_enough}
+use Rattle.heads.proofs.Places.{head_inside, elements_fill}
+use Rattle.forms.proofs.ImageAnswers.{not_whole, other_version, not_under, other_size, by_words}
 use Rattle.forms.proofs.image.check_image_under.Statement.{statement}
 use Rattle.forms.proofs.image.check_image_under.Tie as tie
 
 returns : tie.Need-returns
-returns c = c.refused.ensures ∙ search (not-whole, no)
+returns c = c.refused.ensures ∙ search (not_whole, no)
 
 returns-2 : tie.Need-returns-2
-returns-2 c = c.refused2.ensures ∙ search (other-version, yes, no)
+returns-2 c = c.refused2.ensures ∙ search (other_version, yes, no)
 
 returns-3 : tie.Need-returns-3
-returns-3 c = c.refused3.ensures ∙ search (not-under, yes, no)
+returns-3 c = c.refused3.ensures ∙ search (not_under, yes, no)
 
 returns-4 : tie.Need-returns-4
 returns-4 c =
     let measured = c.before.before in
     c.refused4.ensures
-    ∙ other-size _ _ _ _ (search yes) (search yes) (search yes) _ measured.before.elements-place.ensures.0 _
+    ∙ other_size _ _ _ _ (search yes) (search yes) (search yes) _ measured.before.elements_place_lem.ensures.0 _
     measured.widths-of.ensures.0 (λ e. omega arith)
 
 elements-of-requires : tie.Need-elements-of-requires
-elements-of-requires c κs = head-inside _ _ c.before.before.elements-place.ensures.0 (omega arith)
+elements-of-requires c κs = head_inside _ _ c.before.before.elements_place_lem.ensures.0 (omega arith)
 
 check-words-requires : tie.Need-check-words-requires
 check-words-requires c κs = (
-  elements-fill _ _ c.before.before.before.elements-place.ensures.0 (omega arith) c.elements-of.ensures,
+  elements_fill _ _ c.before.before.before.elements_place_lem.ensures.0 (omega arith) c.elements-of.ensures,
   search rules,
 )
 
@@ -43,30 +43,30 @@ returns-5 c =
     let version = under.before.before in
     let whole = version.before.before.before in
     c.check-words.ensures
-    ∙ by-words _ _ _ _
+    ∙ by_words _ _ _ _
     (yes whole.before.is_whole.ensures whole.if1.false)
     (yes version.before.is-image-version.ensures version.if2.false)
     (yes under.before.is-under.ensures under.if3.false)
-    _ placed.elements-place.ensures.0
+    _ placed.elements_place_lem.ensures.0
     _ sized.widths-of.ensures.0
     (omega arith)
     _ c.before.elements-of.ensures
 
-pub check-image-under-spec : {M : Type 1} → statement M
-check-image-under-spec =
+pub check_image_under_spec : {M : Type 1} → statement M
+check_image_under_spec =
     tie.close
     (tie.spec
     (λ c κs. search rules)
     (λ c κs. search rules)
     returns
-    (λ c. search (long-enough, rules))
+    (λ c. search (long_enough, rules))
     (λ c κs. search rules)
     (λ c κs. search rules)
     returns-2
-    (λ c κs. search (long-enough, rules))
+    (λ c κs. search (long_enough, rules))
     (λ c κs. search rules)
     returns-3
-    (λ c. search (long-enough, rules))
+    (λ c. search (long_enough, rules))
     (λ c κs. search rules)
     (λ c κs. search rules)
     (λ c. search rules)

@@ -24,8 +24,8 @@ loop-again c = search goes_on
 returns-2 : tie.Need-returns-2 invariant-loop decreases-loop
 returns-2 c = c.accepted.ensures ∙ search ended
 
-pub check-words-spec : {M : Type 1} → statement M
-check-words-spec =
+pub check_words_spec : {M : Type 1} → statement M
+check_words_spec =
     tie.close
     (tie.spec
     invariant-loop

@@ -3,7 +3,7 @@
 use native.Mathlib.Omega.{arith}
 use mathlib.Core.Path.{◌∙◌}
 use borrow.Author.Rules.{rules}
-use Rattle.forms.proofs.ListEntryLaws.{Left, begin, number-inside, stops, goes_on, bytes-over, ended}
+use Rattle.forms.proofs.ListEntryLaws.{Left, begin, number_inside, stops, goes_on, bytes_over, ended}
 use Rattle.forms.proofs.list.check_entries.Statement.{statement}
 use Rattle.forms.proofs.list.check_entries.Tie as tie
 
@@ -18,19 +18,19 @@ returns c = search stops
 
 add_low : tie.Need-overflow-add-low invariant-loop decreases-loop
 add_low c =
-    omega (arith, number-inside _ _ _ _ c.before.before.before.check-entry.ensures c.before.entry2.given.1)
+    omega (arith, number_inside _ _ _ _ c.before.before.before.check-entry.ensures c.before.entry2.given.1)
 
 loop-again : tie.Need-loop-preserved invariant-loop decreases-loop
 loop-again c = search goes_on
 
 returns-2 : tie.Need-returns-2 invariant-loop decreases-loop
-returns-2 c = c.refused.ensures ∙ search bytes-over
+returns-2 c = c.refused.ensures ∙ search bytes_over
 
 returns-3 : tie.Need-returns-3 invariant-loop decreases-loop
 returns-3 c = c.accepted.ensures ∙ search ended
 
-pub check-entries-spec : {M : Type 1} → statement M
-check-entries-spec =
+pub check_entries_spec : {M : Type 1} → statement M
+check_entries_spec =
     tie.close
     (tie.spec
     invariant-loop

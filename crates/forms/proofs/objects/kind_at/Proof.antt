@@ -2,7 +2,7 @@
 -- Assumes nothing.
 use mathlib.Core.Path.{◌∙◌}
 use borrow.Author.Rules.{rules}
-use Rattle.forms.proofs.KindLaws.{kind-is}
+use Rattle.forms.proofs.KindLaws.{kind_is_lem}
 use Rattle.forms.proofs.objects.kind_at.Statement.{statement}
 use Rattle.forms.proofs.objects.kind_at.Tie as tie
 
@@ -15,7 +15,7 @@ kind-numbered-requires c κs = search rules
 returns : tie.Need-returns
 returns c =
     let a = c.before.before.before.args in
-    c.kind-numbered.ensures ∙ kind-is a.kinds.now a.i
+    c.kind-numbered.ensures ∙ kind_is_lem a.kinds.now a.i
 
-pub kind-at-spec : {M : Type 1} → statement M
-kind-at-spec = tie.close (tie.spec shared-slice-read-kind-numbered kind-numbered-requires returns)
+pub kind_at_spec : {M : Type 1} → statement M
+kind_at_spec = tie.close (tie.spec shared-slice-read-kind-numbered kind-numbered-requires returns)

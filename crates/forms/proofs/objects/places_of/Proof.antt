@@ -14,8 +14,8 @@ invariant-loop kinds places₀ at₀ i₀ places at i = Placing kinds places at 
 abbrev decreases-loop : tie.decreases-loop
 decreases-loop kinds places₀ at₀ i₀ places at i = length kinds - i
 
-pub places-of-spec : {M : Type 1} → statement M
-places-of-spec =
+pub places_of_spec : {M : Type 1} → statement M
+places_of_spec =
     tie.close
     (tie.spec
     invariant-loop

@@ -5,7 +5,7 @@ use native.Mathlib.Omega.{arith}
 use lib.ListN.{length}
 use borrow.Author.Rules.{rules}
 use Rattle.history.proofs.ElementLaws.{width_few}
-use Rattle.forms.proofs.KindLaws.{Summed, none, one_more, all-summed}
+use Rattle.forms.proofs.KindLaws.{Summed, none, one_more, all_summed}
 use Rattle.forms.proofs.objects.widths_of.Statement.{statement}
 use Rattle.forms.proofs.objects.widths_of.Tie as tie
 
@@ -39,10 +39,10 @@ loop-again c =
     c.width.ensures.0
 
 returns : tie.Need-returns invariant-loop decreases-loop
-returns c = all-summed c.before.loop.invariant (omega arith) (omega arith)
+returns c = all_summed c.before.loop.invariant (omega arith) (omega arith)
 
-pub widths-of-spec : {M : Type 1} → statement M
-widths-of-spec =
+pub widths_of_spec : {M : Type 1} → statement M
+widths_of_spec =
     tie.close
     (tie.spec
     invariant-loop

@@ -11,5 +11,5 @@ returns c = simp (lt-ltb _ _ c.if1.true)
 returns-2 : tie.Need-returns-2
 returns-2 c = simp (le-ltb _ _ c.if1.false)
 
-pub capped-spec : {M : Type 1} → statement M
-capped-spec = tie.close (tie.spec (λ c. search rules) returns returns-2)
+pub capped_spec : {M : Type 1} → statement M
+capped_spec = tie.close (tie.spec (λ c. search rules) returns returns-2)

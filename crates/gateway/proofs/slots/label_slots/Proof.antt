@@ -4,16 +4,16 @@
 use mathlib.Core.Path.{◌∙◌, ap}
 use native.Mathlib.Omega.{arith}
 use borrow.Author.Rules.{rules}
-use Rattle.gateway.specs.Slots.{labelSlots}
-use Rattle.gateway.proofs.CallLaws.{offset-few, size_few}
+use Rattle.gateway.specs.Slots.{label_slots}
+use Rattle.gateway.proofs.CallLaws.{offset_few, size_few}
 use Rattle.gateway.proofs.slots.label_slots.Statement.{statement}
 use Rattle.gateway.proofs.slots.label_slots.Tie as tie
 
 returns : tie.Need-returns
-unfolding labelSlots
-returns c = c.slots.ensures ∙ ap labelSlots c.before.before.before.label-place.ensures.whole
+unfolding label_slots
+returns c = c.slots.ensures ∙ ap label_slots c.before.before.before.label-place.ensures.whole
 
-pub label-slots-spec : {M : Type 1} → statement M
-label-slots-spec =
-    tie.close (tie.spec (λ c κs. search rules) (λ c. omega (arith, offset-few)) (λ c. omega (arith, size_few))
+pub label_slots_spec : {M : Type 1} → statement M
+label_slots_spec =
+    tie.close (tie.spec (λ c κs. search rules) (λ c. omega (arith, offset_few)) (λ c. omega (arith, size_few))
     (λ c κs. search rules) returns)

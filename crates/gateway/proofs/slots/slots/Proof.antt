@@ -8,5 +8,5 @@ use Rattle.gateway.proofs.slots.slots.Tie as tie
 returns : tie.Need-returns
 returns c = refl
 
-pub slots-spec : {M : Type 1} → statement M
-slots-spec = tie.close (tie.spec (λ c. search rules) (λ c. search rules) (λ c. search rules) returns)
+pub slots_spec : {M : Type 1} → statement M
+slots_spec = tie.close (tie.spec (λ c. search rules) (λ c. search rules) (λ c. search rules) returns)

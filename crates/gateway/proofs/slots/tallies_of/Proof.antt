@@ -7,5 +7,5 @@ use Rattle.gateway.proofs.slots.tallies_of.Tie as tie
 returns : tie.Need-returns
 returns c = refl
 
-pub tallies-of-spec : {M : Type 1} → statement M
-tallies-of-spec = tie.close (tie.spec returns)
+pub tallies_of_spec : {M : Type 1} → statement M
+tallies_of_spec = tie.close (tie.spec returns)

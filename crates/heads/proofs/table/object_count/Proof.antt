@@ -2,17 +2,17 @@
 -- Assumes nothing.
 use native.Mathlib.Omega.{arith}
 use borrow.Author.Rules.{rules}
-use Rattle.heads.specs.Heads.{countIn, objectsPlace}
+use Rattle.heads.specs.Heads.{count_in, objects_place}
 use Rattle.heads.proofs.table.object_count.Statement.{statement}
 use Rattle.heads.proofs.table.object_count.Tie as tie
 
 get-at-requires : tie.Need-get-at-requires
-unfolding objectsPlace
+unfolding objects_place
 get-at-requires c κs = (omega arith, omega arith)
 
 returns : tie.Need-returns
-unfolding countIn
+unfolding count_in
 returns c = c.get_at.ensures.0
 
-pub object-count-spec : {M : Type 1} → statement M
-object-count-spec = tie.close (tie.spec get-at-requires (λ c. search rules) returns)
+pub object_count_spec : {M : Type 1} → statement M
+object_count_spec = tie.close (tie.spec get-at-requires (λ c. search rules) returns)

@@ -15,5 +15,5 @@ cast-result c = omega (arith, c.shared-slice-known.given c.before.args.at)
 returns : tie.Need-returns
 returns c = (refl, omega (arith, c.shared-slice-known.given c.before.args.at))
 
-pub byte-at-spec : {M : Type 1} → statement M
-byte-at-spec = tie.close (tie.spec shared-slice-read-result cast-result returns)
+pub byte_at_spec : {M : Type 1} → statement M
+byte_at_spec = tie.close (tie.spec shared-slice-read-result cast-result returns)

@@ -24,5 +24,5 @@ returns-2 c = other _ _ (omega arith) _ c.before.get_at.ensures.0 (omega arith)
 returns-3 : tie.Need-returns-3
 returns-3 c = fills _ _ (omega arith) _ c.before.get_at.ensures.0 (omega arith)
 
-pub is-whole-spec : {M : Type 1} → statement M
-is-whole-spec = tie.close (tie.spec returns get-at-requires cast-if2 add-if2 returns-2 returns-3)
+pub is_whole_spec : {M : Type 1} → statement M
+is_whole_spec = tie.close (tie.spec returns get-at-requires cast-if2 add-if2 returns-2 returns-3)

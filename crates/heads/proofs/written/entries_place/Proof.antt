@@ -2,12 +2,12 @@
 -- Assumes nothing.
 use native.Mathlib.Omega.{arith}
 use mathlib.Core.Path.{sym}
-use Rattle.heads.proofs.Places.{entries-place}
+use Rattle.heads.proofs.Places.{entries_place_lem}
 use Rattle.heads.proofs.written.entries_place.Statement.{statement}
 use Rattle.heads.proofs.written.entries_place.Tie as tie
 
 returns : tie.Need-returns
-returns c = (sym entries-place, omega arith)
+returns c = (sym entries_place_lem, omega arith)
 
-pub entries-place-spec : {M : Type 1} → statement M
-entries-place-spec = tie.close (tie.spec returns)
+pub entries_place_spec : {M : Type 1} → statement M
+entries_place_spec = tie.close (tie.spec returns)

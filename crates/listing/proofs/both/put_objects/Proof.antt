@@ -5,8 +5,8 @@ use Prim.Native.Nat.{◌-◌}
 use native.Mathlib.Omega.{arith}
 use lib.ListN.{length}
 use borrow.Author.Rules.{rules}
-use Rattle.listing.proofs.PanelLaws.{position-inside}
-use Rattle.listing.proofs.WalkLaws.{Walked, begin, ended, entries-left, label_inside, element-inside, has_room}
+use Rattle.listing.proofs.PanelLaws.{position_inside}
+use Rattle.listing.proofs.WalkLaws.{Walked, begin, ended, entries_left, label_inside, element_inside, has_room}
 use Rattle.listing.proofs.WalkLaws.{goes_on}
 use Rattle.listing.proofs.both.put_objects.Statement.{statement}
 use Rattle.listing.proofs.both.put_objects.Tie as tie
@@ -30,28 +30,28 @@ same_length c = c.before.loop.invariant.kept
 returns : tie.Need-returns invariant-loop decreases-loop
 returns c = ended c.before.loop.invariant (omega arith)
 
-pub put-objects-spec : {M : Type 1} → statement M
-put-objects-spec =
+pub put_objects_spec : {M : Type 1} → statement M
+put_objects_spec =
     tie.close
     (tie.spec
     invariant-loop
     decreases-loop
-    (λ c κs. search position-inside)
+    (λ c κs. search position_inside)
     (λ c κs. search rules)
     loop-holds
-    (λ c. omega (arith, entries-left))
+    (λ c. omega (arith, entries_left))
     (λ c κs. search label_inside)
     (λ c κs. omega arith)
     (λ c κs. search rules)
     (λ c. omega arith)
     (λ c. omega arith)
-    (λ c. omega (arith, entries-left))
+    (λ c. omega (arith, entries_left))
     (λ c. omega arith)
     (λ c. search rules)
     (λ c. search label_inside)
     (λ c. omega arith)
     (λ c. search rules)
-    (λ c. search element-inside)
+    (λ c. search element_inside)
     (λ c κs. search has_room)
     (λ c. omega arith)
     (λ c. omega arith)

@@ -8,5 +8,5 @@ use Rattle.listing.proofs.lines.put_number.Tie as tie
 returns : tie.Need-returns
 returns c = search numbered
 
-pub put-number-spec : {M : Type 1} → statement M
-put-number-spec = tie.close (tie.spec (λ c κs. search rules) (λ c κs. search rules) (λ c. search rules) returns)
+pub put_number_spec : {M : Type 1} → statement M
+put_number_spec = tie.close (tie.spec (λ c κs. search rules) (λ c κs. search rules) (λ c. search rules) returns)

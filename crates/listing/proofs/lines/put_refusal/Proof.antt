@@ -2,15 +2,15 @@
 -- Assumes nothing.
 use native.Mathlib.Omega.{arith}
 use borrow.Author.Rules.{rules}
-use Rattle.listing.proofs.LineLaws.{room, refused-line}
+use Rattle.listing.proofs.LineLaws.{room, refused_line_lem}
 use Rattle.listing.proofs.lines.put_refusal.Statement.{statement}
 use Rattle.listing.proofs.lines.put_refusal.Tie as tie
 
 returns : tie.Need-returns
-returns c = search (rules, refused-line)
+returns c = search (rules, refused_line_lem)
 
-pub put-refusal-spec : {M : Type 1} → statement M
-put-refusal-spec =
+pub put_refusal_spec : {M : Type 1} → statement M
+put_refusal_spec =
     tie.close
     (tie.spec
     (λ c. search rules)

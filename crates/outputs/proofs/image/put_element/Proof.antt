@@ -2,7 +2,7 @@
 -- image, then the position is set.
 -- Assumes nothing.
 use borrow.Author.Rules.{rules}
-use Rattle.outputs.proofs.Images.{put-inside, put-head, put-done}
+use Rattle.outputs.proofs.Images.{put_inside, put_head, put_done}
 use Rattle.outputs.proofs.image.put_element.Statement.{statement}
 use Rattle.outputs.proofs.image.put_element.Tie as tie
 
@@ -14,14 +14,14 @@ finish-requires c κs =
     let place = kind.before in
     let head = place.before in
     let known = head.before.before.before.before in
-    put-head _ _ known.requires.1 _ (search) known.requires.0.0 known.requires.0.1 place.place_of.ensures.0
+    put_head _ _ known.requires.1 _ (search) known.requires.0.0 known.requires.0.1 place.place_of.ensures.0
     kind.kind_at.ensures width.width.ensures.0 0 _ put.put.ensures
 
 returns : tie.Need-returns
-returns c = search put-done
+returns c = search put_done
 
-pub put-element-spec : {M : Type 1} → statement M
-put-element-spec =
+pub put_element_spec : {M : Type 1} → statement M
+put_element_spec =
     tie.close
     (tie.spec
     (λ c κs. search rules)
@@ -32,7 +32,7 @@ put-element-spec =
     (λ c. search rules)
     (λ c. search rules)
     (λ c. search rules)
-    (λ c. search put-inside)
+    (λ c. search put_inside)
     (λ c κs. search rules)
     finish-requires
     (λ c. search rules)

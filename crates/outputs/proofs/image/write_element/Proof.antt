@@ -2,24 +2,24 @@
 -- Assumes nothing.
 use native.Mathlib.Omega.{arith}
 use borrow.Author.Rules.{rules}
-use Rattle.history.proofs.OutputLaws.{short-leaves}
-use Rattle.outputs.specs.Outputs.{imageWith}
-use Rattle.outputs.proofs.Images.{few_bytes, length-with, copied-sized, copied-leaves}
+use Rattle.history.proofs.OutputLaws.{short_leaves}
+use Rattle.outputs.specs.Outputs.{image_with}
+use Rattle.outputs.proofs.Images.{few_bytes, length_with, copied_sized, copied_leaves}
 use Rattle.outputs.proofs.image.write_element.Statement.{statement}
 use Rattle.outputs.proofs.image.write_element.Tie as tie
 
 returns : tie.Need-returns
-returns c = short-leaves _ _ (search length-with) c.before.if1.true c.short.ensures
+returns c = short_leaves _ _ (search length_with) c.before.if1.true c.short.ensures
 
 returns-2 : tie.Need-returns-2
 returns-2 c =
     let changed = c.before.before.before in
     let copied = changed.before.before.before.before in
-    copied-leaves _ _ (omega arith) copied.copy.ensures (imageWith _ _ _ _) (search length-with)
+    copied_leaves _ _ (omega arith) copied.copy.ensures (image_with _ _ _ _) (search length_with)
     c.written.ensures changed.put-element.ensures
 
-pub write-element-spec : {M : Type 1} → statement M
-write-element-spec =
+pub write_element_spec : {M : Type 1} → statement M
+write_element_spec =
     tie.close
     (tie.spec
     (λ c. search few_bytes)
@@ -32,7 +32,7 @@ write-element-spec =
     (λ c. search rules)
     (λ c. search rules)
     (λ c. search rules)
-    (λ c κs. (search rules, search copied-sized))
+    (λ c κs. (search rules, search copied_sized))
     (λ c. search few_bytes)
     (λ c κs. search rules)
     (λ c. search rules)

@@ -6,8 +6,8 @@ use native.Mathlib.Omega.{arith}
 use mathlib.Core.Path.{refl}
 use lib.ListN.{length}
 use borrow.Author.Rules.{rules}
-use Rattle.receiver.proofs.Turns.{image-small, Taking, none_yet, all-taken, turn_on, turn_inside, turn-refused}
-use Rattle.receiver.proofs.Turns.{turn-taken, turn-keeps, keeps}
+use Rattle.receiver.proofs.Turns.{image_small, Taking, none_yet, all_taken, turn_on, turn_inside, turn_refused}
+use Rattle.receiver.proofs.Turns.{turn_taken, turn_keeps, keeps}
 use Rattle.receiver.proofs.backlog.take_lists.Statement.{statement}
 use Rattle.receiver.proofs.backlog.take_lists.Tie as tie
 
@@ -19,7 +19,7 @@ abbrev decreases-loop : tie.decreases-loop
 decreases-loop x y kinds lists image₀ size counted₀ taken₀ at₀ image counted taken at = length lists - at
 
 cast-size : tie.Need-overflow-cast-size invariant-loop decreases-loop
-cast-size c = search image-small
+cast-size c = search image_small
 
 loop-holds : tie.Need-loop-init invariant-loop decreases-loop
 loop-holds c = search none_yet
@@ -37,7 +37,7 @@ same_length : tie.Need-same-length invariant-loop decreases-loop
 same_length c =
     let turn = c.before.before.before.before.before.before.before in
     let loop = turn.before.before.before in
-    turn-keeps loop.loop.invariant (omega arith) turn.take_next.ensures (omega arith)
+    turn_keeps loop.loop.invariant (omega arith) turn.take_next.ensures (omega arith)
     loop.before.before.shared-slice-known3.given
 
 returns : tie.Need-returns invariant-loop decreases-loop
@@ -45,7 +45,7 @@ returns c =
     let counted = c.before.before.before in
     let turn = counted.before.before.before.before in
     let loop = turn.before.before.before in
-    turn-refused loop.loop.invariant (omega arith) turn.take_next.ensures counted.count.ensures
+    turn_refused loop.loop.invariant (omega arith) turn.take_next.ensures counted.count.ensures
     c.before.if1.true refl c.with-length.ensures
 
 add-taken : tie.Need-overflow-add-taken invariant-loop decreases-loop
@@ -80,7 +80,7 @@ loop-again c =
     let counted = c.before.before.before in
     let turn = counted.before.before.before.before in
     let loop = turn.before.before.before in
-    turn-taken loop.loop.invariant (omega arith) turn.take_next.ensures counted.count.ensures (omega arith)
+    turn_taken loop.loop.invariant (omega arith) turn.take_next.ensures counted.count.ensures (omega arith)
     loop.before.before.shared-slice-known3.given (omega arith)
 
 written-requires : tie.Need-written-requires invariant-loop decreases-loop
@@ -90,10 +90,10 @@ same-length-2 : tie.Need-same-length-2 invariant-loop decreases-loop
 same-length-2 c = search keeps
 
 returns-2 : tie.Need-returns-2 invariant-loop decreases-loop
-returns-2 c = search all-taken
+returns-2 c = search all_taken
 
-pub take-lists-spec : {M : Type 1} → statement M
-take-lists-spec =
+pub take_lists_spec : {M : Type 1} → statement M
+take_lists_spec =
     tie.close
     (tie.spec
     invariant-loop

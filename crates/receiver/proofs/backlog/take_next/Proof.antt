@@ -5,8 +5,8 @@ use Rattle.receiver.proofs.Turns.{turned}
 use Rattle.receiver.proofs.backlog.take_next.Statement.{statement}
 use Rattle.receiver.proofs.backlog.take_next.Tie as tie
 
-pub take-next-spec : {M : Type 1} → statement M
-take-next-spec =
+pub take_next_spec : {M : Type 1} → statement M
+take_next_spec =
     tie.close
     (tie.spec
     (λ c. search rules)

@@ -2,12 +2,12 @@
 -- Assumes nothing.
 use native.Mathlib.Omega.{arith}
 use borrow.Author.Rules.{rules}
-use Rattle.tables.proofs.LabelLaws.{label-part}
+use Rattle.tables.proofs.LabelLaws.{label_part}
 use Rattle.tables.proofs.labels.check_label_at.Statement.{statement}
 use Rattle.tables.proofs.labels.check_label_at.Tie as tie
 
-pub check-label-at-spec : {M : Type 1} → statement M
-check-label-at-spec =
+pub check_label_at_spec : {M : Type 1} → statement M
+check_label_at_spec =
     tie.close
     (tie.spec
     (λ c. search rules)
@@ -17,4 +17,4 @@ check-label-at-spec =
     (λ c. search rules)
     (λ c. search rules)
     (λ c κs. omega arith)
-    (λ c. search label-part))
+    (λ c. search label_part))

@@ -3,7 +3,7 @@
 use Prim.Native.Nat.{◌-◌}
 use native.Mathlib.Omega.{arith}
 use borrow.Author.Rules.{rules}
-use Rattle.tables.proofs.TableLaws.{CursorAt, cursor-first, cursor-last, two-there, cursor-next}
+use Rattle.tables.proofs.TableLaws.{CursorAt, cursor_first, cursor_last, two_there, cursor_next}
 use Rattle.tables.proofs.place.entry_place.Statement.{statement}
 use Rattle.tables.proofs.place.entry_place.Tie as tie
 
@@ -13,17 +13,17 @@ invariant-loop table object at₀ j₀ at j = CursorAt table object j at
 abbrev decreases-loop : tie.decreases-loop
 decreases-loop table object at₀ j₀ at j = object - j
 
-pub entry-place-spec : {M : Type 1} → statement M
-entry-place-spec =
+pub entry_place_spec : {M : Type 1} → statement M
+entry_place_spec =
     tie.close
     (tie.spec
     invariant-loop
     decreases-loop
     (λ c κs. search rules)
-    (λ c. search cursor-first)
-    (λ c κs. search two-there)
+    (λ c. search cursor_first)
+    (λ c κs. search two_there)
     (λ c. omega arith)
     (λ c. omega arith)
     (λ c. omega arith)
-    (λ c. search cursor-next)
-    (λ c. search cursor-last))
+    (λ c. search cursor_next)
+    (λ c. search cursor_last))

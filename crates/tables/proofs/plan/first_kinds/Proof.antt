@@ -9,5 +9,5 @@ use Rattle.tables.proofs.plan.first_kinds.Tie as tie
 slice-aggregate-result : tie.Need-slice-aggregate-result
 slice-aggregate-result c = sym (length-take-le _ _ (search rules))
 
-pub first-kinds-spec : {M : Type 1} → statement M
-first-kinds-spec = tie.close (tie.spec slice-aggregate-result (λ c. search rules))
+pub first_kinds_spec : {M : Type 1} → statement M
+first_kinds_spec = tie.close (tie.spec slice-aggregate-result (λ c. search rules))

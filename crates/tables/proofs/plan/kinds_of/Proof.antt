@@ -4,8 +4,8 @@
 use Prim.Native.Nat.{◌-◌}
 use native.Mathlib.Omega.{arith}
 use borrow.Author.Rules.{rules}
-use Rattle.tables.proofs.TableLaws.{two-there, type-there}
-use Rattle.tables.proofs.PlanLaws.{Filling, begin, turn, all-filled}
+use Rattle.tables.proofs.TableLaws.{two_there, type_there}
+use Rattle.tables.proofs.PlanLaws.{Filling, begin, turn, all_filled}
 use Rattle.tables.proofs.plan.kinds_of.Statement.{statement}
 use Rattle.tables.proofs.plan.kinds_of.Tie as tie
 
@@ -15,8 +15,8 @@ invariant-loop table count kinds₀ at₀ i₀ kinds at i = Filling table count 
 abbrev decreases-loop : tie.decreases-loop
 decreases-loop table count kinds₀ at₀ i₀ kinds at i = count - i
 
-pub kinds-of-spec : {M : Type 1} → statement M
-kinds-of-spec =
+pub kinds_of_spec : {M : Type 1} → statement M
+kinds_of_spec =
     tie.close
     (tie.spec
     invariant-loop
@@ -24,12 +24,12 @@ kinds-of-spec =
     (λ c κs. search rules)
     (λ c. search begin)
     (λ c. omega arith)
-    (λ c. search type-there)
+    (λ c. search type_there)
     (λ c κs. search rules)
     (λ c. omega arith)
-    (λ c κs. search two-there)
+    (λ c κs. search two_there)
     (λ c. omega arith)
     (λ c. omega arith)
     (λ c. omega arith)
     (λ c. search turn)
-    (λ c. search all-filled))
+    (λ c. search all_filled))

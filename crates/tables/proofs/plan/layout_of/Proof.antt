@@ -2,12 +2,12 @@
 -- Assumes nothing.
 use mathlib.Core.Path.{◌∙◌, ap}
 use borrow.Author.Rules.{rules}
-use Rattle.kinds.specs.Kinds.{layoutNo}
+use Rattle.kinds.specs.Kinds.{layout_no}
 use Rattle.tables.proofs.plan.layout_of.Statement.{statement}
 use Rattle.tables.proofs.plan.layout_of.Tie as tie
 
 returns : tie.Need-returns
-returns c = c.layout-number.ensures ∙ ap layoutNo c.before.kind-of.ensures
+returns c = c.layout-number.ensures ∙ ap layout_no c.before.kind-of.ensures
 
-pub layout-of-spec : {M : Type 1} → statement M
-layout-of-spec = tie.close (tie.spec (λ c κs. search rules) (λ c κs. search rules) returns)
+pub layout_of_spec : {M : Type 1} → statement M
+layout_of_spec = tie.close (tie.spec (λ c κs. search rules) (λ c κs. search rules) returns)

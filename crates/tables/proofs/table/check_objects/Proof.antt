@@ -8,12 +8,12 @@ use mathlib.Core.Path.{◌∙◌}
 use mathlib.Core.Logic.{⊎_elim}
 use lib.ListN.{length}
 use borrow.Author.Rules.{rules}
-use Rattle.tables.proofs.EntryLaws.{found-two, found-few}
-use Rattle.tables.proofs.RepeatLaws.{Agree, agree-none, agree-more}
-use Rattle.tables.proofs.ChainLaws.{Chained, chain-begins, head-low}
-use Rattle.tables.proofs.RoundLaws.{Walking, walk_begins, walk-stops, end-over, end-good, Searching}
-use Rattle.tables.proofs.RoundLaws.{search-begins, goes-by-size, goes-by-type, goes-by-byte, was-fits}
-use Rattle.tables.proofs.RoundLaws.{search-finds, walk-next, chained-next}
+use Rattle.tables.proofs.EntryLaws.{found_two, found_few}
+use Rattle.tables.proofs.RepeatLaws.{Agree, agree_none, agree_more}
+use Rattle.tables.proofs.ChainLaws.{Chained, chain_begins, head_low}
+use Rattle.tables.proofs.RoundLaws.{Walking, walk_begins, walk_stops, end_over, end_good, Searching}
+use Rattle.tables.proofs.RoundLaws.{search_begins, goes_by_size, goes_by_type, goes_by_byte, was_fits}
+use Rattle.tables.proofs.RoundLaws.{search_finds, walk_next, chained_next}
 use Rattle.tables.proofs.table.check_objects.Statement.{statement}
 use Rattle.tables.proofs.table.check_objects.Tie as tie
 
@@ -42,7 +42,7 @@ mul-j : tie.Need-overflow-mul-j invariant-bytes decreases-bytes invariant-earlie
 mul-j c =
     omega (
       arith,
-      found-few _ _ _ c.before.before.before.before.check-object.ensures c.before.before.own.given.1,
+      found_few _ _ _ c.before.before.before.before.check-object.ensures c.before.before.own.given.1,
     )
 
 cast-j : tie.Need-overflow-cast-j invariant-bytes decreases-bytes invariant-earlier decreases-earlier invariant-entries decreases-entries
@@ -50,40 +50,40 @@ cast-j c =
     let checked = c.before.before.before.before in
     omega (
       arith,
-      head-low checked.before.before.entries.invariant.1 _
-          (found-few _ _ _ checked.check-object.ensures c.before.before.own.given.1),
+      head_low checked.before.before.entries.invariant.1 _
+          (found_few _ _ _ checked.check-object.ensures c.before.before.own.given.1),
     )
 
 earlier-again-2 : tie.Need-earlier-preserved-2 invariant-bytes decreases-bytes invariant-earlier decreases-earlier invariant-entries decreases-entries
 earlier-again-2 c =
     let turn = c.before.before.before.before.before in
-    goes-by-size turn.before.earlier.invariant turn.earlier-test.true _ c.before.entry-size2.ensures.0
+    goes_by_size turn.before.earlier.invariant turn.earlier-test.true _ c.before.entry-size2.ensures.0
     (λ z. omega (arith, c.if2.true))
 
 bytes-holds : tie.Need-bytes-init invariant-bytes decreases-bytes invariant-earlier decreases-earlier invariant-entries decreases-entries
 bytes-holds c =
     let turn = c.before.before.before.before.before in (
       omega arith,
-      was-fits turn.before.earlier.invariant turn.earlier-test.true _ c.before.entry-size2.ensures.0
+      was_fits turn.before.earlier.invariant turn.earlier-test.true _ c.before.entry-size2.ensures.0
           (omega arith),
-      agree-none (omega arith),
+      agree_none (omega arith),
     )
 
 entries-again : tie.Need-entries-preserved invariant-bytes decreases-bytes invariant-earlier decreases-earlier invariant-entries decreases-entries
 entries-again c =
-    let inv = c.before.earlier.invariant in (walk-next inv c.earlier-test.false, chained-next inv (omega arith))
+    let inv = c.before.earlier.invariant in (walk_next inv c.earlier-test.false, chained_next inv (omega arith))
 
 -- the loop was left at a repeat
 returns-2 : tie.Need-returns-2 invariant-bytes decreases-bytes invariant-earlier decreases-earlier invariant-entries decreases-entries
 returns-2 c =
     c.refused-at.ensures
     ∙ ⊎_elim (λ w. absurd (omega arith))
-    (λ w. search-finds w.6.inv w.7.taken _ w.11.ensures.0 w.12.left w.10.left _
+    (λ w. search_finds w.6.inv w.7.taken _ w.11.ensures.0 w.12.left w.10.left _
     (omega arith) w.13.inv.2)
     c.before.before.entries-test.branch
 
-pub check-objects-spec : {M : Type 1} → statement M
-check-objects-spec =
+pub check_objects_spec : {M : Type 1} → statement M
+check_objects_spec =
     tie.close
     (tie.spec
     invariant-bytes
@@ -93,17 +93,17 @@ check-objects-spec =
     invariant-entries
     decreases-entries
     (λ c κs. search rules)
-    (λ c. (search walk_begins, search chain-begins))
+    (λ c. (search walk_begins, search chain_begins))
     (λ c. omega arith)
     (λ c κs. omega arith)
     (λ c. search rules)
-    (λ c. search walk-stops)
+    (λ c. search walk_stops)
     (λ c. search rules)
-    (λ c κs. search found-two)
+    (λ c κs. search found_two)
     mul-j
-    (λ c. search found-few)
+    (λ c. search found_few)
     cast-j
-    (λ c. search search-begins)
+    (λ c. search search_begins)
     (λ c. omega arith)
     (λ c. omega arith)
     (λ c. omega arith)
@@ -114,7 +114,7 @@ check-objects-spec =
     (λ c. omega arith)
     (λ c. omega arith)
     (λ c. omega arith)
-    (λ c. search goes-by-type)
+    (λ c. search goes_by_type)
     (λ c κs. omega arith)
     (λ c. omega arith)
     earlier-again-2
@@ -125,10 +125,10 @@ check-objects-spec =
     (λ c. omega arith)
     (λ c. omega arith)
     (λ c. omega arith)
-    (λ c. search goes-by-byte)
+    (λ c. search goes_by_byte)
     (λ c. omega arith)
     (λ c. omega arith)
-    (λ c. (omega arith, search, search agree-more))
+    (λ c. (omega arith, search, search agree_more))
     (λ c. omega arith)
     (λ c. omega arith)
     (λ c. omega arith)
@@ -147,6 +147,6 @@ check-objects-spec =
     (λ c κs. search rules)
     returns-2
     (λ c κs. search rules)
-    (λ c. c.refused.ensures ∙ search end-over)
+    (λ c. c.refused.ensures ∙ search end_over)
     (λ c κs. search rules)
-    (λ c. c.accepted.ensures ∙ search end-good))
+    (λ c. c.accepted.ensures ∙ search end_good))

@@ -7,5 +7,5 @@ use Rattle.tables.proofs.table.label_limit.Tie as tie
 returns : tie.Need-returns
 returns c = limit_is _
 
-pub label-limit-spec : {M : Type 1} → statement M
-label-limit-spec = tie.close (tie.spec returns)
+pub label_limit_spec : {M : Type 1} → statement M
+label_limit_spec = tie.close (tie.spec returns)

@@ -2,7 +2,7 @@
 -- Written by catalogue/write.py. Assumes nothing.
 use mathlib.Core.Path.{◌∙◌, ap}
 use lib.Dec.{lit<}
-use Rattle.cases.specs.Cases.{changerAspectOf}
+use Rattle.cases.specs.Cases.{changer_aspect_of}
 use Rattle.states.proofs.changer_signal.ChangerSignal.of_values.Statement.{statement}
 use Rattle.states.proofs.changer_signal.ChangerSignal.of_values.Tie as tie
 
@@ -12,8 +12,8 @@ returns c =
     let bits = c.before.before.bits_of.ensures i in
     record {
       current = bits.b0;
-      aspect = (c.of.ensures ∙ ap changerAspectOf c.before.value.ensures) i;
+      aspect = (c.of.ensures ∙ ap changer_aspect_of c.before.value.ensures) i;
     }
 
-pub of-values-spec : {M : Type 1} → statement M
-of-values-spec = tie.close (tie.spec (λ c κs. tt) (λ c κs. lit< tt) (λ c κs. tt) returns)
+pub of_values_spec : {M : Type 1} → statement M
+of_values_spec = tie.close (tie.spec (λ c κs. tt) (λ c κs. lit< tt) (λ c κs. tt) returns)

@@ -1,7 +1,7 @@
 -- `states::ControlBoundary::values` meets its contract: each named field by what its number ensures.
 -- Written by catalogue/write.py. Assumes nothing.
 use mathlib.Core.List.{[], ◌∷◌}
-use Rattle.rows.specs.Values.{padded, bitNo}
+use Rattle.rows.specs.Values.{padded, bit_no}
 use Rattle.states.proofs.control_boundary.ControlBoundary.values.Statement.{statement}
 use Rattle.states.proofs.control_boundary.ControlBoundary.values.Tie as tie
 
@@ -17,11 +17,11 @@ returns c =
     let s = at-current.before.args.self in
     λ i.
     padded
-    (bitNo s.current ∷ bitNo s.entry_active ∷ at-entry-movement.number.ensures i ∷
-    bitNo s.exit_active ∷ at-exit-movement.number2.ensures i ∷ bitNo s.inc_inwards ∷
-    bitNo s.inc_shown ∷ bitNo s.neighbour_object_alarm ∷ 0 ∷
+    (bit_no s.current ∷ bit_no s.entry_active ∷ at-entry-movement.number.ensures i ∷
+    bit_no s.exit_active ∷ at-exit-movement.number2.ensures i ∷ bit_no s.inc_inwards ∷
+    bit_no s.inc_shown ∷ bit_no s.neighbour_object_alarm ∷ 0 ∷
     [])
 
-pub values-spec : {M : Type 1} → statement M
-values-spec =
+pub values_spec : {M : Type 1} → statement M
+values_spec =
     tie.close (tie.spec (λ c. tt) (λ c. tt) (λ c κs. tt) (λ c. tt) (λ c κs. tt) (λ c. tt) (λ c. tt) (λ c. tt) returns)

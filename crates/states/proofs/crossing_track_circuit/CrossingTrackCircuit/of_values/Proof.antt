@@ -2,7 +2,7 @@
 -- Written by catalogue/write.py. Assumes nothing.
 use mathlib.Core.Path.{◌∙◌, ap}
 use lib.Dec.{lit<}
-use Rattle.cases.specs.Cases.{legOccupancyOf, legShownOf, overlapOf}
+use Rattle.cases.specs.Cases.{leg_occupancy_of, leg_shown_of, overlap_of}
 use Rattle.states.proofs.crossing_track_circuit.CrossingTrackCircuit.of_values.Statement.{statement}
 use Rattle.states.proofs.crossing_track_circuit.CrossingTrackCircuit.of_values.Tie as tie
 
@@ -18,17 +18,17 @@ returns c =
       special_command_pending = bits.b1;
       movement_blocked = bits.b2;
       unexpected_occupancy = bits.b3;
-      occupancy = (at-occupancy.of.ensures ∙ ap legOccupancyOf at-occupancy.before.value.ensures) i;
-      leg_shown = (at-leg-shown.of2.ensures ∙ ap legShownOf at-leg-shown.before.value2.ensures) i;
+      occupancy = (at-occupancy.of.ensures ∙ ap leg_occupancy_of at-occupancy.before.value.ensures) i;
+      leg_shown = (at-leg-shown.of2.ensures ∙ ap leg_shown_of at-leg-shown.before.value2.ensures) i;
       overlap_normal =
-          (at-overlap-normal.of3.ensures ∙ ap overlapOf at-overlap-normal.before.value3.ensures) i;
-      overlap_reverse = (c.of4.ensures ∙ ap overlapOf c.before.value4.ensures) i;
+          (at-overlap-normal.of3.ensures ∙ ap overlap_of at-overlap-normal.before.value3.ensures) i;
+      overlap_reverse = (c.of4.ensures ∙ ap overlap_of c.before.value4.ensures) i;
       clearance_lost = bits.b8;
       axle_counter_fault = bits.b9;
       axle_counter_preset = bits.b10;
     }
 
-pub of-values-spec : {M : Type 1} → statement M
-of-values-spec =
+pub of_values_spec : {M : Type 1} → statement M
+of_values_spec =
     tie.close (tie.spec (λ c κs. tt) (λ c κs. lit< tt) (λ c κs. tt) (λ c κs. lit< tt) (λ c κs. tt) (λ c κs. lit< tt)
     (λ c κs. tt) (λ c κs. lit< tt) (λ c κs. tt) returns)

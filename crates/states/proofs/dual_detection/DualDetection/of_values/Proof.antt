@@ -16,5 +16,5 @@ returns c =
       axle_counters_failed = bits.b5;
     }
 
-pub of-values-spec : {M : Type 1} → statement M
-of-values-spec = tie.close (tie.spec (λ c κs. tt) returns)
+pub of_values_spec : {M : Type 1} → statement M
+of_values_spec = tie.close (tie.spec (λ c κs. tt) returns)

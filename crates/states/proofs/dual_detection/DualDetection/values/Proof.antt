@@ -1,7 +1,7 @@
 -- `states::DualDetection::values` meets its contract: each named field by what its number ensures.
 -- Written by catalogue/write.py. Assumes nothing.
 use mathlib.Core.List.{[], ◌∷◌}
-use Rattle.rows.specs.Values.{padded, bitNo}
+use Rattle.rows.specs.Values.{padded, bit_no}
 use Rattle.states.proofs.dual_detection.DualDetection.values.Statement.{statement}
 use Rattle.states.proofs.dual_detection.DualDetection.values.Tie as tie
 
@@ -15,9 +15,9 @@ returns c =
     let s = at-current.before.args.self in
     λ i.
     padded
-    (bitNo s.current ∷ bitNo s.special_command_pending ∷ bitNo s.rearm_pending ∷
-    bitNo s.axle_counters_active ∷ bitNo s.track_circuit_failed ∷ bitNo s.axle_counters_failed ∷ 0 ∷
+    (bit_no s.current ∷ bit_no s.special_command_pending ∷ bit_no s.rearm_pending ∷
+    bit_no s.axle_counters_active ∷ bit_no s.track_circuit_failed ∷ bit_no s.axle_counters_failed ∷ 0 ∷
     [])
 
-pub values-spec : {M : Type 1} → statement M
-values-spec = tie.close (tie.spec (λ c. tt) (λ c. tt) (λ c. tt) (λ c. tt) (λ c. tt) (λ c. tt) returns)
+pub values_spec : {M : Type 1} → statement M
+values_spec = tie.close (tie.spec (λ c. tt) (λ c. tt) (λ c. tt) (λ c. tt) (λ c. tt) (λ c. tt) returns)

@@ -14,5 +14,5 @@ returns c =
       release_authorised = bits.b3;
     }
 
-pub of-values-spec : {M : Type 1} → statement M
-of-values-spec = tie.close (tie.spec (λ c κs. tt) returns)
+pub of_values_spec : {M : Type 1} → statement M
+of_values_spec = tie.close (tie.spec (λ c κs. tt) returns)

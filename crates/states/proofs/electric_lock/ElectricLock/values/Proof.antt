@@ -1,7 +1,7 @@
 -- `states::ElectricLock::values` meets its contract: each named field by what its number ensures.
 -- Written by catalogue/write.py. Assumes nothing.
 use mathlib.Core.List.{[], ◌∷◌}
-use Rattle.rows.specs.Values.{padded, bitNo}
+use Rattle.rows.specs.Values.{padded, bit_no}
 use Rattle.states.proofs.electric_lock.ElectricLock.values.Statement.{statement}
 use Rattle.states.proofs.electric_lock.ElectricLock.values.Tie as tie
 
@@ -13,8 +13,8 @@ returns c =
     let s = at-current.before.args.self in
     λ i.
     padded
-    (bitNo s.current ∷ bitNo s.locked ∷ bitNo s.key_detected ∷ bitNo s.release_authorised ∷ 0 ∷
+    (bit_no s.current ∷ bit_no s.locked ∷ bit_no s.key_detected ∷ bit_no s.release_authorised ∷ 0 ∷
     [])
 
-pub values-spec : {M : Type 1} → statement M
-values-spec = tie.close (tie.spec (λ c. tt) (λ c. tt) (λ c. tt) (λ c. tt) returns)
+pub values_spec : {M : Type 1} → statement M
+values_spec = tie.close (tie.spec (λ c. tt) (λ c. tt) (λ c. tt) (λ c. tt) returns)

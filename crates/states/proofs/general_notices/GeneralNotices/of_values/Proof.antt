@@ -2,7 +2,7 @@
 -- Written by catalogue/write.py. Assumes nothing.
 use mathlib.Core.Path.{◌∙◌, ap}
 use lib.Dec.{lit<}
-use Rattle.cases.specs.Cases.{heaterIndicationOf, earthFaultIndicationOf}
+use Rattle.cases.specs.Cases.{heater_indication_of, earth_fault_indication_of}
 use Rattle.states.proofs.general_notices.GeneralNotices.of_values.Statement.{statement}
 use Rattle.states.proofs.general_notices.GeneralNotices.of_values.Tie as tie
 
@@ -16,10 +16,10 @@ returns c =
       points_moving = bits.b1;
       auto_routes_set = bits.b2;
       points_group_blocked = bits.b3;
-      heaters = (at-heaters.of.ensures ∙ ap heaterIndicationOf at-heaters.before.value.ensures) i;
+      heaters = (at-heaters.of.ensures ∙ ap heater_indication_of at-heaters.before.value.ensures) i;
       station_closed = bits.b5;
-      earth_fault = (c.of2.ensures ∙ ap earthFaultIndicationOf c.before.value2.ensures) i;
+      earth_fault = (c.of2.ensures ∙ ap earth_fault_indication_of c.before.value2.ensures) i;
     }
 
-pub of-values-spec : {M : Type 1} → statement M
-of-values-spec = tie.close (tie.spec (λ c κs. tt) (λ c κs. lit< tt) (λ c κs. tt) (λ c κs. lit< tt) (λ c κs. tt) returns)
+pub of_values_spec : {M : Type 1} → statement M
+of_values_spec = tie.close (tie.spec (λ c κs. tt) (λ c κs. lit< tt) (λ c κs. tt) (λ c κs. lit< tt) (λ c κs. tt) returns)

@@ -1,7 +1,7 @@
 -- `states::GeneralNotices::values` meets its contract: each named field by what its number ensures.
 -- Written by catalogue/write.py. Assumes nothing.
 use mathlib.Core.List.{[], ◌∷◌}
-use Rattle.rows.specs.Values.{padded, bitNo}
+use Rattle.rows.specs.Values.{padded, bit_no}
 use Rattle.states.proofs.general_notices.GeneralNotices.values.Statement.{statement}
 use Rattle.states.proofs.general_notices.GeneralNotices.values.Tie as tie
 
@@ -16,10 +16,10 @@ returns c =
     let s = at-power-in-order.before.args.self in
     λ i.
     padded
-    (bitNo s.power_in_order ∷ bitNo s.points_moving ∷ bitNo s.auto_routes_set ∷
-    bitNo s.points_group_blocked ∷ at-heaters.number.ensures i ∷ bitNo s.station_closed ∷
+    (bit_no s.power_in_order ∷ bit_no s.points_moving ∷ bit_no s.auto_routes_set ∷
+    bit_no s.points_group_blocked ∷ at-heaters.number.ensures i ∷ bit_no s.station_closed ∷
     c.number2.ensures i ∷ 0 ∷
     [])
 
-pub values-spec : {M : Type 1} → statement M
-values-spec = tie.close (tie.spec (λ c. tt) (λ c. tt) (λ c. tt) (λ c. tt) (λ c κs. tt) (λ c. tt) (λ c κs. tt) returns)
+pub values_spec : {M : Type 1} → statement M
+values_spec = tie.close (tie.spec (λ c. tt) (λ c. tt) (λ c. tt) (λ c. tt) (λ c κs. tt) (λ c. tt) (λ c κs. tt) returns)

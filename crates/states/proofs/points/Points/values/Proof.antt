@@ -1,7 +1,7 @@
 -- `states::Points::values` meets its contract: each named field by what its number ensures.
 -- Written by catalogue/write.py. Assumes nothing.
 use mathlib.Core.List.{[], ◌∷◌}
-use Rattle.rows.specs.Values.{padded, bitNo}
+use Rattle.rows.specs.Values.{padded, bit_no}
 use Rattle.states.proofs.points.Points.values.Statement.{statement}
 use Rattle.states.proofs.points.Points.values.Tie as tie
 
@@ -21,14 +21,14 @@ returns c =
     let s = at-current.before.args.self in
     λ i.
     padded
-    (bitNo s.current ∷ bitNo s.special_command_pending ∷ bitNo s.movement_blocked ∷
-    bitNo s.unexpected_occupancy ∷ at-occupancy.number.ensures i ∷ at-leg-shown.number2.ensures i ∷
+    (bit_no s.current ∷ bit_no s.special_command_pending ∷ bit_no s.movement_blocked ∷
+    bit_no s.unexpected_occupancy ∷ at-occupancy.number.ensures i ∷ at-leg-shown.number2.ensures i ∷
     at-overlap-normal.number3.ensures i ∷ at-overlap-reverse.number4.ensures i ∷
-    at-detection.number5.ensures i ∷ bitNo s.command_blocked ∷ at-locking.number6.ensures i ∷
-    bitNo s.clearance_lost ∷ 0 ∷
+    at-detection.number5.ensures i ∷ bit_no s.command_blocked ∷ at-locking.number6.ensures i ∷
+    bit_no s.clearance_lost ∷ 0 ∷
     [])
 
-pub values-spec : {M : Type 1} → statement M
-values-spec =
+pub values_spec : {M : Type 1} → statement M
+values_spec =
     tie.close (tie.spec (λ c. tt) (λ c. tt) (λ c. tt) (λ c. tt) (λ c κs. tt) (λ c κs. tt) (λ c κs. tt) (λ c κs. tt)
     (λ c κs. tt) (λ c. tt) (λ c κs. tt) (λ c. tt) returns)

@@ -1,7 +1,7 @@
 -- `states::PointsTrackCircuit::values` meets its contract: each named field by what its number ensures.
 -- Written by catalogue/write.py. Assumes nothing.
 use mathlib.Core.List.{[], ◌∷◌}
-use Rattle.rows.specs.Values.{padded, bitNo}
+use Rattle.rows.specs.Values.{padded, bit_no}
 use Rattle.states.proofs.points_track_circuit.PointsTrackCircuit.values.Statement.{statement}
 use Rattle.states.proofs.points_track_circuit.PointsTrackCircuit.values.Tie as tie
 
@@ -17,11 +17,11 @@ returns c =
     let s = at-current.before.args.self in
     λ i.
     padded
-    (bitNo s.current ∷ bitNo s.special_command_pending ∷ 0 ∷ bitNo s.unexpected_occupancy ∷
-    at-occupancy.number.ensures i ∷ 0 ∷ bitNo s.axle_counter_fault ∷ bitNo s.axle_counter_preset ∷
-    at-gauge.number2.ensures i ∷ bitNo s.sequence_lost ∷ 0 ∷
+    (bit_no s.current ∷ bit_no s.special_command_pending ∷ 0 ∷ bit_no s.unexpected_occupancy ∷
+    at-occupancy.number.ensures i ∷ 0 ∷ bit_no s.axle_counter_fault ∷ bit_no s.axle_counter_preset ∷
+    at-gauge.number2.ensures i ∷ bit_no s.sequence_lost ∷ 0 ∷
     [])
 
-pub values-spec : {M : Type 1} → statement M
-values-spec =
+pub values_spec : {M : Type 1} → statement M
+values_spec =
     tie.close (tie.spec (λ c. tt) (λ c. tt) (λ c. tt) (λ c κs. tt) (λ c. tt) (λ c. tt) (λ c κs. tt) (λ c. tt) returns)

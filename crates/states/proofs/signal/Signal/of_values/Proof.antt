@@ -2,7 +2,7 @@
 -- Written by catalogue/write.py. Assumes nothing.
 use mathlib.Core.Path.{◌∙◌, ap}
 use lib.Dec.{lit<}
-use Rattle.cases.specs.Cases.{signalKindOf, signalAspectOf, mixedGaugeIndicationOf, autoRouteIndicationOf}
+use Rattle.cases.specs.Cases.{signal_kind_of, signal_aspect_of, mixed_gauge_indication_of, auto_route_indication_of}
 use Rattle.states.proofs.signal.Signal.of_values.Statement.{statement}
 use Rattle.states.proofs.signal.Signal.of_values.Tie as tie
 
@@ -15,8 +15,8 @@ returns c =
     let bits = at-kind.before.before.bits_of.ensures i in
     record {
       current = bits.b0;
-      kind = (at-kind.of.ensures ∙ ap signalKindOf at-kind.before.value.ensures) i;
-      aspect = (at-aspect.of2.ensures ∙ ap signalAspectOf at-aspect.before.value2.ensures) i;
+      kind = (at-kind.of.ensures ∙ ap signal_kind_of at-kind.before.value.ensures) i;
+      aspect = (at-aspect.of2.ensures ∙ ap signal_aspect_of at-aspect.before.value2.ensures) i;
       red_fitted = bits.b3;
       red_blown = bits.b4;
       white_fitted = bits.b5;
@@ -34,13 +34,13 @@ returns c =
       special_command_pending = bits.b17;
       command_blocked = bits.b18;
       mixed_gauge =
-          (at-mixed-gauge.of3.ensures ∙ ap mixedGaugeIndicationOf at-mixed-gauge.before.value3.ensures) i;
+          (at-mixed-gauge.of3.ensures ∙ ap mixed_gauge_indication_of at-mixed-gauge.before.value3.ensures) i;
       automatic_succession = bits.b20;
       auto_route_set = bits.b21;
-      auto_route_indication = (c.of4.ensures ∙ ap autoRouteIndicationOf c.before.value4.ensures) i;
+      auto_route_indication = (c.of4.ensures ∙ ap auto_route_indication_of c.before.value4.ensures) i;
     }
 
-pub of-values-spec : {M : Type 1} → statement M
-of-values-spec =
+pub of_values_spec : {M : Type 1} → statement M
+of_values_spec =
     tie.close (tie.spec (λ c κs. tt) (λ c κs. lit< tt) (λ c κs. tt) (λ c κs. lit< tt) (λ c κs. tt) (λ c κs. lit< tt)
     (λ c κs. tt) (λ c κs. lit< tt) (λ c κs. tt) returns)

@@ -1,7 +1,7 @@
 -- `states::Signal::values` meets its contract: each named field by what its number ensures.
 -- Written by catalogue/write.py. Assumes nothing.
 use mathlib.Core.List.{[], ◌∷◌}
-use Rattle.rows.specs.Values.{padded, bitNo}
+use Rattle.rows.specs.Values.{padded, bit_no}
 use Rattle.states.proofs.signal.Signal.values.Statement.{statement}
 use Rattle.states.proofs.signal.Signal.values.Tie as tie
 
@@ -32,17 +32,17 @@ returns c =
     let s = at-current.before.args.self in
     λ i.
     padded
-    (bitNo s.current ∷ at-kind.number.ensures i ∷ at-aspect.number2.ensures i ∷ bitNo s.red_fitted ∷
-    bitNo s.red_blown ∷ bitNo s.white_fitted ∷ bitNo s.white_blown ∷
-    bitNo s.vertical_white_fitted ∷ bitNo s.vertical_white_blown ∷ bitNo s.horizontal_white_fitted ∷
-    bitNo s.horizontal_white_blown ∷ bitNo s.blue_fitted ∷ bitNo s.blue_blown ∷
-    bitNo s.yellow_fitted ∷ bitNo s.yellow_blown ∷ bitNo s.green_fitted ∷ bitNo s.green_blown ∷
-    bitNo s.special_command_pending ∷ bitNo s.command_blocked ∷ at-mixed-gauge.number3.ensures i ∷
-    bitNo s.automatic_succession ∷ bitNo s.auto_route_set ∷ c.number4.ensures i ∷ 0 ∷
+    (bit_no s.current ∷ at-kind.number.ensures i ∷ at-aspect.number2.ensures i ∷ bit_no s.red_fitted ∷
+    bit_no s.red_blown ∷ bit_no s.white_fitted ∷ bit_no s.white_blown ∷
+    bit_no s.vertical_white_fitted ∷ bit_no s.vertical_white_blown ∷ bit_no s.horizontal_white_fitted ∷
+    bit_no s.horizontal_white_blown ∷ bit_no s.blue_fitted ∷ bit_no s.blue_blown ∷
+    bit_no s.yellow_fitted ∷ bit_no s.yellow_blown ∷ bit_no s.green_fitted ∷ bit_no s.green_blown ∷
+    bit_no s.special_command_pending ∷ bit_no s.command_blocked ∷ at-mixed-gauge.number3.ensures i ∷
+    bit_no s.automatic_succession ∷ bit_no s.auto_route_set ∷ c.number4.ensures i ∷ 0 ∷
     [])
 
-pub values-spec : {M : Type 1} → statement M
-values-spec =
+pub values_spec : {M : Type 1} → statement M
+values_spec =
     tie.close (tie.spec (λ c. tt) (λ c κs. tt) (λ c κs. tt) (λ c. tt) (λ c. tt) (λ c. tt) (λ c. tt) (λ c. tt) (λ c. tt)
     (λ c. tt) (λ c. tt) (λ c. tt) (λ c. tt) (λ c. tt) (λ c. tt) (λ c. tt) (λ c. tt) (λ c. tt) (λ c. tt) (λ c κs. tt)
     (λ c. tt) (λ c. tt) (λ c κs. tt) returns)

@@ -2,7 +2,7 @@
 -- Written by catalogue/write.py. Assumes nothing.
 use mathlib.Core.Path.{◌∙◌, ap}
 use lib.Dec.{lit<}
-use Rattle.cases.specs.Cases.{signalKindOf, signalAspectOf, mixedGaugeIndicationOf, autoRouteOf, routerIndicationOf}
+use Rattle.cases.specs.Cases.{signal_kind_of, signal_aspect_of, mixed_gauge_indication_of, auto_route_of, router_indication_of}
 use Rattle.states.proofs.signal_v3.SignalV3.of_values.Statement.{statement}
 use Rattle.states.proofs.signal_v3.SignalV3.of_values.Tie as tie
 
@@ -16,9 +16,9 @@ returns c =
     let bits = at-kind.before.before.bits_of.ensures i in
     record {
       current = bits.b0;
-      kind = (at-kind.of.ensures ∙ ap signalKindOf at-kind.before.value.ensures) i;
+      kind = (at-kind.of.ensures ∙ ap signal_kind_of at-kind.before.value.ensures) i;
       high_speed_auto_route = bits.b2;
-      aspect = (at-aspect.of2.ensures ∙ ap signalAspectOf at-aspect.before.value2.ensures) i;
+      aspect = (at-aspect.of2.ensures ∙ ap signal_aspect_of at-aspect.before.value2.ensures) i;
       red_fitted = bits.b4;
       red_blown = bits.b5;
       white_fitted = bits.b6;
@@ -36,13 +36,13 @@ returns c =
       special_command_pending = bits.b18;
       command_blocked = bits.b19;
       mixed_gauge =
-          (at-mixed-gauge.of3.ensures ∙ ap mixedGaugeIndicationOf at-mixed-gauge.before.value3.ensures) i;
+          (at-mixed-gauge.of3.ensures ∙ ap mixed_gauge_indication_of at-mixed-gauge.before.value3.ensures) i;
       automatic_succession = bits.b21;
-      auto_route = (at-auto-route.of4.ensures ∙ ap autoRouteOf at-auto-route.before.value4.ensures) i;
-      router = (c.of5.ensures ∙ ap routerIndicationOf c.before.value5.ensures) i;
+      auto_route = (at-auto-route.of4.ensures ∙ ap auto_route_of at-auto-route.before.value4.ensures) i;
+      router = (c.of5.ensures ∙ ap router_indication_of c.before.value5.ensures) i;
     }
 
-pub of-values-spec : {M : Type 1} → statement M
-of-values-spec =
+pub of_values_spec : {M : Type 1} → statement M
+of_values_spec =
     tie.close (tie.spec (λ c κs. tt) (λ c κs. lit< tt) (λ c κs. tt) (λ c κs. lit< tt) (λ c κs. tt) (λ c κs. lit< tt)
     (λ c κs. tt) (λ c κs. lit< tt) (λ c κs. tt) (λ c κs. lit< tt) (λ c κs. tt) returns)

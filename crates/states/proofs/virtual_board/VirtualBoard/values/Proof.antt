@@ -1,7 +1,7 @@
 -- `states::VirtualBoard::values` meets its contract: each named field by what its number ensures.
 -- Written by catalogue/write.py. Assumes nothing.
 use mathlib.Core.List.{[], ◌∷◌}
-use Rattle.rows.specs.Values.{padded, bitNo}
+use Rattle.rows.specs.Values.{padded, bit_no}
 use Rattle.states.proofs.virtual_board.VirtualBoard.values.Statement.{statement}
 use Rattle.states.proofs.virtual_board.VirtualBoard.values.Tie as tie
 
@@ -12,8 +12,8 @@ returns c =
     let s = at-current.before.args.self in
     λ i.
     padded
-    (bitNo s.current ∷ at-aspect.number.ensures i ∷ bitNo s.closing_commanded ∷ 0 ∷
+    (bit_no s.current ∷ at-aspect.number.ensures i ∷ bit_no s.closing_commanded ∷ 0 ∷
     [])
 
-pub values-spec : {M : Type 1} → statement M
-values-spec = tie.close (tie.spec (λ c. tt) (λ c κs. tt) (λ c. tt) returns)
+pub values_spec : {M : Type 1} → statement M
+values_spec = tie.close (tie.spec (λ c. tt) (λ c κs. tt) (λ c. tt) returns)
