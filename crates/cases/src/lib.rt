@@ -1,6 +1,8 @@
 // The floor of cases: the named cases of every field wider than one bit. Each enum has `of`, the case of a value, and
 // `number`, the value of a case. Written by catalogue/write.py from catalogue/cases.tsv. It checks nothing: a value
 // without a case is read as the first. Each arm of a match returns, which spares the check a local and a step.
+#![tactic(auto)]
+
 ghost use Rattle.std.specs.Prelude.{◌≡◌};
 ghost use Rattle.cases.specs.Cases.{signal_kind_of, signal_kind_no, signal_aspect_of, signal_aspect_no};
 ghost use Rattle.cases.specs.Cases.{mixed_gauge_indication_of, mixed_gauge_indication_no, auto_route_indication_of};

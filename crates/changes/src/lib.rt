@@ -1,6 +1,8 @@
 // Change lists, over the bytes of the forms: the list between two images, an image after a list (written, or in place),
 // the join of two lists, a list turned back. The table is read once, then each other form in the order given; no byte
 // is written before everything is checked.
+#![tactic(auto)]
+
 mod accepted;
 mod under;
 

@@ -2,6 +2,8 @@
 // the rows of a kind's layout, or only takes a glance where that is enough, and names no kind but the one it gives
 // where there is none.
 // It knows no image and writes nothing.
+#![tactic(auto)]
+
 mod types;
 
 ghost use Rattle.std.specs.Prelude.{◌≡◌, cond, ◌+◌, ◌≤◌, length, take, drop};

@@ -1,6 +1,8 @@
 // A state as plain numbers: its kind's number, and the values of its fields that are not reserved, from bit 0 up, then
 // zeros. It is for callers that can't hold a state, such as C. It reads and writes through `panel`, and checks only the
 // numbers itself.
+#![tactic(auto)]
+
 mod by_rows;
 
 ghost use Rattle.std.specs.Prelude.{◌≡◌};

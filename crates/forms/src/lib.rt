@@ -1,5 +1,7 @@
 // The floor of forms: checks an image or a change list under its table. It uses tables, heads and elements;
 // it writes no output and keeps nothing.
+#![tactic(auto)]
+
 mod image;
 mod list;
 mod objects;

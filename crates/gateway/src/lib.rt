@@ -1,5 +1,7 @@
 // The gateway: the calls as C sees them. Each exported function wraps one call, which checks its input, and fills eight
 // numbers: code, object, bit, length, a place kept for a value, then what the call adds, then zeros. It keeps nothing.
+#![tactic(auto)]
+
 mod calls;
 mod slots;
 

@@ -1,5 +1,7 @@
 // Where each part of a form is in its bytes. Only this crate knows the offsets of the parts after X and Y. It checks no
 // contents and keeps nothing.
+#![tactic(auto)]
+
 mod image;
 mod list;
 mod table;

@@ -1,5 +1,7 @@
 // The meaning of the product: definitions in specs/, laws in proofs/.
 // The only code is the types that the definitions use.
+#![tactic(auto)]
+
 
 // The four numbers that every call returns; `specs/Verdict.antt` says what they are.
 #[derive(Drop)]

@@ -1,4 +1,6 @@
 // Reads a table followed by its image from standard input, and lists them on standard output.
+#![tactic(auto)]
+
 use libc::{STDIN_FILENO, STDOUT_FILENO};
 
 fn main() {

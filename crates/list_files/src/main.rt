@@ -1,4 +1,6 @@
 // Prints the name and then the listing of each file of data/ on standard output.
+#![tactic(auto)]
+
 use libc::STDOUT_FILENO;
 
 fn main() {

@@ -1,5 +1,7 @@
 // The floor of the listing: from a table followed by its image to their text in a lent buffer. It uses the checks of
 // forms and the writers of text; it keeps nothing, and writes nothing but the text.
+#![tactic(auto)]
+
 mod both;
 mod lines;
 

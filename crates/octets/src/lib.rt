@@ -1,5 +1,7 @@
 // Bytes and numbers: small functions that read a part of a slice or fill a part that the caller lends.
 // The bottom floor: it uses no other crate, knows no form, and never touches a byte outside the part it is given.
+#![tactic(auto)]
+
 ghost use Rattle.std.specs.Prelude.{◌≡◌, ◌+◌, ◌≤◌, ◌<◌, ◌^◌, length, take, drop};
 ghost use Rattle.octets.specs.Octets.{bytes, number};
 

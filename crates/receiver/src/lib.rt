@@ -2,6 +2,8 @@
 // is lent to the call and updated there. The work is done by value in `received` and `backlog_received`; `receive` and
 // `receive_backlog` only store the standing that these give. It uses changes and the checks below it, and keeps
 // nothing.
+#![tactic(auto)]
+
 mod backlog;
 
 ghost use Rattle.std.specs.Prelude.{◌≡◌};

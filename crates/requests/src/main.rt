@@ -8,6 +8,8 @@
 // bit 0 up) or none; KIND is the type, except 31 for the signal of catalogue 3.0, which is 301 in the outside vectors.
 // A standing is applied,late,gap,other. An element's catalogue is 1.0 if none is named. A line that begins with # is
 // printed as it is. The program is proved safe and no more.
+#![tactic(auto)]
+
 mod objects;
 mod operations;
 mod under_table;

@@ -1,6 +1,8 @@
 // The floor of rows: one constant with a row for every field of every layout, reading one field or all fields of an
 // element's number by their rows, and composing a number of values. All arithmetic of elements is here, once for all
 // rows. It knows no type by name, reads no bytes and writes nothing.
+#![tactic(auto)]
+
 mod catalogue;
 
 ghost use Rattle.std.specs.Prelude.{◌≡◌, ◌<◌, ◌≤◌, ◌+◌, ◌-◌, ◌*◌};

@@ -1,6 +1,8 @@
 // Requests and answers as text, for the program that runs stored requests: reads a line's values by their names, as
 // bytes in hex or decimal numbers, and prints an answer's numbers and bytes. It is proved safe and no more; it knows no
 // call of the product.
+#![tactic(auto)]
+
 ghost use Rattle.std.specs.Prelude.{◌≤◌, length};
 ghost use Rattle.io.specs.Counts.{IsPrefixLen};
 

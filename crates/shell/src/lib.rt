@@ -1,5 +1,7 @@
 // The listing between two descriptors: what is read from one is listed to the other. It reads one byte more than a
 // listing accepts, so that a longer input is noticed.
+#![tactic(auto)]
+
 pub fn list_between(input: i32, output: i32) {
     let mut given = [0u8; 65537];
     let n = io::read_full(input, &mut given);

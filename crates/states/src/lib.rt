@@ -3,6 +3,8 @@
 // catalogue/write.py from catalogue/fields.tsv. It checks nothing. The comment beside a field is its mnemonic in the
 // first annex that prints the layout. All bits are read in one place, `bits_of`: the check of a function takes its
 // steps times its locals, and a field copied from there adds to neither.
+#![tactic(auto)]
+
 mod changer_signal;
 mod control_boundary;
 mod crossing_track_circuit;

@@ -2,6 +2,8 @@
 // found. A difference compares the elements of two images; a join, the entries of two lists. Turning back takes the
 // entry of one list; application, an entry and an element. It takes any bytes, refuses nothing and knows no form's
 // head.
+#![tactic(auto)]
+
 ghost use Rattle.std.specs.Prelude.{◌≡◌, ◌+◌, ◌≤◌, ◌<◌, length, drop};
 ghost use Rattle.kinds.specs.Kinds.{width_of};
 ghost use Rattle.history.specs.Table.{kind_at};

@@ -1,6 +1,8 @@
 // The floor of tables: the check of a table against the meaning in `history`, what the other forms are read by (X, Y
 // and each object's kind), a label's place, and the answers that all calls return. It uses heads and elements, writes
 // no output and keeps nothing.
+#![tactic(auto)]
+
 mod answers;
 mod labels;
 mod place;

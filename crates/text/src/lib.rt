@@ -1,6 +1,8 @@
 // The floor of text: decimal numbers, upper-case hex and bytes, written into a lent buffer. Each writer takes the
 // buffer and a place in it, and returns the place after what it wrote (`Wrote`). It knows no form and touches nothing
 // but those bytes.
+#![tactic(auto)]
+
 ghost use Rattle.std.specs.Prelude.{◌≡◌, ◌+◌, ◌*◌, ◌≤◌, ◌<◌, [], ◌∷◌, length};
 ghost use Rattle.text.specs.Decimal.{decimal};
 ghost use Rattle.text.specs.Hex.{hex_digit, hexes};

@@ -1,5 +1,7 @@
 // The floor of labels: an object's label as the very bytes of the lent table, never a copy. A view holds the table and
 // its count. Every label comes from `label_part`, which checks the table again, so a view made of any bytes is safe.
+#![tactic(auto)]
+
 ghost use Rattle.std.specs.Prelude.{◌≡◌};
 ghost use Rattle.history.specs.Verdict.{told};
 ghost use Rattle.history.specs.Calls.{table_call, label_call};

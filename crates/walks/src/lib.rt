@@ -2,6 +2,8 @@
 // forms. Loops over lists jump over objects that no list names. A difference and an application require an image's
 // elements to be exactly as long as the objects need; entries may be any bytes. It refuses nothing and knows no form's
 // head; the caller has checked the forms.
+#![tactic(auto)]
+
 ghost use Rattle.std.specs.Prelude.{◌≡◌, ◌≤◌, [], length};
 ghost use Rattle.history.specs.Image.{widths};
 ghost use Rattle.tables.specs.Outlines.{kinds_of};
