@@ -67,13 +67,13 @@ pub record Checking (w : ℕ) (all rest : List Row) : Type 0 where
 module _ {w : ℕ} {all rest more : List Row} {r : Row} (c : Checking w all rest) (e : rest ≡ r ∷ more) {f : Field}
     (q : f ≡ field_read w r) where
   next : {g : Field} → f ≡ g → check_rows w all ≡ on_field g (check_rows w more)
-  next t = c.to-come ∙ ap (check_rows w) e ∙ ap (λ (f : Field). on_field f (check_rows w more)) (sym q ∙ t)
+  next t = c.to_come ∙ ap (check_rows w) e ∙ ap (λ (f : Field). on_field f (check_rows w more)) (sym q ∙ t)
 
   pub goes_on : {v : ℕ} → f ≡ Field.Value v → Checking w all more
   goes_on t = record { to_come = next t }
 
 pub checked : {w : ℕ} {all rest : List Row} → Checking w all rest → rest ≡ [] → Finding.Accepted ≡ check_rows w all
-checked {w} c e = sym (c.to-come ∙ ap (check_rows w) e)
+checked {w} c e = sym (c.to_come ∙ ap (check_rows w) e)
 
 -- the rows from i on that have this number: row i and those after it, or none
 module _ (number i : ℕ) where

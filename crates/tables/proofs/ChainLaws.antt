@@ -112,16 +112,16 @@ module _ {b : List ℕ} {k : ℕ} {lasts links starts : List ℕ} (c : Chained b
   pub chain_next : k < 1024 → (h at : ℕ) → h ≡ hash b k → at ≡ place_of b k
       → Chained b (k + 1) (set lasts h (k + 1)) (set links k (get_or lasts h 0)) (set starts k at)
   chain_next few h at e p = record {
-    lasts_room = length-set lasts h (k + 1) ∙ c.lasts-room;
-    links_room = length-set links k (get_or lasts h 0) ∙ c.links-room;
-    starts_room = length-set starts k at ∙ c.starts-room;
+    lasts_room = length-set lasts h (k + 1) ∙ c.lasts_room;
+    links_room = length-set links k (get_or lasts h 0) ∙ c.links_room;
+    starts_room = length-set starts k at ∙ c.starts_room;
     head = λ x l. head_at x l (eqb x h) refl;
     link =
         λ i l. ⊎_elim (λ s. link_here i s)
         (λ lt. rw (get_or-set_other links k i (get_or lasts h 0) 0 (λ s. omega arith)) (c.link i lt))
         (let y : i ≤ k = omega arith in eq-or-lt_of_le y);
     start =
-        λ i l. ⊎_elim (λ s. rw s (get_or-set_same starts k at 0 (omega (arith, c.starts-room)) ∙ p))
+        λ i l. ⊎_elim (λ s. rw s (get_or-set_same starts k at 0 (omega (arith, c.starts_room)) ∙ p))
         (λ lt. get_or-set_other starts k i at 0 (λ s. omega arith) ∙ c.start i lt)
         (let y : i ≤ k = omega arith in eq-or-lt_of_le y);
     none = λ l. absurd (omega arith);
@@ -133,7 +133,7 @@ module _ {b : List ℕ} {k : ℕ} {lasts links starts : List ℕ} (c : Chained b
       head_at : (x : ℕ) → x < 1024 → (t : Bool) → eqb x h ≡ t → Last b x (k + 1) (get_or (set lasts h (k + 1)) x 0)
       head_at x l true t =
           let s : x ≡ h = eqb-true x h t in
-          rw (s, get_or-set_same lasts h (k + 1) 0 (omega (arith, c.lasts-room)), e) (last_here b k)
+          rw (s, get_or-set_same lasts h (k + 1) 0 (omega (arith, c.lasts_room)), e) (last_here b k)
       head_at x l false t =
           let n = eqb-false x h t in
           rw (get_or-set_other lasts h x (k + 1) 0 n)
@@ -141,4 +141,4 @@ module _ {b : List ℕ} {k : ℕ} {lasts links starts : List ℕ} (c : Chained b
 
       link_here : (i : ℕ) → i ≡ k → Last b (hash b i) i (get_or (set links k (get_or lasts h 0)) i 0)
       link_here i s =
-          rw (s, get_or-set_same links k (get_or lasts h 0) 0 (omega (arith, c.links-room)), ← e) (c.head h small)
+          rw (s, get_or-set_same links k (get_or lasts h 0) 0 (omega (arith, c.links_room)), ← e) (c.head h small)

@@ -1,0 +1,19 @@
+-- `cases::Overlap::of` meets its contract, arm by arm: a value without a case is read as the first.
+-- Written by catalogue/write.py. Assumes nothing.
+use mathlib.Core.Path.{sym, ap}
+use lib.ListN.{get_or-eq_default}
+use Rattle.cases.specs.Cases.{overlap_cases, overlap_of}
+use Rattle.rows.proofs.Tests.{past}
+use Rattle.cases.proofs.Overlap.of.Goals as goal
+
+pub returns-in-0 : goal.returns-in-0
+returns-in-0 c = sym (ap overlap_of c.in-0.keys1)
+
+pub returns-in-1 : goal.returns-in-1
+returns-in-1 c = sym (ap overlap_of c.in-0.keys2)
+
+pub returns-in-2 : goal.returns-in-2
+returns-in-2 c = sym (ap overlap_of c.in-0.keys3)
+
+pub returns-in_default : goal.returns-in_default
+returns-in_default c = sym (get_or-eq_default overlap_cases _ (past _ 3 c.in-0.rest))

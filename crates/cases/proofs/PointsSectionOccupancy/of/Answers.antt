@@ -1,0 +1,16 @@
+-- `cases::PointsSectionOccupancy::of` meets its contract, arm by arm: a value without a case is read as the first.
+-- Written by catalogue/write.py. Assumes nothing.
+use mathlib.Core.Path.{sym, ap}
+use lib.ListN.{get_or-eq_default}
+use Rattle.cases.specs.Cases.{points_section_occupancy_cases, points_section_occupancy_of}
+use Rattle.rows.proofs.Tests.{past}
+use Rattle.cases.proofs.PointsSectionOccupancy.of.Goals as goal
+
+pub returns-in-0 : goal.returns-in-0
+returns-in-0 c = sym (ap points_section_occupancy_of c.in-0.keys1)
+
+pub returns-in-1 : goal.returns-in-1
+returns-in-1 c = sym (ap points_section_occupancy_of c.in-0.keys2)
+
+pub returns-in_default : goal.returns-in_default
+returns-in_default c = sym (get_or-eq_default points_section_occupancy_cases _ (past _ 2 c.in-0.rest))
