@@ -16,7 +16,7 @@ ghost use Rattle.cases.specs.Cases.{earth_fault_indication_of, earth_fault_indic
 ghost use Rattle.cases.specs.Cases.{boundary_movement_no, auto_route_of, auto_route_no, router_indication_of};
 ghost use Rattle.cases.specs.Cases.{router_indication_no};
 
-#[derive(Drop)]
+#[derive(Clone, Copy)]
 pub enum SignalKind {
     Unknown, // Kind not known
     HighNoWhiteNoBlue, // High signal without white and blue lamps (prose 'Tipo0')
@@ -49,7 +49,7 @@ impl SignalKind {
     }
 }
 
-#[derive(Drop)]
+#[derive(Clone, Copy)]
 pub enum SignalAspect {
     Dark, // No lamp lit
     Red, // Red
@@ -109,7 +109,7 @@ impl SignalAspect {
     }
 }
 
-#[derive(Drop)]
+#[derive(Clone, Copy)]
 pub enum MixedGaugeIndication {
     NoThirdRail, // No third rail (not mixed gauge)
     AtRest, // At rest
@@ -154,7 +154,7 @@ impl MixedGaugeIndication {
     }
 }
 
-#[derive(Drop)]
+#[derive(Clone, Copy)]
 pub enum AutoRouteIndication {
     GreenSteady, // F steady green
     GreenFlashing, // F flashing green
@@ -187,7 +187,7 @@ impl AutoRouteIndication {
     }
 }
 
-#[derive(Drop)]
+#[derive(Clone, Copy)]
 pub enum ChangerAspect {
     Dark, // No letter lit
     FixedT, // Letter T, white, steady
@@ -220,7 +220,7 @@ impl ChangerAspect {
     }
 }
 
-#[derive(Drop)]
+#[derive(Clone, Copy)]
 pub enum BoardAspect {
     Red, // Drawn red
     Blue, // Drawn blue
@@ -250,7 +250,7 @@ impl BoardAspect {
     }
 }
 
-#[derive(Drop)]
+#[derive(Clone, Copy)]
 pub enum SectionOccupancy {
     ClearIdle, // Clear, no movement set (shown yellow)
     ClearMovementOrBlockSet, // Clear, a movement other than a centralised shunt, or a block, is set (green)
@@ -283,7 +283,7 @@ impl SectionOccupancy {
     }
 }
 
-#[derive(Drop)]
+#[derive(Clone, Copy)]
 pub enum Overlap {
     NoOverlap, // No overlap
     MovementOverlap, // Overlap of a movement other than a centralised shunt (green)
@@ -313,7 +313,7 @@ impl Overlap {
     }
 }
 
-#[derive(Drop)]
+#[derive(Clone, Copy)]
 pub enum GaugePresence {
     NotShown, // No gauge indication
     NoTrain, // No train present (U and C yellow)
@@ -349,7 +349,7 @@ impl GaugePresence {
     }
 }
 
-#[derive(Drop)]
+#[derive(Clone, Copy)]
 pub enum PointsSectionOccupancy {
     Clear, // Clear
     Occupied, // Occupied
@@ -376,7 +376,7 @@ impl PointsSectionOccupancy {
     }
 }
 
-#[derive(Drop)]
+#[derive(Clone, Copy)]
 pub enum LegOccupancy {
     ClearIdle, // Clear, no movement set (shown yellow)
     ClearMovementSet, // Clear, a movement other than a centralised shunt is set (green)
@@ -409,7 +409,7 @@ impl LegOccupancy {
     }
 }
 
-#[derive(Drop)]
+#[derive(Clone, Copy)]
 pub enum LegShown {
     NormalAndReverse, // Both directions, normal and reverse
     NormalOnly, // Normal direction only
@@ -439,7 +439,7 @@ impl LegShown {
     }
 }
 
-#[derive(Drop)]
+#[derive(Clone, Copy)]
 pub enum PointsDetection {
     NotDetected, // Not detected in either position; points trailed (run through)
     CalledNormal, // Not detected; called to normal, or moving to normal because called
@@ -475,7 +475,7 @@ impl PointsDetection {
     }
 }
 
-#[derive(Drop)]
+#[derive(Clone, Copy)]
 pub enum PointsLocking {
     Free, // Points not locked by the interlocking
     Locked, // Points locked
@@ -508,7 +508,7 @@ impl PointsLocking {
     }
 }
 
-#[derive(Drop)]
+#[derive(Clone, Copy)]
 pub enum HeaterIndication {
     NotShown, // CF not shown
     Yellow, // CF yellow
@@ -541,7 +541,7 @@ impl HeaterIndication {
     }
 }
 
-#[derive(Drop)]
+#[derive(Clone, Copy)]
 pub enum EarthFaultIndication {
     NotShown, // DT not shown
     EarthFault, // DT yellow: earth fault on insulated equipment
@@ -571,7 +571,7 @@ impl EarthFaultIndication {
     }
 }
 
-#[derive(Drop)]
+#[derive(Clone, Copy)]
 pub enum BoundaryMovement {
     AtRest, // At rest
     RouteSignalPending, // Main route called; opening, for the route, of the continuing signal pending
@@ -613,7 +613,7 @@ impl BoundaryMovement {
     }
 }
 
-#[derive(Drop)]
+#[derive(Clone, Copy)]
 pub enum AutoRoute {
     NotShown, // F not shown
     GreenSteady, // F steady green
@@ -646,7 +646,7 @@ impl AutoRoute {
     }
 }
 
-#[derive(Drop)]
+#[derive(Clone, Copy)]
 pub enum RouterIndication {
     NotShown, // No indication of a GRP or ARS router
     ManualBlock, // GRP or ARS router, manual block

@@ -7,7 +7,7 @@ ghost use Rattle.fields.specs.PlainFields.{shown_in, spread, check_named};
 use rows::{Cells, Finding, Refusal};
 
 // The values of rows that are not reserved, and how many there are.
-#[derive(Drop)]
+#[derive(Clone, Copy)]
 pub struct Shown {
     pub count: usize,
     pub fields: [u32; 32],

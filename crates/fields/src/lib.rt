@@ -22,7 +22,7 @@ use tables::{accepted, refused_at, refused_by};
 
 // What reading gives: the answer, and for a state its kind's number, how many fields are not
 // reserved and their values; zeros for a refusal.
-#[derive(Drop)]
+#[derive(Clone, Copy)]
 pub struct Plain {
     pub answer: Answer,
     pub kind: u32,

@@ -78,7 +78,7 @@ fn check_entries(kinds: &[u8], count: usize, entries: &[u8]) -> Answer
 }
 
 // What `check_number` gives: an answer that refuses, or the object.
-#[derive(Drop)]
+#[derive(Clone, Copy)]
 pub enum Numbered {
     Refused(Answer),
     Object(u16),
@@ -86,7 +86,7 @@ pub enum Numbered {
 
 // What `check_entry` and `check_elements` give: an answer that refuses, or the entry's object,
 // its elements and the place after it.
-#[derive(Drop)]
+#[derive(Clone, Copy)]
 pub enum Passed {
     Refused(Answer),
     Entry {

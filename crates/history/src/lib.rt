@@ -4,7 +4,7 @@
 
 
 // The four numbers that every call returns; `specs/Verdict.antt` says what they are.
-#[derive(Drop)]
+#[derive(Clone, Copy)]
 pub struct Answer {
     pub code: u8,
     pub object: u16,
@@ -13,7 +13,7 @@ pub struct Answer {
 }
 
 // A receiver's four tallies: lists applied, late (16), with a gap (17), and all other answers.
-#[derive(Drop)]
+#[derive(Clone, Copy)]
 pub struct Standing {
     pub applied: u32,
     pub late: u32,
@@ -22,7 +22,7 @@ pub struct Standing {
 }
 
 // What a change list says of one object: nothing, or its old and its new element.
-#[derive(Drop)]
+#[derive(Clone, Copy)]
 pub enum Change {
     Keep,
     Swap(u32, u32),

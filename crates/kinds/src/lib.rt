@@ -16,7 +16,7 @@ use states::{
 };
 
 // The kinds of element that are carried.
-#[derive(Drop)]
+#[derive(Clone, Copy)]
 pub enum Kind {
     Signal,
     ChangerSignal,
@@ -33,7 +33,7 @@ pub enum Kind {
 }
 
 // A state of any kind.
-#[derive(Drop)]
+#[derive(Clone, Copy)]
 pub enum Element {
     Signal(Signal),
     ChangerSignal(ChangerSignal),
@@ -50,14 +50,14 @@ pub enum Element {
 }
 
 // What a number stands for: a kind that is carried, or none.
-#[derive(Drop)]
+#[derive(Clone, Copy)]
 pub enum OptionalKind {
     Some(Kind),
     None,
 }
 
 // What a glance at an element gives: its number, and whether each field is shown to have a listed value.
-#[derive(Drop)]
+#[derive(Clone, Copy)]
 pub struct Glance {
     pub word: u32,
     pub listed: bool,

@@ -12,7 +12,7 @@ use kinds::Element;
 use tables::{accepted, first_kinds, outline, refused_at};
 
 // What reading a state gives: the state, or the refusal's numbers.
-#[derive(Drop)]
+#[derive(Clone, Copy)]
 pub enum Reading {
     State(Element),
     Refused(Answer),

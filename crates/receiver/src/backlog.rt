@@ -96,7 +96,7 @@ fn take_lists(
 }
 
 // The answer of one list, and how many bytes it takes.
-#[derive(Drop)]
+#[derive(Clone, Copy)]
 struct Turn {
     answer: Answer,
     size: usize,

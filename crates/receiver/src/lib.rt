@@ -17,21 +17,21 @@ use history::{Answer, Standing};
 use tables::{first_kinds, outline};
 
 // What `received` gives: the answer of the application, and the standing that counts it.
-#[derive(Drop)]
+#[derive(Clone, Copy)]
 pub struct Taken {
     pub answer: Answer,
     pub standing: Standing,
 }
 
 // What a backlog gives: the answer, and how many lists were taken.
-#[derive(Drop)]
+#[derive(Clone, Copy)]
 pub struct Progress {
     pub answer: Answer,
     pub taken: usize,
 }
 
 // What `backlog_received` gives: that, and the standing that counts each list.
-#[derive(Drop)]
+#[derive(Clone, Copy)]
 pub struct Advance {
     pub progress: Progress,
     pub standing: Standing,

@@ -14,7 +14,7 @@ pub use catalogue::Cells;
 use catalogue::{ROW_TOTAL, ROWS};
 
 // A layout: its number, which rows are its own, its width in bytes, and whether its bit 0 is DAT.
-#[derive(Drop)]
+#[derive(Clone, Copy)]
 pub struct Layout {
     pub number: u8,
     pub first: usize,
@@ -25,28 +25,28 @@ pub struct Layout {
 
 // A layout's marks, for a glance at all fields at once: what is added to each field that doesn't admit every value, and
 // the bits that a value that isn't listed then carries into.
-#[derive(Drop)]
+#[derive(Clone, Copy)]
 pub struct Marks {
     pub add: u32,
     pub carry: u64,
 }
 
 // Why an element is refused: the code, and the lowest bit of the field.
-#[derive(Drop)]
+#[derive(Clone, Copy)]
 pub struct Refusal {
     pub code: u8,
     pub bit: u8,
 }
 
 // What reading one field gives.
-#[derive(Drop)]
+#[derive(Clone, Copy)]
 pub enum Field {
     Value(u32),
     Refused(Refusal),
 }
 
 // What checking an element finds.
-#[derive(Drop)]
+#[derive(Clone, Copy)]
 pub enum Finding {
     Accepted,
     Refused(Refusal),

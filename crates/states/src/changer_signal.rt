@@ -6,7 +6,7 @@ ghost use Rattle.states.specs.States.{changer_signal_of, changer_signal_values};
 use crate::{bits_of, value};
 use cases::ChangerAspect;
 
-#[derive(Drop)]
+#[derive(Clone, Copy)]
 pub struct ChangerSignal {
     pub current: bool, // DAT
     pub aspect: ChangerAspect, // IND

@@ -6,7 +6,7 @@ ghost use Rattle.states.specs.States.{control_boundary_of, control_boundary_valu
 use crate::{bits_of, value};
 use cases::BoundaryMovement;
 
-#[derive(Drop)]
+#[derive(Clone, Copy)]
 pub struct ControlBoundary {
     pub current: bool, // DAT
     pub entry_active: bool, // ENT_ACT

@@ -6,7 +6,7 @@ ghost use Rattle.states.specs.States.{crossing_track_circuit_of, crossing_track_
 use crate::{bits_of, value};
 use cases::{LegOccupancy, LegShown, Overlap};
 
-#[derive(Drop)]
+#[derive(Clone, Copy)]
 pub struct CrossingTrackCircuit {
     pub current: bool, // DAT
     pub special_command_pending: bool, // ME

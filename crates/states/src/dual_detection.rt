@@ -5,7 +5,7 @@ ghost use Rattle.states.specs.States.{dual_detection_of, dual_detection_values};
 
 use crate::bits_of;
 
-#[derive(Drop)]
+#[derive(Clone, Copy)]
 pub struct DualDetection {
     pub current: bool, // DAT
     pub special_command_pending: bool, // ME

@@ -5,7 +5,7 @@ ghost use Rattle.states.specs.States.{electric_lock_of, electric_lock_values};
 
 use crate::bits_of;
 
-#[derive(Drop)]
+#[derive(Clone, Copy)]
 pub struct ElectricLock {
     pub current: bool, // DAT
     pub locked: bool, // ENC

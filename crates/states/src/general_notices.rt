@@ -6,7 +6,7 @@ ghost use Rattle.states.specs.States.{general_notices_of, general_notices_values
 use crate::{bits_of, value};
 use cases::{EarthFaultIndication, HeaterIndication};
 
-#[derive(Drop)]
+#[derive(Clone, Copy)]
 pub struct GeneralNotices {
     pub power_in_order: bool, // EN
     pub points_moving: bool, // MA_I

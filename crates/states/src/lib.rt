@@ -51,7 +51,7 @@ fn bit(values: [u32; 24], place: usize) -> bool
 }
 
 // The fields of one bit by their place among the rows, for each place at which some layout has one.
-#[derive(Drop)]
+#[derive(Clone, Copy)]
 struct Bits {
     b0: bool,
     b1: bool,

@@ -6,7 +6,7 @@ ghost use Rattle.states.specs.States.{line_track_circuit_of, line_track_circuit_
 use crate::{bits_of, value};
 use cases::{GaugePresence, Overlap, SectionOccupancy};
 
-#[derive(Drop)]
+#[derive(Clone, Copy)]
 pub struct LineTrackCircuit {
     pub current: bool, // DAT
     pub special_command_pending: bool, // ME

@@ -6,7 +6,7 @@ ghost use Rattle.states.specs.States.{points_of, points_values};
 use crate::{bits_of, value};
 use cases::{LegOccupancy, LegShown, Overlap, PointsDetection, PointsLocking};
 
-#[derive(Drop)]
+#[derive(Clone, Copy)]
 pub struct Points {
     pub current: bool, // DAT
     pub special_command_pending: bool, // ME

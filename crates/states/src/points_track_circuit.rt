@@ -6,7 +6,7 @@ ghost use Rattle.states.specs.States.{points_track_circuit_of, points_track_circ
 use crate::{bits_of, value};
 use cases::{GaugePresence, PointsSectionOccupancy};
 
-#[derive(Drop)]
+#[derive(Clone, Copy)]
 pub struct PointsTrackCircuit {
     pub current: bool, // DAT
     pub special_command_pending: bool, // ME

@@ -6,7 +6,7 @@ ghost use Rattle.states.specs.States.{signal_of, signal_values};
 use crate::{bits_of, value};
 use cases::{AutoRouteIndication, MixedGaugeIndication, SignalAspect, SignalKind};
 
-#[derive(Drop)]
+#[derive(Clone, Copy)]
 pub struct Signal {
     pub current: bool, // DAT
     pub kind: SignalKind, // TIPO

@@ -6,7 +6,7 @@ ghost use Rattle.states.specs.States.{signal_v3_of, signal_v3_values};
 use crate::{bits_of, value};
 use cases::{AutoRoute, MixedGaugeIndication, RouterIndication, SignalAspect, SignalKind};
 
-#[derive(Drop)]
+#[derive(Clone, Copy)]
 pub struct SignalV3 {
     pub current: bool, // DAT
     pub kind: SignalKind, // TIPO

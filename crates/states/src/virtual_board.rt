@@ -6,7 +6,7 @@ ghost use Rattle.states.specs.States.{virtual_board_of, virtual_board_values};
 use crate::{bits_of, value};
 use cases::BoardAspect;
 
-#[derive(Drop)]
+#[derive(Clone, Copy)]
 pub struct VirtualBoard {
     pub current: bool, // DAT
     pub aspect: BoardAspect, // IND

@@ -16,7 +16,7 @@ use forms::kind_at;
 use history::Change;
 
 // The operations that make a list; each is a walk over the objects.
-#[derive(Drop)]
+#[derive(Clone, Copy)]
 pub enum Walk {
     Difference,
     Join,

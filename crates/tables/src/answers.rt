@@ -83,7 +83,7 @@ pub fn with_length(answer: Answer, length: u32) -> Answer
 
 // What `outline` returns: the table's answer, and for an accepted table X, Y, the count and
 // each object's layout number, else zeros.
-#[derive(Drop)]
+#[derive(Clone, Copy)]
 pub struct Outline {
     pub answer: Answer,
     pub x: u8,

@@ -7,7 +7,7 @@ ghost use Rattle.tables.specs.Hashes.{hash_from, hash_of, hashed};
 use heads::byte_at;
 
 // What checking a label gives: it is bad, or good with its entry's hash.
-#[derive(Drop)]
+#[derive(Clone, Copy)]
 pub enum Label {
     Bad,
     Good(usize),

@@ -12,7 +12,7 @@ use heads::{byte_at, object_count, objects_place};
 use history::Answer;
 
 // A label request's answer, and if it is accepted the offset of the label's first byte and its size, else zeros.
-#[derive(Drop)]
+#[derive(Clone, Copy)]
 pub struct LabelAt {
     pub answer: Answer,
     pub offset: usize,

@@ -105,7 +105,7 @@ pub fn entry_size(table: &[u8], at: usize) -> usize
 }
 
 // What checking an entry gives: the answer if it is refused, else the entry's hash.
-#[derive(Drop)]
+#[derive(Clone, Copy)]
 enum Found {
     Refused(Answer),
     Entry(usize),

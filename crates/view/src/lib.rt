@@ -11,7 +11,7 @@ use history::Answer;
 use tables::{check_table, label_place, outline};
 
 // A lent table, and how many objects it has: 0 if it is not accepted.
-#[derive(Drop)]
+#[derive(Clone, Copy)]
 pub struct TableView<'a> {
     pub table: &'a [u8],
     pub count: usize,

@@ -12,7 +12,7 @@ ghost use Rattle.walks.specs.Walks.{walk_bytes, ElementsLong, Asked, Measured, S
 use steps::Walk;
 
 // How many entries a list has, and how many bytes they take.
-#[derive(Drop)]
+#[derive(Clone, Copy)]
 pub struct Size {
     pub count: usize,
     pub bytes: usize,
@@ -20,7 +20,7 @@ pub struct Size {
 
 // The lowest object on which two lists do not agree, or the count of objects if they agree on all;
 // only then is the size that of the whole join.
-#[derive(Drop)]
+#[derive(Clone, Copy)]
 pub struct Survey {
     pub misfit: usize,
     pub size: Size,
