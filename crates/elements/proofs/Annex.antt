@@ -142,6 +142,8 @@ alike_under x type k y type' j = not (eqb type type') || agree (same_kind k j) (
 agreed : (a b : Bool) → T (agree a b) → a ≡ b
 agreed true true t = refl
 agreed false false t = refl
+agreed false true t = elim t [ ]
+agreed true false t = elim t [ ]
 
 same_type : (type : ℕ) (b : Bool) → T (not (eqb type type) || b) → T b
 same_type type b t = rw (eq-eqb type type refl) at t
