@@ -103,7 +103,7 @@ module _ (T : List ℕ) where
         let g = left_bytes_lem (lists_of l) (lists_of m) h in
         let x = used (apply_all T A (lists_of l)) _ (sym (apply_apart A (lists_of l) (lists_of m)) ∙ e) in
         let u = reaches a l g.0 x.1 in
-        let w = reaches u.last m g.1 x.2 in
+        let w = reaches {A = x.0} u.last m g.1 x.2 in
         let d = difference_is T t a w.last in
         let v = u.version ∙ w.version in
         let both = differences_join T t a u.last w.last u.joins.difference w.joins.difference ∙ d in

@@ -42,6 +42,7 @@ front_after b = take-append-drop (4 + number (take 4 b)) b
 -- it has a byte, if there is one
 pub front_some : (b : List ℕ) → 0 < length b → 0 < length (front_form b)
 unfolding front_form
+front_some [] h = elim h [ ]
 front_some (c ∷ b) h = go (4 + number (take 4 (c ∷ b))) (omega arith)
   where
     go : (n : ℕ) → 0 < n → 0 < length (take n (c ∷ b))
@@ -105,6 +106,7 @@ forms_none = refl
 
 pub forms_more : (b : List ℕ) → 0 < length b → forms_in b ≡ front_form b ∷ forms_in (after_front b)
 unfolding forms_in
+forms_more [] h = elim h [ ]
 forms_more (c ∷ b) h =
     ap (λ (r : List (List ℕ)). front_form (c ∷ b) ∷ r)
     (enough (length b) (length (after_front (c ∷ b))) (after_front (c ∷ b)) (after_less c b) (omega arith))

@@ -83,6 +83,8 @@ meets_fits_all : {ks : List Kind} {cs ds : List Change} {xs : List ℕ} → Ever
     → Every fits ds (zip_with after cs (zip_with before cs (zip_with before ds xs)))
 unfolding zip_with
 meets_fits_all nil nil nil = nil
+meets_fits_all nil (and q qs) r = elim r [ ]
+meets_fits_all (and p ps) nil r = elim r [ ]
 meets_fits_all (and {a = c} {b = d} p ps) (and {b = a} q qs) (and r rs) =
     and (meets_fits c d a p) (meets_fits_all ps qs rs)
 

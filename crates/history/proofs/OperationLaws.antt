@@ -14,7 +14,7 @@ use Rattle.history.specs.Table.{Plan}
 use Rattle.history.specs.Image.{Image, image_version_good, admits, Every, nil, and, LegalImage}
 use Rattle.history.specs.declared.Change.{Change}
 use Rattle.history.specs.declared.Change.TheVariants.{Keep as keep}
-use Rattle.history.specs.Changes.{Changes, lawful, LegalList, differ, fits, after, meets, joined, back, lowest}
+use Rattle.history.specs.Changes.{Changes, lawful, LegalList, differ, fits, after, meets, joined, back}
 use Rattle.history.specs.Changes.{result_of, joint_of, difference, applied, join, turned}
 use Rattle.history.proofs.VerdictLaws.{held, past, stopped, Lowest, names_lowest, other_code, refuses_lowest}
 use Rattle.history.proofs.VerdictLaws.{Paired, none, more, paired, passes, passed, value}

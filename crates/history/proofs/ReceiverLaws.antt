@@ -17,7 +17,7 @@ use Rattle.history.specs.Table.{Plan}
 use Rattle.history.specs.Calls.{read_plan, difference_call, apply_call, join_call}
 use Rattle.history.specs.Standing.{Received, receive_call, counted, NoneFull, total}
 use Rattle.history.specs.Image.{AcceptedImage}
-use Rattle.history.specs.Changes.{AcceptedList}
+use Rattle.history.specs.Changes.{difference, list_bytes, AcceptedList}
 use Rattle.history.proofs.VerdictLaws.{used}
 use Rattle.history.proofs.OperationLaws.{keeps_version}
 use Rattle.history.proofs.CallLaws.{difference_is, difference_list, difference_applies, only_difference_applies}
@@ -158,7 +158,7 @@ module _ (T : List ℕ) where
         differences_join T t a b d (only_difference_applies T t a l x.1)
         (only_difference_applies T t b m y.1) ∙ AD in
         let rest =
-        join_in_turn A _ Ms {C = C} a (difference_list T t a d AD) h.1
+        join_in_turn A (list_bytes p (difference a.image d.image)) Ms {C = C} a (difference_list T t a d AD) h.1
         (rw (difference_applies T t a d v AD) y.2) in
         record {
           list = rest.list;

@@ -270,11 +270,12 @@ module _ (T : List ℕ) {p : Plan} (t : read_plan T ≡ done p) where
   all_into a z i [] h n so =
       let l : i < length p.kinds = omega arith in
       rw (read_is a i l, write_word a z i a.image.position l) (ap done (last_image a z i l so (omega arith)))
-  all_into a z i (position ∷ ps) h n so =
+  all_into {A = A} {Z = Z} a z i (position ∷ ps) h n so =
       let l : i < length p.kinds = omega arith in
       let y = next_image a z i l position h.0 in
       rw (read_is a i l, write_word a z i position l)
-      (all_into a y (suc i) ps h.1 (omega arith) (next_word a z i l so))
+      (all_into {Z = image_bytes p (placed z.image i (get_or a.image.words i 0) position)} a y (suc i) ps h.1 (omega arith)
+      (next_word a z i l so))
 
   -- the states of all objects, written as an image, give the image's bytes
   pub states_written : {A : List ℕ} (a : AcceptedImage p A)

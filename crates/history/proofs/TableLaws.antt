@@ -16,7 +16,7 @@ use Rattle.history.specs.Verdict.{Refused, naming, Verdict, refused, done, refus
 use Rattle.history.specs.Form.{Form, form_bytes, read_form}
 use Rattle.history.specs.Table.{Object, Table, version_good, catalogue_good, label_limit, label_good, object_bytes}
 use Rattle.history.specs.Table.{objects_bytes, table_bytes, same_object, repeats, ObjectEntry, object_at, check_object}
-use Rattle.history.specs.Table.{read_objects, read_table, Plan, plan_of, object, LegalObject, LegalTable}
+use Rattle.history.specs.Table.{read_objects, read_table, Plan, plan_of, LegalObject, LegalTable}
 use Rattle.elements.specs.Elements.{carried}
 use Rattle.octets.specs.Octets.{same_bytes}
 use Rattle.history.specs.Calls.{read_plan}

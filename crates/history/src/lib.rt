@@ -2,7 +2,6 @@
 // The only code is the types that the definitions use.
 #![tactic(auto)]
 
-
 // The four numbers that every call returns; `specs/Verdict.antt` says what they are.
 #[derive(Clone, Copy)]
 pub struct Answer {
