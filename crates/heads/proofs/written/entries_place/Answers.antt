@@ -3,11 +3,7 @@
 use native.Mathlib.Omega.{arith}
 use mathlib.Core.Path.{sym}
 use Rattle.heads.proofs.Places.{entries_place_lem}
-use Rattle.heads.proofs.written.entries_place.Statement.{statement}
-use Rattle.heads.proofs.written.entries_place.Tie as tie
+use Rattle.heads.proofs.written.entries_place.Goals as goal
 
-returns : tie.Need-returns
+pub returns : goal.returns
 returns c = (sym entries_place_lem, omega arith)
-
-pub entries_place_spec : {M : Type 1} → statement M
-entries_place_spec = tie.close (tie.spec returns)
