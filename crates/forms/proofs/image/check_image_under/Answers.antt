@@ -1,0 +1,59 @@
+-- `forms::image::check_image_under` meets its contract: each return is what the tests so far decide.
+-- Assumes nothing.
+use native.Mathlib.Omega.{arith}
+use mathlib.Core.Path.{sym, ◌∙◌}
+use borrow.Author.Rules.{rules}
+use Rattle.tables.proofs.AnswerLaws.{no, yes}
+use Rattle.heads.proofs.Forms.{long_enough}
+use Rattle.heads.proofs.Places.{head_inside, elements_fill}
+use Rattle.forms.proofs.ImageAnswers.{not_whole, other_version, not_under, other_size, by_words}
+use Rattle.forms.proofs.image.check_image_under.Goals as goal
+
+pub returns-then-not-is_whole : goal.returns-then-not-is_whole
+returns-then-not-is_whole c = c.refused.ensures ∙ search (not_whole, no)
+
+pub bounds-image-4 : goal.bounds-image-4
+bounds-image-4 c = search (long_enough, rules)
+
+pub returns-then-not-is_image_version : goal.returns-then-not-is_image_version
+returns-then-not-is_image_version c = c.refused-then-not-is_image_version.ensures ∙ search (other_version, yes, no)
+
+pub is_under-requires : goal.is_under-requires
+is_under-requires c = search (long_enough, rules)
+
+pub returns-then-not-is_under : goal.returns-then-not-is_under
+returns-then-not-is_under c = c.refused-then-not-is_under.ensures ∙ search (not_under, yes, no)
+
+pub bounds-image-4-2 : goal.bounds-image-4-2
+bounds-image-4-2 c = search (long_enough, rules)
+
+pub returns-then-image-elements_place : goal.returns-then-image-elements_place
+returns-then-image-elements_place c = let measured = c in
+    c.refused-then-image-elements_place.ensures
+    ∙ other_size _ _ _ _ (search yes) (search yes) (search yes) _ measured.elements_place.ensures.0 _
+    measured.widths_of.ensures.0 (λ e. omega arith)
+
+pub elements_of-requires : goal.elements_of-requires
+elements_of-requires c = head_inside _ _ c.elements_place.ensures.0 (omega arith)
+
+pub check_words-requires : goal.check_words-requires
+check_words-requires c = (
+  elements_fill _ _ c.elements_place.ensures.0 (omega arith) c.elements_of.ensures,
+  search rules,
+)
+
+pub returns : goal.returns
+returns c = let sized = c in
+    let placed = sized in
+    let under = placed in
+    let version = under in
+    let whole = version in
+    c.check_words.ensures
+    ∙ by_words _ _ _ _
+    (sym whole.is_whole.ensures ∙ whole.if-not-is_whole.false)
+    (sym version.is_image_version.ensures ∙ version.if-not-is_image_version.false)
+    (sym under.is_under.ensures ∙ under.if-not-is_under.false)
+    _ placed.elements_place.ensures.0
+    _ sized.widths_of.ensures.0
+    (omega arith)
+    _ c.elements_of.ensures
