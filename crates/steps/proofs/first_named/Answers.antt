@@ -1,7 +1,6 @@
 -- `steps::first_named` meets its contract: no entry is left, or the next one names an object
 -- already passed, one past the end, or one between.
 -- Assumes nothing.
-use borrow.Author.Rules.{rules}
 use Rattle.steps.proofs.StepLaws.{silent_cut, silent_past, silent_after, silent_between}
 use Rattle.steps.proofs.first_named.Goals as goal
 

@@ -1,6 +1,5 @@
 -- `steps::names` meets its contract: an entry that is cut off names no object.
 -- Assumes nothing.
-use borrow.Author.Rules.{rules}
 use Rattle.steps.proofs.StepLaws.{names_cut, names_whole}
 use Rattle.steps.proofs.names.Goals as goal
 

@@ -1,6 +1,5 @@
 -- `steps::next` meets its contract: only objects that neither list names are passed.
 -- Assumes nothing.
-use borrow.Author.Rules.{rules}
 use Rattle.steps.proofs.StepLaws.{idle_join}
 use Rattle.steps.proofs.next.Goals as goal
 

@@ -1,7 +1,6 @@
 -- `steps::put_change` meets its contract: the number, the old and the new element, end to end;
 -- nothing for a kept object.
 -- Assumes nothing.
-use borrow.Author.Rules.{rules}
 use Rattle.steps.proofs.StepLaws.{number_inside, old_inside, new_inside, entry_put, entry_kept}
 use Rattle.steps.proofs.put_change.Goals as goal
 

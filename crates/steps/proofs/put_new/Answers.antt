@@ -1,6 +1,5 @@
 -- `steps::put_new` meets its contract: the new element takes the old one's place.
 -- Assumes nothing.
-use borrow.Author.Rules.{rules}
 use Rattle.steps.proofs.StepLaws.{renewed_put}
 use Rattle.steps.proofs.put_new.Goals as goal
 

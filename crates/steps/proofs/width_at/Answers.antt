@@ -1,7 +1,6 @@
 -- `steps::width_at` meets its contract: the width of the object's kind.
 -- Assumes nothing.
 use mathlib.Core.Path.{ap, ◌∙◌}
-use borrow.Author.Rules.{rules}
 use Rattle.kinds.specs.Kinds.{width_of}
 use Rattle.steps.proofs.width_at.Goals as goal
 

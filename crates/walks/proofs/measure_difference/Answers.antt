@@ -1,0 +1,40 @@
+-- `walks::measure_difference` meets its contract: what is counted and what the walk still gives make up the whole;
+-- the measure is the objects left.
+-- Assumes nothing.
+use Prim.Native.Nat.{◌-◌}
+use lib.ListN.{length}
+use borrow.Author.Rules.{rules}
+use Rattle.steps.specs.declared.Walk.{Walk}
+use Rattle.walks.proofs.Rounds.{Sizing, none_sized, all_measured}
+use Rattle.walks.proofs.Lists.{Comparing, none_compared, old_inside, new_inside, place_fits, one_compared}
+use Rattle.walks.proofs.Lists.{difference_sized}
+use Rattle.walks.proofs.measure_difference.Goals as goal
+
+pub loop-i-init : goal.loop-i-init
+loop-i-init c = (search none_sized, search none_compared)
+
+pub get_at-before-requires : goal.get_at-before-requires
+get_at-before-requires c = (search old_inside, search rules)
+
+pub get_at-after-requires : goal.get_at-after-requires
+get_at-after-requires c = (search new_inside, search rules)
+
+pub overflow_add-at : goal.overflow_add-at
+overflow_add-at c = search place_fits
+
+pub loop-i-preserved : goal.loop-i-preserved
+loop-i-preserved c = let counted = c in
+    let new = counted in
+    let old = new in
+    let wide = old in
+    let turn = wide in
+    let inv = turn.loop-i.invariant in
+    let h = turn.loop-i-test.true in
+    let ew = wide.width_at-width.ensures.0 in (
+      difference_sized inv.1 h ew old.get_at-before.ensures.0 new.get_at-after.ensures.0 inv.0
+          counted.count_if-count.ensures c.size_if-bytes.ensures,
+      one_compared inv.1 h ew,
+    )
+
+pub returns : goal.returns
+returns c = search all_measured

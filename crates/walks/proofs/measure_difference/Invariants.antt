@@ -1,0 +1,17 @@
+-- `walks::measure_difference` meets its contract: what is counted and what the walk still gives make up the whole;
+-- the measure is the objects left.
+-- Assumes nothing.
+use Prim.Native.Nat.{◌-◌}
+use lib.ListN.{length}
+use borrow.Author.Rules.{rules}
+use Rattle.steps.specs.declared.Walk.{Walk}
+use Rattle.walks.proofs.Rounds.{Sizing, none_sized, all_measured}
+use Rattle.walks.proofs.Lists.{Comparing, none_compared, old_inside, new_inside, place_fits, one_compared}
+use Rattle.walks.proofs.Lists.{difference_sized}
+use Rattle.walks.proofs.measure_difference.Given as goal
+
+abbrev pub invariant-loop-i : goal.invariant-loop-i
+invariant-loop-i l = Sizing Walk.Difference l.kinds l.old l.new l.count l.bytes l.at l.at l.i × Comparing l.kinds l.old l.new l.at l.i
+
+abbrev pub decreases-loop-i : goal.decreases-loop-i
+decreases-loop-i l = length l.kinds - l.i

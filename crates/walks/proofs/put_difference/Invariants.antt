@@ -1,0 +1,17 @@
+-- `walks::put_difference` meets its contract: the entries written and those that the walk still gives make up the
+-- whole; the measure is the objects left.
+-- Assumes nothing.
+use Prim.Native.Nat.{◌-◌}
+use lib.ListN.{length}
+use borrow.Author.Rules.{rules}
+use Rattle.steps.specs.declared.Walk.{Walk}
+use Rattle.walks.proofs.Rounds.{Putting, none_put, put_keeps, all_put}
+use Rattle.walks.proofs.Lists.{Comparing, none_compared, old_inside, new_inside, place_fits, one_compared}
+use Rattle.walks.proofs.Lists.{difference_fits, difference_inside, difference_long, difference_put}
+use Rattle.walks.proofs.put_difference.Given as goal
+
+abbrev pub invariant-loop-i : goal.invariant-loop-i
+invariant-loop-i l = Putting Walk.Difference l.kinds l.old l.new l.initial.part l.part l.at l.place l.place l.i × Comparing l.kinds l.old l.new l.place l.i
+
+abbrev pub decreases-loop-i : goal.decreases-loop-i
+decreases-loop-i l = length l.kinds - l.i
