@@ -1,12 +1,9 @@
 -- `walks::measure_difference` meets its contract: what is counted and what the walk still gives make up the whole;
 -- the measure is the objects left.
 -- Assumes nothing.
-use Prim.Native.Nat.{◌-◌}
-use lib.ListN.{length}
 use borrow.Author.Rules.{rules}
-use Rattle.steps.specs.declared.Walk.{Walk}
-use Rattle.walks.proofs.Rounds.{Sizing, none_sized, all_measured}
-use Rattle.walks.proofs.Lists.{Comparing, none_compared, old_inside, new_inside, place_fits, one_compared}
+use Rattle.walks.proofs.Rounds.{none_sized, all_measured}
+use Rattle.walks.proofs.Lists.{none_compared, old_inside, new_inside, place_fits, one_compared}
 use Rattle.walks.proofs.Lists.{difference_sized}
 use Rattle.walks.proofs.measure_difference.Goals as goal
 

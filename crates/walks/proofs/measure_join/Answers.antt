@@ -1,14 +1,10 @@
 -- `walks::measure_join` meets its contract: what is counted and what the walk still gives make up the whole;
 -- the measure is the objects left.
 -- Assumes nothing.
-use Prim.Native.Nat.{◌-◌}
 use native.Mathlib.Omega.{arith}
-use lib.ListN.{length}
 use borrow.Author.Rules.{rules}
-use borrow.Author.Tests.{not-true, not-false}
-use Rattle.steps.specs.declared.Walk.{Walk}
 use Rattle.steps.proofs.StepLaws.{names_inside}
-use Rattle.walks.proofs.Rounds.{Sizing, none_sized, all_sized}
+use Rattle.walks.proofs.Rounds.{none_sized, all_sized}
 use Rattle.walks.proofs.Lists.{cursor_inside, cursor_fits, join_until, join_sized}
 use Rattle.walks.proofs.measure_join.Goals as goal
 
@@ -25,7 +21,7 @@ returns-then-not-meet_at c = let met = c in
     let wide = one in
     let turn = wide in
     join_until turn.loop-i-test.true wide.width_at-width.ensures.0 one.names-one.ensures other.names-other.ensures
-    turn.loop-i.invariant met.meet_at.ensures (not-true _ c.if-not-meet_at.true)
+    turn.loop-i.invariant met.meet_at.ensures c.if-not-meet_at.true
 
 pub join_names-kept-requires : goal.join_names-kept-requires
 join_names-kept-requires c = (search names_inside, search names_inside, search rules)
@@ -73,7 +69,7 @@ loop-i-preserved c = let far = c in
     let wide = one in
     let turn = wide in
     join_sized turn.loop-i-test.true wide.width_at-width.ensures.0 one.names-one.ensures other.names-other.ensures
-    turn.loop-i.invariant met.meet_at.ensures (not-false _ agreed.if-not-meet_at.false)
+    turn.loop-i.invariant met.meet_at.ensures agreed.if-not-meet_at.false
     kept.join_names-kept.ensures counted.count_if-count.ensures sized.size_if-bytes.ensures near.size_if-near.ensures
     far.size_if-far.ensures c.next-i.ensures
 

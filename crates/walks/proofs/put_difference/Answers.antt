@@ -1,12 +1,9 @@
 -- `walks::put_difference` meets its contract: the entries written and those that the walk still gives make up the
 -- whole; the measure is the objects left.
 -- Assumes nothing.
-use Prim.Native.Nat.{◌-◌}
-use lib.ListN.{length}
 use borrow.Author.Rules.{rules}
-use Rattle.steps.specs.declared.Walk.{Walk}
-use Rattle.walks.proofs.Rounds.{Putting, none_put, put_keeps, all_put}
-use Rattle.walks.proofs.Lists.{Comparing, none_compared, old_inside, new_inside, place_fits, one_compared}
+use Rattle.walks.proofs.Rounds.{none_put, put_keeps, all_put}
+use Rattle.walks.proofs.Lists.{none_compared, old_inside, new_inside, place_fits, one_compared}
 use Rattle.walks.proofs.Lists.{difference_fits, difference_inside, difference_long, difference_put}
 use Rattle.walks.proofs.put_difference.Goals as goal
 

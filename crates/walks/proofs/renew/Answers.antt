@@ -1,11 +1,9 @@
 -- `walks::renew` meets its contract: the elements renewed and those still to be renewed make up the whole;
 -- the measure is the objects left.
 -- Assumes nothing.
-use Prim.Native.Nat.{◌-◌}
-use lib.ListN.{length}
 use borrow.Author.Rules.{rules}
 use Rattle.walks.proofs.Runs.{few_part}
-use Rattle.walks.proofs.Application.{Renewing, element_fits, entry_inside, run_fits, none_renewed, renew_keeps}
+use Rattle.walks.proofs.Application.{element_fits, entry_inside, run_fits, none_renewed, renew_keeps}
 use Rattle.walks.proofs.Application.{renew_inside, one_renewed, all_renewed}
 use Rattle.walks.proofs.renew.Goals as goal
 

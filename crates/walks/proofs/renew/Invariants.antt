@@ -3,14 +3,11 @@
 -- Assumes nothing.
 use Prim.Native.Nat.{◌-◌}
 use lib.ListN.{length}
-use borrow.Author.Rules.{rules}
-use Rattle.walks.proofs.Runs.{few_part}
-use Rattle.walks.proofs.Application.{Renewing, element_fits, entry_inside, run_fits, none_renewed, renew_keeps}
-use Rattle.walks.proofs.Application.{renew_inside, one_renewed, all_renewed}
+use Rattle.walks.proofs.Application.{Renewing}
 use Rattle.walks.proofs.renew.Given as goal
 
 abbrev pub invariant-loop-i : goal.invariant-loop-i
-invariant-loop-i l = Renewing l.kinds l.entries l.initial.part l.part l.at l.p l.i
+invariant-loop-i l = Renewing l.kinds l.entries l.initial.part l.part l.at l.entry_at l.i
 
 abbrev pub decreases-loop-i : goal.decreases-loop-i
 decreases-loop-i l = length l.kinds - l.i
