@@ -1,7 +1,6 @@
 -- `outputs::image::put_element` meets its contract: the element is put through a part of the
 -- image, then the position is set.
 -- Assumes nothing.
-use borrow.Author.Rules.{rules}
 use Rattle.outputs.proofs.Images.{put_inside, put_head, put_done}
 use Rattle.outputs.proofs.image.put_element.Goals as goal
 
@@ -15,7 +14,7 @@ finish-requires c = let put = c in
     let place = kind in
     let head = place in
     let known = head in
-    put_head _ _ known.requires.1 _ (search) known.requires.0.0 known.requires.0.1 place.place_of.ensures.0
+    put_head _ _ known.requires.image_len _ c.image_head-place.ensures.0 known.requires.object_in_bounds.0 known.requires.object_in_bounds.1 place.place_of.ensures.0
     kind.kind_at.ensures width.width.ensures.0 0 _ put.put.ensures
 
 pub returns : goal.returns

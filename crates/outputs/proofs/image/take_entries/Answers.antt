@@ -1,6 +1,5 @@
 -- `outputs::image::take_entries` meets its contract: the entries are taken into the elements, then the position is set.
 -- Assumes nothing.
-use borrow.Author.Rules.{rules}
 use Rattle.outputs.proofs.Images.{taken_inside, taken}
 use Rattle.outputs.proofs.image.take_entries.Goals as goal
 

@@ -14,7 +14,7 @@ pub returns-then-out-size : goal.returns-then-out-size
 returns-then-out-size c = short_leaves _ _ (search length_with) c.if-out-size.true c.short.ensures
 
 pub put_element-requires : goal.put_element-requires
-put_element-requires c = (search rules, search copied_sized)
+put_element-requires c = record { object_in_bounds = search rules; image_len = search copied_sized }
 
 pub overflow_cast-size-2 : goal.overflow_cast-size-2
 overflow_cast-size-2 c = search few_bytes

@@ -14,7 +14,7 @@ pub returns-then-out-size : goal.returns-then-out-size
 returns-then-out-size c = short_leaves _ _ (search length_after) c.if-out-size.true c.short.ensures
 
 pub take_entries-requires : goal.take_entries-requires
-take_entries-requires c = (search rules, search copied_sized)
+take_entries-requires c = record { kinds_len_bound = search rules; image_len = search copied_sized }
 
 pub overflow_cast-size-2 : goal.overflow_cast-size-2
 overflow_cast-size-2 c = search few_bytes
