@@ -1,0 +1,38 @@
+-- `changes::accepted::write_difference` meets its contract:
+-- the walk over two accepted images' elements finds their difference.
+-- Assumes nothing.
+use borrow.Author.Rules.{rules}
+use Rattle.history.proofs.OutputLaws.{leaves_as}
+use Rattle.heads.proofs.Parts.{image_inside}
+use Rattle.changes.proofs.Outcomes.{elements_sized, difference_is}
+use Rattle.changes.proofs.accepted.write_difference.Goals as goal
+
+pub position_of-from-requires : goal.position_of-from-requires
+position_of-from-requires c = search image_inside
+
+pub position_of-to-requires : goal.position_of-to-requires
+position_of-to-requires c = search image_inside
+
+pub elements_of-old-requires : goal.elements_of-old-requires
+elements_of-old-requires c = search image_inside
+
+pub elements_of-new-requires : goal.elements_of-new-requires
+elements_of-new-requires c = search image_inside
+
+pub measure_difference-size-requires : goal.measure_difference-size-requires
+measure_difference-size-requires c = record { kinds_len_bound = search rules; elements_long = record { first = search elements_sized; second = search elements_sized } }
+
+pub write_list-requires : goal.write_list-requires
+write_list-requires c = record { kinds_len_bound = search rules; asked = record { first = search elements_sized; second = search elements_sized }; measured = search rules }
+
+pub returns : goal.returns
+returns c = let wrote = c in
+    let new = wrote in
+    let old = new in
+    let to = old in
+    let from = to in
+    let known = from in
+    leaves_as _
+    (difference_is _ _ _ known.requires.kinds_len_bound known.requires.accepted_image known.requires.accepted_image_2 from.position_of-from.ensures
+    to.position_of-to.ensures old.elements_of-old.ensures new.elements_of-new.ensures)
+    wrote.write_list.ensures

@@ -1,0 +1,53 @@
+-- `changes::accepted::write_joined` meets its contract: the positions, then the lowest object on which the lists do not
+-- agree, else the list is written.
+-- Assumes nothing.
+use borrow.Author.Rules.{rules}
+use Rattle.history.proofs.OutputLaws.{leaves_as, refused_leaves}
+use Rattle.heads.proofs.Parts.{list_inside}
+use Rattle.changes.proofs.Outcomes.{join_apart, join_misfits, join_size, join_is}
+use Rattle.changes.proofs.accepted.write_joined.Goals as goal
+
+pub to_of-end-requires : goal.to_of-end-requires
+to_of-end-requires c = search list_inside
+
+pub from_of-start-requires : goal.from_of-start-requires
+from_of-start-requires c = search list_inside
+
+pub returns-then-end-start : goal.returns-then-end-start
+returns-then-end-start c = refused_leaves _ _ (search join_apart) c.refused.ensures
+
+pub entries_of-one-requires : goal.entries_of-one-requires
+entries_of-one-requires c = search list_inside
+
+pub entries_of-other-requires : goal.entries_of-other-requires
+entries_of-other-requires c = search list_inside
+
+pub returns-then-object-kinds : goal.returns-then-object-kinds
+returns-then-object-kinds c = refused_leaves _ _ (search join_misfits) c.refused_at.ensures
+
+pub from_of-from-requires : goal.from_of-from-requires
+from_of-from-requires c = search list_inside
+
+pub to_of-to-requires : goal.to_of-to-requires
+to_of-to-requires c = search list_inside
+
+pub write_list-requires : goal.write_list-requires
+write_list-requires c = record { kinds_len_bound = search rules; asked = tt {0}; measured = search join_size }
+
+pub returns : goal.returns
+returns c = let wrote = c in
+    let to = wrote in
+    let from = to in
+    let agreed = from in
+    let sized = agreed in
+    let second = sized in
+    let first = second in
+    let tested = first in
+    let start = tested in
+    let end = start in
+    let known = end in
+    leaves_as _
+    (join_is _ _ _ known.requires.kinds_len_bound known.requires.accepted_list known.requires.accepted_list_2 end.to_of-end.ensures start.from_of-start.ensures
+    tested.if-end-start.false first.entries_of-one.ensures second.entries_of-other.ensures
+    sized.measure_join-known.ensures.found agreed.if-object-kinds.false from.from_of-from.ensures to.to_of-to.ensures)
+    wrote.write_list.ensures
