@@ -1,7 +1,6 @@
 -- `changes::join` meets its contract: a refused table's answer is the whole answer;
 -- under an accepted one the other forms decide.
 -- Assumes nothing.
-use borrow.Author.Rules.{rules}
 use Rattle.history.proofs.OutputLaws.{leaves_as}
 use Rattle.forms.proofs.UnderPlan.{table_leaves, kinds_inside, few_kinds}
 use Rattle.changes.proofs.Calls.{join_starts, join_goes}

@@ -1,7 +1,6 @@
 -- `changes::turn_back` meets its contract: a refused table's answer is the whole answer;
 -- under an accepted one the list decides.
 -- Assumes nothing.
-use borrow.Author.Rules.{rules}
 use Rattle.history.proofs.OutputLaws.{leaves_as}
 use Rattle.forms.proofs.UnderPlan.{table_leaves, kinds_inside, few_kinds}
 use Rattle.changes.proofs.Calls.{turn_starts, turn_goes}

@@ -1,6 +1,5 @@
 -- `changes::accepted::take_applied` meets its contract: a refusal is the answer, else the entries are taken.
 -- Assumes nothing.
-use borrow.Author.Rules.{rules}
 use Rattle.history.specs.Calls.{apply_under}
 use Rattle.heads.proofs.Parts.{list_inside}
 use Rattle.changes.proofs.Outcomes.{stays, image_sized, apply_takes}

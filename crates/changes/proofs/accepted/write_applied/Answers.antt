@@ -1,6 +1,5 @@
 -- `changes::accepted::write_applied` meets its contract: a refusal is the answer, else the image is written.
 -- Assumes nothing.
-use borrow.Author.Rules.{rules}
 use Rattle.history.proofs.OutputLaws.{leaves_as, told_leaves}
 use Rattle.heads.proofs.Parts.{list_inside}
 use Rattle.changes.proofs.Outcomes.{image_sized, apply_is}

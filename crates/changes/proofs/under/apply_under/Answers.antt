@@ -1,7 +1,6 @@
 -- `changes::under::apply_under` meets its contract: the first refusal is the answer;
 -- where both forms are accepted the operation decides.
 -- Assumes nothing.
-use borrow.Author.Rules.{rules}
 use Rattle.forms.proofs.Accepted.{image_accepted, list_accepted}
 use Rattle.changes.proofs.Calls.{apply_first, apply_second}
 use Rattle.changes.proofs.under.apply_under.Goals as goal

@@ -1,7 +1,6 @@
 -- `changes::under::difference_under` meets its contract: the first refusal is the answer;
 -- where both forms are accepted the operation decides.
 -- Assumes nothing.
-use borrow.Author.Rules.{rules}
 use Rattle.forms.proofs.Accepted.{image_accepted}
 use Rattle.changes.proofs.Calls.{difference_first, difference_second}
 use Rattle.changes.proofs.under.difference_under.Goals as goal

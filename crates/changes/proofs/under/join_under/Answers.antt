@@ -1,7 +1,6 @@
 -- `changes::under::join_under` meets its contract: the first refusal is the answer;
 -- where both forms are accepted the operation decides.
 -- Assumes nothing.
-use borrow.Author.Rules.{rules}
 use Rattle.forms.proofs.Accepted.{list_accepted}
 use Rattle.changes.proofs.Calls.{join_first, join_second}
 use Rattle.changes.proofs.under.join_under.Goals as goal

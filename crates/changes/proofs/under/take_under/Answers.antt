@@ -1,6 +1,5 @@
 -- `changes::under::take_under` meets its contract: the list's refusal is the answer; an accepted list is taken.
 -- Assumes nothing.
-use borrow.Author.Rules.{rules}
 use Rattle.forms.proofs.Accepted.{list_accepted}
 use Rattle.changes.proofs.Calls.{take_first}
 use Rattle.changes.proofs.under.take_under.Goals as goal

@@ -1,6 +1,5 @@
 -- `changes::under::turn_under` meets its contract: the list's refusal is the answer; an accepted list is turned back.
 -- Assumes nothing.
-use borrow.Author.Rules.{rules}
 use Rattle.forms.proofs.Accepted.{list_accepted}
 use Rattle.changes.proofs.Calls.{turn_first}
 use Rattle.changes.proofs.under.turn_under.Goals as goal

@@ -1,0 +1,21 @@
+-- `fields::by_rows::check_named` meets its contract: no row so far refuses its value, so the rows left decide.
+-- Assumes nothing.
+use borrow.Author.Rules.{rules}
+use Prim.Native.Nat.{◌-◌}
+use native.Mathlib.Omega.{arith}
+use Rattle.fields.proofs.Loops.{Checking, checking, goes_on, stops, checked}
+use Rattle.fields.proofs.by_rows.check_named.Goals as goal
+
+pub loop-k-init : goal.loop-k-init
+loop-k-init c = checking _ _ _
+
+pub returns-then-highest-values : goal.returns-then-highest-values
+returns-then-highest-values c = search stops
+
+pub loop-k-preserved : goal.loop-k-preserved
+loop-k-preserved c = let tested = c in
+    goes_on tested.loop-k.invariant (omega arith) (omega arith) (omega arith) c.highest.ensures
+    (omega arith)
+
+pub returns : goal.returns
+returns c = search checked
