@@ -20,7 +20,7 @@ use Rattle.kinds.specs.declared.Kind.{Kind}
 use Rattle.elements.specs.Elements.{carried, kind_of}
 use Rattle.elements.proofs.TypeLaws.{every_carried}
 use Rattle.history.specs.Verdict.{Verdict, refused, done}
-use Rattle.history.specs.Table.{Object, Table, object, label_limit, plan_of, read_table, LegalTable}
+use Rattle.history.specs.Table.{Object, Table, label_limit, plan_of, read_table, LegalTable}
 use Rattle.history.specs.Image.{Image, read_image}
 use Rattle.history.proofs.TableLaws.{nobody, table_is}
 use Rattle.history.proofs.VerdictLaws.{used, held}

@@ -1,7 +1,6 @@
 -- `fields::check_values` meets its contract: the rows walked are those of the kind's layout.
 -- Assumes nothing.
 use mathlib.Core.Path.{◌∙◌, ap}
-use borrow.Author.Rules.{rules}
 use Rattle.rows.specs.declared.Layout.{Layout}
 use Rattle.rows.specs.Covering.{layout_rows}
 use Rattle.elements.proofs.Answers.{in_rows}

@@ -1,6 +1,5 @@
 -- `fields::find_kind` meets its contract: no kind has a number above 255.
 -- Assumes nothing.
-use borrow.Author.Rules.{rules}
 use Rattle.fields.proofs.CallLaws.{none_numbered}
 use Rattle.fields.proofs.find_kind.Goals as goal
 

@@ -1,7 +1,6 @@
 -- `fields::read_fields` meets its contract.
 -- Assumes nothing.
 use mathlib.Core.Path.{◌∙◌, ap}
-use borrow.Author.Rules.{rules}
 use Rattle.fields.specs.PlainFields.{plain_of}
 use Rattle.fields.proofs.read_fields.Goals as goal
 

@@ -1,6 +1,5 @@
 -- `fields::refuse_state` meets its contract: what reading refuses, then 22, then what is refused of the state.
 -- Assumes nothing.
-use borrow.Author.Rules.{rules}
 use Rattle.fields.proofs.CallLaws.{refuses_first, refuses_22, refuses_it}
 use Rattle.fields.proofs.refuse_state.Goals as goal
 

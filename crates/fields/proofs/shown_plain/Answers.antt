@@ -1,6 +1,5 @@
 -- `fields::shown_plain` meets its contract: the rows walked are those of the state's layout.
 -- Assumes nothing.
-use borrow.Author.Rules.{rules}
 use Rattle.elements.proofs.Answers.{in_rows}
 use Rattle.fields.proofs.Loops.{state_shown}
 use Rattle.fields.proofs.shown_plain.Goals as goal

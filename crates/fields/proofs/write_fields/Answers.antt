@@ -1,6 +1,5 @@
 -- `fields::write_fields` meets its contract: the number's kind decides, then what is found of the values.
 -- Assumes nothing.
-use borrow.Author.Rules.{rules}
 use Rattle.history.proofs.OutputLaws.{leaves_as}
 use Rattle.fields.proofs.CallLaws.{no_kind, no_value, state_writes, refused_settles, state_refuses}
 use Rattle.fields.proofs.write_fields.Goals as goal

@@ -1,9 +1,7 @@
 -- `fields::by_rows::check_named` meets its contract: no row so far refuses its value, so the rows left decide.
 -- Assumes nothing.
-use borrow.Author.Rules.{rules}
 use Prim.Native.Nat.{◌-◌}
-use native.Mathlib.Omega.{arith}
-use Rattle.fields.proofs.Loops.{Checking, checking, goes_on, stops, checked}
+use Rattle.fields.proofs.Loops.{Checking}
 use Rattle.fields.proofs.by_rows.check_named.Given as goal
 
 abbrev pub invariant-loop-k : goal.invariant-loop-k

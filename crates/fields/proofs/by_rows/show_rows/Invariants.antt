@@ -1,9 +1,7 @@
 -- `fields::by_rows::show_rows` meets its contract: the fields so far are those of the rows so far.
 -- Assumes nothing.
-use borrow.Author.Rules.{rules}
 use Prim.Native.Nat.{◌-◌}
-use native.Mathlib.Omega.{arith}
-use Rattle.fields.proofs.Loops.{Showing, showing, shows_on, shown_all}
+use Rattle.fields.proofs.Loops.{Showing}
 use Rattle.fields.proofs.by_rows.show_rows.Given as goal
 
 abbrev pub invariant-loop-k : goal.invariant-loop-k

@@ -1,9 +1,7 @@
 -- `fields::by_rows::take_rows` meets its contract: the values so far are those of the rows so far.
 -- Assumes nothing.
-use borrow.Author.Rules.{rules}
 use Prim.Native.Nat.{◌-◌}
-use native.Mathlib.Omega.{arith}
-use Rattle.fields.proofs.Loops.{Taking, taking, takes_on, taken_all}
+use Rattle.fields.proofs.Loops.{Taking}
 use Rattle.fields.proofs.by_rows.take_rows.Given as goal
 
 abbrev pub invariant-loop-k : goal.invariant-loop-k

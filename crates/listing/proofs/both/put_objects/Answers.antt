@@ -1,0 +1,41 @@
+-- `listing::both::put_objects` meets its contract: the whole text is what is written, followed
+-- by the lines of the objects left.
+-- Assumes nothing.
+use native.Mathlib.Omega.{arith}
+use Rattle.listing.proofs.PanelLaws.{position_inside}
+use Rattle.listing.proofs.WalkLaws.{begin, ended, entries_left, label_inside, element_inside, has_room}
+use Rattle.listing.proofs.WalkLaws.{goes_on}
+use Rattle.listing.proofs.both.put_objects.Goals as goal
+
+pub elements_of-elements-requires : goal.elements_of-elements-requires
+elements_of-elements-requires c = search position_inside
+
+pub loop-i-init : goal.loop-i-init
+loop-i-init c = search begin
+
+pub overflow_add-label : goal.overflow_add-label
+overflow_add-label c = omega (arith, entries_left)
+
+pub label_end-next-requires : goal.label_end-next-requires
+label_end-next-requires c = search label_inside
+
+pub bounds-table-entry : goal.bounds-table-entry
+bounds-table-entry c = omega (arith, entries_left)
+
+pub slice_bounds-put_object_line-end : goal.slice_bounds-put_object_line-end
+slice_bounds-put_object_line-end c = search label_inside
+
+pub slice_bounds-put_object_line-end-in-loop-i : goal.slice_bounds-put_object_line-end-in-loop-i
+slice_bounds-put_object_line-end-in-loop-i c = search element_inside
+
+pub put_object_line-to-requires : goal.put_object_line-to-requires
+put_object_line-to-requires c = search has_room
+
+pub loop-i-preserved : goal.loop-i-preserved
+loop-i-preserved c = search goes_on
+
+pub shape_of-out : goal.shape_of-out
+shape_of-out c = c.loop-i.invariant.kept
+
+pub returns : goal.returns
+returns c = ended c.loop-i.invariant (omega arith)
