@@ -13,6 +13,7 @@ use Rattle.octets.proofs.NumberLaws.{drop_is}
 use Rattle.history.specs.declared.Answer.{Answer}
 use Rattle.history.specs.declared.Standing.{Standing}
 use Rattle.history.specs.Verdict.{Verdict, refused, done, decide, value_or, unnamed, told, of_length}
+use Rattle.heads.specs.Heads as Heads
 use Rattle.history.specs.Form.{front_form, forms_in}
 use Rattle.history.specs.Table.{Plan}
 use Rattle.history.specs.Image.{AcceptedImage}
@@ -34,15 +35,20 @@ pub image_small : {x y : ℕ} (ns : List ℕ) {A : List ℕ} → AcceptedImage (
 image_small ns {A} a few =
     omega (arith, ap length a.same ∙ image_long a.legal, widths_few (kinds_of ns), length_kinds ns)
 
+-- the first form as `heads` says it is the one of the meaning
+front_same : (b : List ℕ) → Heads.front_form b ≡ front_form b
+unfolding Heads.front_form front_form
+front_same b = refl
+
 -- one turn, from what its two calls ensure
 pub turned : {p : Plan} (b : List ℕ) (at : ℕ) {A L : List ℕ} → at ≤ length b
-    → L ≡ front_form (take (length b - at) (drop at b))
+    → L ≡ Heads.front_form (take (length b - at) (drop at b))
     → {r : Answer} {m : List ℕ}
     → (r ≡ told (apply_under p A L)) × (m ≡ value_or A (apply_under p A L))
     → Turned p (drop at b) A (record { answer = r; size = length L }) m
 turned b at {L = L} h e q =
     let f : L ≡ front_form (drop at b) =
-    e ∙ ap front_form (take_all (length b - at) (drop at b) (rw (length-drop at b) (omega arith))) in
+    e ∙ front_same _ ∙ ap front_form (take_all (length b - at) (drop at b) (rw (length-drop at b) (omega arith))) in
     record { answer = rw f at q.0; size = ap length f; image = rw f at q.1 }
 
 -- n lists and `at` bytes of b are taken, which led to the image A and the standing s
