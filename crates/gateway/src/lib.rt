@@ -32,35 +32,25 @@ use tables::check_table;
 
 // ---- checks
 
-#[unsafe(no_mangle)]
-pub extern "C" fn shefumbari_check_element(
-    x: u8,
-    y: u8,
-    ty: u8,
-    element: &[u8],
-    answer: &mut [u32; 8],
-)
+pub fn shefumbari_check_element(x: u8, y: u8, ty: u8, element: &[u8], answer: &mut [u32; 8])
     ensures { answer.new ≡ answer_slots (told (element_call x y ty element.now)) }
 {
     *answer = answer_slots(check_element_alone(x, y, ty, element));
 }
 
-#[unsafe(no_mangle)]
-pub extern "C" fn shefumbari_check_table(table: &[u8], answer: &mut [u32; 8])
+pub fn shefumbari_check_table(table: &[u8], answer: &mut [u32; 8])
     ensures { answer.new ≡ answer_slots (told (table_call table.now)) }
 {
     *answer = answer_slots(check_table(table));
 }
 
-#[unsafe(no_mangle)]
-pub extern "C" fn shefumbari_check_image(table: &[u8], image: &[u8], answer: &mut [u32; 8])
+pub fn shefumbari_check_image(table: &[u8], image: &[u8], answer: &mut [u32; 8])
     ensures { answer.new ≡ answer_slots (told (image_call table.now image.now)) }
 {
     *answer = answer_slots(check_image(table, image));
 }
 
-#[unsafe(no_mangle)]
-pub extern "C" fn shefumbari_check_list(table: &[u8], list: &[u8], answer: &mut [u32; 8])
+pub fn shefumbari_check_list(table: &[u8], list: &[u8], answer: &mut [u32; 8])
     ensures { answer.new ≡ answer_slots (told (list_call table.now list.now)) }
 {
     *answer = answer_slots(check_list(table, list));
@@ -70,8 +60,7 @@ pub extern "C" fn shefumbari_check_list(table: &[u8], list: &[u8], answer: &mut 
 
 // The fields are the values that are not reserved, from bit 0 up; the kind is the sixth number.
 // A refusal leaves the fields as they were.
-#[unsafe(no_mangle)]
-pub extern "C" fn shefumbari_read_state(
+pub fn shefumbari_read_state(
     table: &[u8],
     image: &[u8],
     object: u16,
@@ -91,8 +80,7 @@ pub extern "C" fn shefumbari_read_state(
     }
 }
 
-#[unsafe(no_mangle)]
-pub extern "C" fn shefumbari_write_state(
+pub fn shefumbari_write_state(
     table: &[u8],
     image: &[u8],
     object: u16,
@@ -110,8 +98,7 @@ pub extern "C" fn shefumbari_write_state(
 }
 
 // The label's first byte in the table and its size are the sixth and the seventh number.
-#[unsafe(no_mangle)]
-pub extern "C" fn shefumbari_label(table: &[u8], object: u16, answer: &mut [u32; 8])
+pub fn shefumbari_label(table: &[u8], object: u16, answer: &mut [u32; 8])
     ensures { answer.new ≡ label_slots (label_told (label_call table.now object)) }
 {
     *answer = label_slots(table, object);
@@ -119,8 +106,7 @@ pub extern "C" fn shefumbari_label(table: &[u8], object: u16, answer: &mut [u32;
 
 // ---- change lists
 
-#[unsafe(no_mangle)]
-pub extern "C" fn shefumbari_difference(
+pub fn shefumbari_difference(
     table: &[u8],
     a: &[u8],
     b: &[u8],
@@ -133,8 +119,7 @@ pub extern "C" fn shefumbari_difference(
     *answer = answer_slots(changes::difference(table, a, b, out));
 }
 
-#[unsafe(no_mangle)]
-pub extern "C" fn shefumbari_apply(
+pub fn shefumbari_apply(
     table: &[u8],
     image: &[u8],
     list: &[u8],
@@ -147,8 +132,7 @@ pub extern "C" fn shefumbari_apply(
     *answer = answer_slots(changes::apply(table, image, list, out));
 }
 
-#[unsafe(no_mangle)]
-pub extern "C" fn shefumbari_join(
+pub fn shefumbari_join(
     table: &[u8],
     first: &[u8],
     second: &[u8],
@@ -161,13 +145,7 @@ pub extern "C" fn shefumbari_join(
     *answer = answer_slots(changes::join(table, first, second, out));
 }
 
-#[unsafe(no_mangle)]
-pub extern "C" fn shefumbari_turn_back(
-    table: &[u8],
-    list: &[u8],
-    out: &mut [u8],
-    answer: &mut [u32; 8],
-)
+pub fn shefumbari_turn_back(table: &[u8], list: &[u8], out: &mut [u8], answer: &mut [u32; 8])
     ensures { LeavesSlots (turn_call table.now list.now)
         out.old answer.new out.new }
 {
@@ -175,8 +153,7 @@ pub extern "C" fn shefumbari_turn_back(
 }
 
 // The lent standing has the tallies applied, late, gap and other.
-#[unsafe(no_mangle)]
-pub extern "C" fn shefumbari_receive(
+pub fn shefumbari_receive(
     table: &[u8],
     image: &[u8],
     list: &[u8],
@@ -199,8 +176,7 @@ pub extern "C" fn shefumbari_receive(
 }
 
 // The lists lie end to end. How many were taken is the sixth number.
-#[unsafe(no_mangle)]
-pub extern "C" fn shefumbari_receive_backlog(
+pub fn shefumbari_receive_backlog(
     table: &[u8],
     image: &[u8],
     lists: &[u8],
@@ -229,8 +205,7 @@ pub extern "C" fn shefumbari_receive_backlog(
 // ---- the listing
 
 // The text of a table followed by its image.
-#[unsafe(no_mangle)]
-pub extern "C" fn shefumbari_listing(input: &[u8], out: &mut [u8], answer: &mut [u32; 8])
+pub fn shefumbari_listing(input: &[u8], out: &mut [u8], answer: &mut [u32; 8])
     ensures { LeavesSlots (listing_call input.now)
         out.old answer.new out.new }
 {
