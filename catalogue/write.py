@@ -10,6 +10,7 @@ cases.tsv has a line for each named case of each enum: enum, value, case, meanin
 types.tsv has a line for each type that is carried: X of the catalogue, type, number of its layout.
 A line that doesn't fit is refused. Law files kept by hand, proofs/Annex.antt of cases, states and elements, check the names against
 the annex; this program leaves them alone.
+A function whose goals Rattle answers by itself has no proof file, and of the functions written here all are but `marks` of kinds.
 """
 import itertools
 import os
@@ -870,7 +871,7 @@ def write(root):
         with open(full, 'w') as f:
             f.write(text)
     removed = remove_left(root, paths)
-    lay_out([os.path.join(root, 'crates', crate) for crate in CRATES])
+    lay_out(root, CRATES)
     return removed
 
 

@@ -157,15 +157,15 @@ def wide(folders):
                         yield path, number, width(line)
 
 
-def crates(root):
-    """The folders of the crates."""
-    top = os.path.join(root, 'crates')
-    return [os.path.join(top, name) for name in sorted(os.listdir(top)) if os.path.isdir(os.path.join(top, name, 'src'))]
+def crates(root, names=None):
+    """The folders of these crates, or of all."""
+    folders = [os.path.join(root, 'crates', name) for name in sorted(names or os.listdir(os.path.join(root, 'crates')))]
+    return [folder for folder in folders if os.path.isdir(os.path.join(folder, 'src'))]
 
 
-def lay_out(folders):
-    """Lays the files of these crates out by rt fmt, and breaks lines until none is too wide or nothing helps."""
-    before = None
+def lay_out(root, names=None):
+    """Lays the files of these crates, or of all, out by rt fmt, and breaks lines until none is too wide or nothing helps."""
+    folders, before = crates(root, names), None
     while True:
         for folder in folders:
             done = subprocess.run(['rt', 'fmt'], cwd=folder, capture_output=True, text=True)
@@ -193,7 +193,7 @@ def main():
     elif sys.argv[1:]:
         sys.exit(__doc__)
     else:
-        lay_out(crates(ROOT))
+        lay_out(ROOT)
 
 
 if __name__ == '__main__':
