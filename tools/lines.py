@@ -4,7 +4,8 @@
     tools/lines.py            break what is wider, and lay the files out by rt fmt
     tools/lines.py --check    say which lines are wider (exit status 1), and write nothing
 
-A comment at the end of a line of code doesn't count: it may quote the annex. A line with a string is left as it is.
+A comment at the end of a line of code doesn't count: it may quote the annex. Nor does an import of
+one name: it can't be broken. A line with a string is left as it is.
 rt fmt keeps the line breaks of .antt files, of clauses and of `ghost use`; other code of .rt files it breaks at 100 itself.
 """
 import os
@@ -32,6 +33,8 @@ def comment(line):
 
 
 def width(line):
+    if re.match(r'\s*(pub )?(ghost )?use [^ ,]+( as \S+)?$', line):
+        return 0
     found = re.search(r'\s+(//|--) ', line)
     return found.start() if found and not comment(line) and '"' not in line[:found.start()] else len(line)
 
