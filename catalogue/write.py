@@ -10,6 +10,7 @@ cases.tsv has a line for each named case of each enum: enum, value, case, meanin
 types.tsv has a line for each type that is carried: X of the catalogue, type, number of its layout.
 A line that doesn't fit is refused. Law files kept by hand, proofs/Annex.antt of cases, states and elements, check the names against
 the annex; this program leaves them alone.
+A function whose goals Rattle answers by itself has no proof file, and of the functions written here all are but `marks` of kinds.
 """
 import itertools
 import os
@@ -25,7 +26,7 @@ from lines import lay_out
 CRATES = ['rows', 'cases', 'states', 'kinds', 'elements']  # with files written here
 BY_HAND = 'Annex.antt'
 # folders in which every file but BY_HAND is written here
-WHOLE = [f'{crate}/{part}' for crate in ('cases', 'states', 'kinds') for part in ('src', 'specs', 'proofs')] + ['elements/proofs/types']
+WHOLE = [f'{crate}/{part}' for crate in ('cases', 'states', 'kinds') for part in ('src', 'specs', 'proofs')]
 
 
 class Line(dict):
@@ -64,7 +65,6 @@ class Row:
         line.need(self.reserved == (self.top == 0) == (self.name == '-'), 'a reserved row, and no other, has top 0, name - and type -')
         line.need(self.reserved or self.bit == (self.width == 1), 'a field of one bit, and no other, is a bool')
         self.named = not self.reserved and not self.bit
-        self.key = f'«{self.name}»' if '_' in self.name else self.name
 
 
 class Layout:
@@ -73,7 +73,7 @@ class Layout:
         self.first, self.rows = first, rows
         self.bytes = (rows[-1].low + rows[-1].width) // 8
         self.dat = rows[0].field == 'DAT'
-        self.key = low(struct)
+        self.key = snake(struct)
         self.fields = [r for r in rows if not r.reserved]
         self.named = [r for r in rows if r.named]
         narrow = [r for r in rows if r.top + 1 < 2 ** r.width]
@@ -81,8 +81,9 @@ class Layout:
         self.carry = sum(1 << r.low + r.width for r in narrow)
 
 
-def low(name):
-    return name[0].lower() + name[1:]
+def snake(name):
+    """A type's name as a module and in a definition: SignalV3 is signal_v3."""
+    return ''.join('_' + c.lower() if c.isupper() else c for c in name)[1:]
 
 
 def read_layouts():
@@ -142,39 +143,14 @@ def names(words):
     return ', '.join(words)
 
 
-def nth(name, i):
-    return name + (str(i) if i > 1 else '')
+def by_enum(*ends):
+    """The names that belong to each enum, with these ends."""
+    return names(snake(e) + end for e in ENUMS for end in ends)
 
 
-def returns(i):
-    return 'returns' + (f'-{i}' if i > 1 else '')
-
-
-def before(n):
-    return ' .before' * n
-
-
-def spec_end(name, answers):
-    return f'pub {name}-spec : {{M : Type 1}} → statement M\n{name}-spec = tie.close (tie.spec {" ".join(answers)})\n'
-
-
-CAST, CALL = '(λ c. tt)', '(λ c κs. tt)'
-LISTED = '(λ c κs. lit< tt)'
-
-
-def told(n):
-    """For each of the n arms of a match on an enum: the key by which the code is in that arm."""
-    return [f'(λ c. c .match .keys{i})' for i in range(1, n + 1)]
-
-
-def each(*answers):
-    """The answers of a match, arm by arm."""
-    return [a for arm in zip(*answers) for a in arm]
-
-
-def ties(crate, path):
-    at = f'Rattle·{crate}·proofs.proofs.{path}'
-    return f'use {at}.Statement.{{statement}}\nuse {at}.Tie as tie\n'
+def by_layout(*ends):
+    """The names that belong to each layout's struct, with these ends."""
+    return names(l.key + end for l in LAYOUTS for end in ends)
 
 
 # ---- rows: the rows and the layouts
@@ -204,14 +180,11 @@ def rows_specs():
     return f'''-- Every row of every layout in one constant: {TOTAL} rows of layout, lowest bit, width and highest admitted value (0: reserved).
 -- Then the layouts: number, first row, number of rows, width in bytes, and whether bit 0 is DAT.
 -- Written by catalogue/write.py.
-use mathlib.Core.Bool.{{Bool, true, false}}
-use mathlib.Core.List.{{List, [], _∷_}}
-use Prim.Native.Nat.{{ℕ, zero, suc, _+_, _*_}}
-use lib.ListN.{{getD}}
-use Rattle·rows·specs.specs.declared.Layout.{{Layout}}
+use Rattle.std.specs.Prelude.{{Bool, true, false, List, [], ◌∷◌, ℕ, zero, suc, ◌+◌, ◌*◌, get_or}}
+use Rattle.rows.specs.declared.Layout.{{Layout}}
 
-abbrev pub rowTotal : ℕ
-rowTotal = {TOTAL}
+abbrev pub row_total : ℕ
+row_total = {TOTAL}
 
 unfoldable pub cells : List ℕ
 cells =
@@ -226,8 +199,8 @@ layouts =
 {layouts}    []
 
 -- the layout at a place; past the end, one without rows
-abbrev pub layoutAt : ℕ → Layout
-layoutAt i = getD layouts i (layout 0 0 0 0 false)
+abbrev pub layout_at : ℕ → Layout
+layout_at i = get_or layouts i (layout 0 0 0 0 false)
 
 -- a row: a field's lowest bit, its width and its highest admitted value
 pub record Row : Type 0 where
@@ -236,40 +209,41 @@ pub record Row : Type 0 where
   pub top : ℕ
 
 -- the number at a place: four for each row
-abbrev pub cellAt : ℕ → ℕ
-cellAt place = getD cells place 0
+abbrev pub cell_at : ℕ → ℕ
+cell_at place = get_or cells place 0
 
 -- row i
-abbrev pub rowAt : ℕ → Row
-rowAt i = record {{ low = cellAt (4 * i + 1); width = cellAt (4 * i + 2); top = cellAt (4 * i + 3) }}
+abbrev pub row_at : ℕ → Row
+row_at i = record {{ low = cell_at (4 * i + 1); width = cell_at (4 * i + 2); top = cell_at (4 * i + 3) }}
 
 -- the number of the layout that row i belongs to
-abbrev pub numberAt : ℕ → ℕ
-numberAt i = cellAt (4 * i)
+abbrev pub number_at : ℕ → ℕ
+number_at i = cell_at (4 * i)
 
 -- n rows from row i on
-abbrev pub rowsFrom : ℕ → ℕ → List Row
-rowsFrom i zero = []
-rowsFrom i (suc n) = rowAt i ∷ rowsFrom (suc i) n
+abbrev pub rows_from : ℕ → ℕ → List Row
+rows_from i zero = []
+rows_from i (suc n) = row_at i ∷ rows_from (suc i) n
 '''
 
 
 # ---- cases: an enum for each field wider than one bit
 
 def cases_source():
-    uses = names(low(e) + x for e in ENUMS for x in ('Of', 'No'))
     text = f'''// The floor of cases: the named cases of every field wider than one bit. Each enum has `of`, the case of a value, and `number`, the
 // value of a case. Written by catalogue/write.py from catalogue/cases.tsv. It checks nothing: a value without a case is read as the
 // first. Each arm of a match returns, which spares the check a local and a step.
-ghost use mathlib.Core.Path.{{_≡_}};
-ghost use Rattle·cases·specs.specs.Cases.{{{uses}}};
+#![tactic(auto)]
+
+ghost use Rattle.std.specs.Prelude.{{◌≡◌}};
+ghost use Rattle.cases.specs.Cases.{{{by_enum('_of', '_no')}}};
 '''
     for e, cases in ENUMS.items():
-        text += f'\npub enum {e} {{\n' + ''.join(f'    {c}, // {m}\n' for c, m in cases) + '}\n'
+        text += f'\n#[derive(Clone, Copy)]\npub enum {e} {{\n' + ''.join(f'    {c}, // {m}\n' for c, m in cases) + '}\n'
         text += f'''
 impl {e} {{
     pub fn of(value: u32) -> {e}
-        ensures {{ λ r. ⌜ r ≡ {low(e)}Of value ⌝ }}
+        ensures {{ result ≡ {snake(e)}_of value }}
     {{
         match value {{
 {''.join(f"            {i} => return {e}::{c},{chr(10)}" for i, (c, _) in enumerate(cases))}            _ => return {e}::{cases[0][0]},
@@ -277,7 +251,7 @@ impl {e} {{
     }}
 
     pub fn number(self) -> u32
-        ensures {{ λ r. ⌜ r ≡ {low(e)}No self ⌝ }}
+        ensures {{ result ≡ {snake(e)}_no self }}
     {{
         match self {{
 {''.join(f"            {e}::{c} => return {i},{chr(10)}" for i, (c, _) in enumerate(cases))}        }}
@@ -291,59 +265,37 @@ def cases_specs():
     text = '''-- For every field wider than one bit: its named cases in the order of their values, the case of a value (the first if it has none),
 -- and the value of a case.
 -- Written by catalogue/write.py.
-use mathlib.Core.List.{List, [], _∷_}
-use Prim.Native.Nat.{ℕ}
-use lib.ListN.{getD}
+use Rattle.std.specs.Prelude.{List, [], ◌∷◌, ℕ, get_or}
 '''
     for e in ENUMS:
-        text += f'use Rattle·cases·specs.specs.declared.{e}.{{{e}}}\n'
+        text += f'use Rattle.cases.specs.declared.{e}.{{{e}}}\n'
     for e, cases in ENUMS.items():
-        l = low(e)
-        text += f'\nabbrev pub {l}Cases : List {e}\n{l}Cases = {" ∷ ".join(f"{e}.{c}" for c, _ in cases)} ∷ []\n'
-        text += f'\nabbrev pub {l}Of : ℕ → {e}\n{l}Of v = getD {l}Cases v {e}.{cases[0][0]}\n'
-        text += f'\nabbrev pub {l}No : {e} → ℕ\n' + ''.join(f'{l}No {e}.{c} = {i}\n' for i, (c, _) in enumerate(cases))
+        l = snake(e)
+        text += f'\nabbrev pub {l}_cases : List {e}\n{l}_cases = {" ∷ ".join(f"{e}.{c}" for c, _ in cases)} ∷ []\n'
+        text += f'\nabbrev pub {l}_of : ℕ → {e}\n{l}_of v = get_or {l}_cases v {e}.{cases[0][0]}\n'
+        text += f'\nabbrev pub {l}_no : {e} → ℕ\n' + ''.join(f'{l}_no {e}.{c} = {i}\n' for i, (c, _) in enumerate(cases))
     return text
 
 
 def cases_laws():
     text = '''-- A value read as a case and written back is the same if it is listed, and else 0; a case written as a value is read back.
 -- Written by catalogue/write.py. Assumes nothing.
-use mathlib.Core.Path.{_≡_, refl}
+use mathlib.Core.Path.{◌≡◌, refl}
 use Prim.Native.Nat.{ℕ}
-use Rattle·rows.proofs.Listed.{listed, named}
+use Rattle.rows.proofs.Listed.{listed, named}
 '''
-    text += f'use Rattle·cases·specs.specs.Cases.{{{names(low(e) + x for e in ENUMS for x in ("Cases", "Of", "No"))}}}\n'
+    text += f'use Rattle.cases.specs.Cases.{{{by_enum("_cases", "_of", "_no")}}}\n'
     for e in ENUMS:
-        text += f'use Rattle·cases·specs.specs.declared.{e}.{{{e}}}\n'
+        text += f'use Rattle.cases.specs.declared.{e}.{{{e}}}\n'
     for e, cases in ENUMS.items():
-        l, top = low(e), len(cases) - 1
-        text += f'\npub {l}-listed : (v : ℕ) → {l}No ({l}Of v) ≡ listed {top} v\n'
-        text += f'{l}-listed = named {l}No {l}Cases {e}.{cases[0][0]} {top} tt refl refl\n'
-        text += f'\npub {l}-back : (c : {e}) → {l}Of ({l}No c) ≡ c\n' + ''.join(f'{l}-back {e}.{c} = refl\n' for c, _ in cases)
+        l, top = snake(e), len(cases) - 1
+        text += f'\npub {l}_listed : (v : ℕ) → {l}_no ({l}_of v) ≡ listed {top} v\n'
+        text += f'{l}_listed = named {l}_no {l}_cases {e}.{cases[0][0]} {top} tt refl refl\n'
+        text += f'\npub {l}_back : (c : {e}) → {l}_of ({l}_no c) ≡ c\n' + ''.join(f'{l}_back {e}.{c} = refl\n' for c, _ in cases)
     return text
 
 
-def case_of_proof(e):
-    n, l = len(ENUMS[e]), low(e)
-    keys = [f'(λ c. sym (ap {l}Of (c .match .keys{i})))' for i in range(1, n + 1)]
-    return f'''-- `cases::{e}::of` meets its contract, arm by arm: a value without a case is read as the first.
--- Written by catalogue/write.py. Assumes nothing.
-use mathlib.Core.Path.{{sym, ap}}
-use lib.ListN.{{List·getD-eq-default}}
-use Rattle·cases·specs.specs.Cases.{{{l}Cases, {l}Of}}
-use Rattle·rows.proofs.Tests.{{past}}
-{ties('cases', e + '.of')}
-unlisted : tie.Need-{returns(n + 1)}
-unlisted c = sym (List·getD-eq-default {l}Cases _ (past _ {n} (c .match .rest)))
-
-{spec_end('of', keys + ['unlisted'])}'''
-
-
 # ---- states: a struct for each layout
-
-def module(struct):
-    return ''.join('_' + c.lower() if c.isupper() else c for c in struct)[1:]
-
 
 def states_source():
     text = '''// The floor of states: for each layout a module with its struct of named fields, its width in bytes, its state without data if bit 0
@@ -351,37 +303,40 @@ def states_source():
 // catalogue/fields.tsv. It checks nothing. The comment beside a field is its mnemonic in the first annex that prints the layout. All
 // bits are read in one place, `bits_of`: the check of a function takes its steps times its locals, and a field copied from there adds
 // to neither.
-'''
-    text += ''.join(f'mod {module(s)};\n' for s in sorted(STRUCTS)) + '\n'
-    text += ''.join(f'pub use {module(s)}::{s};\n' for s in sorted(STRUCTS))
-    return text + f'''ghost use mathlib.Core.Path.{{_≡_}};
-ghost use Prim.Native.Nat.{{_<_}};
-ghost use lib.Dec.{{eqb}};
-ghost use lib.ListN.{{getD}};
-ghost use Rattle·states·specs.specs.States.{{bitsOf}};
+#![tactic(auto)]
 
+'''
+    text += ''.join(f'mod {snake(s)};\n' for s in sorted(STRUCTS))
+    text += '''
+ghost use Rattle.std.specs.Prelude.{◌≡◌, ◌<◌, eqb, get_or};
+ghost use Rattle.states.specs.States.{bits_of};
+
+'''
+    text += ''.join(f'pub use {snake(s)}::{s};\n' for s in sorted(STRUCTS))
+    return text + f'''
 // The value of the row at a place among its layout's rows.
 fn value(values: [u32; 24], place: usize) -> u32
-    requires {{ ⌜ place < 24 ⌝ }}
-    ensures {{ λ r. ⌜ r ≡ getD values place 0 ⌝ }}
+    requires {{ place < 24 }}
+    ensures {{ result ≡ get_or values place 0 }}
 {{
     values[place]
 }}
 
 // Whether that value is 1.
 fn bit(values: [u32; 24], place: usize) -> bool
-    requires {{ ⌜ place < 24 ⌝ }}
-    ensures {{ λ r. ⌜ r ≡ eqb (getD values place 0) 1 ⌝ }}
+    requires {{ place < 24 }}
+    ensures {{ result ≡ eqb (get_or values place 0) 1 }}
 {{
     values[place] == 1
 }}
 
 // The fields of one bit by their place among the rows, for each place at which some layout has one.
+#[derive(Clone, Copy)]
 struct Bits {{
 {''.join(f"    b{k}: bool,{chr(10)}" for k in BITS)}}}
 
 fn bits_of(values: [u32; 24]) -> Bits
-    ensures {{ λ r. ⌜ r ≡ bitsOf values ⌝ }}
+    ensures {{ result ≡ bits_of values }}
 {{
     Bits {{
 {''.join(f"        b{k}: bit(values, {k}),{chr(10)}" for k in BITS)}    }}
@@ -392,12 +347,15 @@ fn bits_of(values: [u32; 24]) -> Bits
 def state_source(l):
     under = ' and '.join(f'type {number} under X = {x}' for x, types in CATALOGUES.items() for number, layout in types.items() if layout is l)
     text = f'// Layout {l.number}: {l.mnemonic}, {under}. Written by catalogue/write.py.\n'
-    text += ''.join(f'use cases::{e};\n' for e in sorted({r.type for r in l.named}))
-    text += 'use crate::bits_of;\n' + ('use crate::value;\n' if l.named else '')
-    text += 'ghost use mathlib.Core.Path.{_≡_};\n' + ('ghost use mathlib.Core.List.{[]};\n' if l.dat else '')
-    text += f'''ghost use Rattle·rows.specs.Values.{{padded}};
-ghost use Rattle·states·specs.specs.States.{{{l.key}Of, {l.key}Values}};
+    text += f'''ghost use Rattle.std.specs.Prelude.{{◌≡◌{", []" if l.dat else ""}}};
+ghost use Rattle.rows.specs.Values.{{padded}};
+ghost use Rattle.states.specs.States.{{{l.key}_of, {l.key}_values}};
 
+use crate::{"{bits_of, value}" if l.named else "bits_of"};
+'''
+    text += ''.join(f'use cases::{e};\n' for e in sorted({r.type for r in l.named}))
+    text += f'''
+#[derive(Clone, Copy)]
 pub struct {l.struct} {{
 '''
     text += ''.join(f'    pub {r.name}: {r.type}, // {r.field}\n' for r in l.fields) + '}\n'
@@ -408,17 +366,17 @@ pub struct {l.struct} {{
         text += f'''    }};
 
     pub fn without_data() -> {l.struct}
-        ensures {{ λ r. ⌜ r ≡ {l.key}Of [] ⌝ }}
+        ensures {{ result ≡ {l.key}_of [] }}
     {{
         {l.struct}::WITHOUT_DATA
     }}
 '''
-    text += f'\n    pub fn of_values(values: [u32; 24]) -> {l.struct}\n        ensures {{ λ r. ⌜ r ≡ {l.key}Of values ⌝ }}\n    {{\n'
+    text += f'\n    pub fn of_values(values: [u32; 24]) -> {l.struct}\n        ensures {{ result ≡ {l.key}_of values }}\n    {{\n'
     text += '        let bits = bits_of(values);\n'
     text += ''.join(f'        let {r.name} = {r.type}::of(value(values, {r.place}));\n' for r in l.named)
     text += f'        {l.struct} {{\n'
     text += ''.join(f'            {r.name}: bits.b{r.place},\n' if r.bit else f'            {r.name},\n' for r in l.fields)
-    text += f'        }}\n    }}\n\n    pub fn values(self) -> [u32; 24]\n        ensures {{ λ r. ⌜ r ≡ padded ({l.key}Values self) ⌝ }}\n    {{\n'
+    text += f'        }}\n    }}\n\n    pub fn values(self) -> [u32; 24]\n        ensures {{ result ≡ padded ({l.key}_values self) }}\n    {{\n'
     text += ''.join(f'        let {r.name} = self.{r.name};\n' for r in l.named)
     text += '        [\n'
     for r in l.rows:
@@ -430,26 +388,23 @@ pub struct {l.struct} {{
 def states_specs():
     text = '''-- For each layout: the state from its fields' values in the rows' order, and a state's values (a reserved row's is 0).
 -- Written by catalogue/write.py.
-use mathlib.Core.List.{List, [], _∷_}
-use Prim.Native.Nat.{ℕ}
-use lib.ListN.{getD}
-use lib.Dec.{eqb}
-use Rattle·rows.specs.Values.{bitNo}
+use Rattle.std.specs.Prelude.{List, [], ◌∷◌, ℕ, get_or, eqb}
+use Rattle.rows.specs.Values.{bit_no}
 '''
-    text += f'use Rattle·cases.specs.Cases.{{{names(low(e) + x for e in ENUMS for x in ("Of", "No"))}}}\n'
-    text += 'use Rattle·states·specs.specs.declared.Bits.{Bits}\n'
+    text += f'use Rattle.cases.specs.Cases.{{{by_enum("_of", "_no")}}}\n'
+    text += 'use Rattle.states.specs.declared.Bits.{Bits}\n'
     for s in STRUCTS:
-        text += f'use Rattle·states·specs.specs.declared.{module(s)}.{s}.{{{s}}}\n'
-    text += '\n-- b3 says whether the value at place 3 is 1, and so for each place at which some layout has a field of one bit\nabbrev pub bitsOf : List ℕ → Bits\nbitsOf vs = record {\n'
-    text += ''.join(f'  b{k} = eqb (getD vs {k} 0) 1;\n' for k in BITS) + '}\n'
+        text += f'use Rattle.states.specs.declared.{snake(s)}.{s}.{{{s}}}\n'
+    text += '\n-- b3 says whether the value at place 3 is 1, and so for each place at which some layout has a field of one bit\nabbrev pub bits_of : List ℕ → Bits\nbits_of vs = record {\n'
+    text += ''.join(f'  b{k} = eqb (get_or vs {k} 0) 1;\n' for k in BITS) + '}\n'
     for l in LAYOUTS:
-        text += f'\nabbrev pub {l.key}Of : List ℕ → {l.struct}\n{l.key}Of vs = record {{\n'
+        text += f'\nabbrev pub {l.key}_of : List ℕ → {l.struct}\n{l.key}_of vs = record {{\n'
         for r in l.fields:
-            value = f'eqb (getD vs {r.place} 0) 1' if r.bit else f'{low(r.type)}Of (getD vs {r.place} 0)'
-            text += f'  {r.key} = {value};\n'
-        text += f'}}\n\nabbrev pub {l.key}Values : {l.struct} → List ℕ\n{l.key}Values s =\n'
+            value = f'eqb (get_or vs {r.place} 0) 1' if r.bit else f'{snake(r.type)}_of (get_or vs {r.place} 0)'
+            text += f'  {r.name} = {value};\n'
+        text += f'}}\n\nabbrev pub {l.key}_values : {l.struct} → List ℕ\n{l.key}_values s =\n'
         for r in l.rows:
-            value = '0' if r.reserved else f'bitNo (s .{r.key})' if r.bit else f'{low(r.type)}No (s .{r.key})'
+            value = '0' if r.reserved else f'bit_no s.{r.name}' if r.bit else f'{snake(r.type)}_no s.{r.name}'
             text += f'    {value} ∷\n'
         text += '    []\n'
     return text
@@ -458,106 +413,29 @@ use Rattle·rows.specs.Values.{bitNo}
 def states_laws():
     text = '''-- For each layout: a state made from values keeps the listed ones (the others become 0), and a state's values make that state again.
 -- Written by catalogue/write.py. Assumes nothing.
-use mathlib.Core.Path.{_≡_}
-use mathlib.Core.List.{List, [], _∷_}
+use mathlib.Core.Path.{◌≡◌}
+use mathlib.Core.List.{List, [], ◌∷◌}
 use Prim.Native.Nat.{ℕ}
-use lib.ListN.{getD}
-use Rattle·rows.specs.Rows.{cells, rowsFrom}
-use Rattle·rows.specs.Values.{padded}
-use Rattle·rows.proofs.Listed.{listedFrom, bit-listed, bit-back, reserved-listed}
+use lib.ListN.{get_or}
+use Rattle.rows.specs.Rows.{cells, rows_from}
+use Rattle.rows.specs.Values.{padded}
+use Rattle.rows.proofs.Listed.{listed_from, bit_listed, bit_back, reserved_listed}
 '''
-    text += f'use Rattle·cases.proofs.CaseLaws.{{{names(low(e) + x for e in ENUMS for x in ("-listed", "-back"))}}}\n'
-    text += f'use Rattle·states·specs.specs.States.{{{names(l.key + x for l in LAYOUTS for x in ("Of", "Values"))}}}\n'
+    text += f'use Rattle.cases.proofs.CaseLaws.{{{by_enum("_listed", "_back")}}}\n'
+    text += f'use Rattle.states.specs.States.{{{by_layout("_of", "_values")}}}\n'
     for s in STRUCTS:
-        text += f'use Rattle·states·specs.specs.declared.{module(s)}.{s}.{{{s}}}\n'
+        text += f'use Rattle.states.specs.declared.{snake(s)}.{s}.{{{s}}}\n'
     for l in LAYOUTS:
-        text += f'\npub {l.key}-listed : (vs : List ℕ) → {l.key}Values ({l.key}Of vs) ≡ listedFrom 0 (rowsFrom {l.first} {len(l.rows)}) vs\n'
-        text += f'unfolding cells\n{l.key}-listed vs =\n    λ i.\n'
+        text += f'\npub {l.key}_listed : (vs : List ℕ) → {l.key}_values ({l.key}_of vs) ≡ listed_from 0 (rows_from {l.first} {len(l.rows)}) vs\n'
+        text += f'unfolding cells\n{l.key}_listed vs =\n    λ i.\n'
         for r in l.rows:
-            law = 'reserved' if r.reserved else 'bit' if r.bit else low(r.type)
-            text += f'    {law}-listed (getD vs {r.place} 0) i ∷\n'
-        text += f'    []\n\npub {l.key}-back : (s : {l.struct}) → {l.key}Of (padded ({l.key}Values s)) ≡ s\n{l.key}-back s = λ i. record {{\n'
+            law = 'reserved' if r.reserved else 'bit' if r.bit else snake(r.type)
+            text += f'    {law}_listed (get_or vs {r.place} 0) i ∷\n'
+        text += f'    []\n\npub {l.key}_back : (s : {l.struct}) → {l.key}_of (padded ({l.key}_values s)) ≡ s\n{l.key}_back s = λ i. record {{\n'
         for r in l.fields:
-            text += f'  {r.key} = {"bit" if r.bit else low(r.type)}-back (s .{r.key}) i;\n'
+            text += f'  {r.name} = {"bit" if r.bit else snake(r.type)}_back s.{r.name} i;\n'
         text += '}\n'
     return text
-
-
-def moments(read, step=1):
-    """The moment right after each read, and the lines that name it: from the last, c, backwards, each reached from the next."""
-    at = [f'at-{name.replace("_", "-")}' for name in read[:-1]] + ['c']
-    return at, ''.join(f'    let {earlier} = {later}{before(step)} in\n' for earlier, later in reversed(list(zip(at, at[1:]))))
-
-
-def of_values_proof(l):
-    at, lines = moments([r.name for r in l.named], 2)
-    uses = f'''use mathlib.Core.Path.{{_∙_, ap}}
-use lib.Dec.{{lit<}}
-use Rattle·cases.specs.Cases.{{{names(dict.fromkeys(low(r.type) + 'Of' for r in l.named))}}}
-''' if l.named else ''
-    text = f'''-- `states::{l.struct}::of_values` meets its contract: each field by what its reader ensures.
--- Written by catalogue/write.py. Assumes nothing.
-{uses}{ties('states', f'{module(l.struct)}.{l.struct}.of_values')}
-returns : tie.Need-returns
-returns c =
-{lines}    λ i.
-    let bits = ({at[0]}{before(2 if l.named else 0)} .bits-of .ensures) i in
-    record {{
-'''
-    for r in l.fields:
-        if r.bit:
-            value = f'bits .b{r.place}'
-        else:
-            i = l.named.index(r)
-            value = (f'({at[i]} .{nth("of", i + 1)} .ensures '
-                     f'∙ ap {low(r.type)}Of ({at[i]} .before .{nth("value", i + 1)} .ensures)) i')
-        text += f'      {r.key} = {value};\n'
-    return text + '    }\n\n' + spec_end('of-values', [CALL] + [LISTED, CALL] * len(l.named) + ['returns'])
-
-
-def bits_of_proof():
-    at, lines = moments([f'b{k}' for k in BITS])
-    text = f'''-- `states::bits_of` meets its contract: each bit by what its reader ensures.
--- Written by catalogue/write.py. Assumes nothing.
-use lib.Dec.{{lit<}}
-{ties('states', 'bits_of')}
-returns : tie.Need-returns
-returns c =
-{lines}    λ i.
-    record {{
-'''
-    for i, k in enumerate(BITS):
-        text += f'      b{k} = ({at[i]} .{nth("bit", i + 1)} .ensures) i;\n'
-    return text + '    }\n\n' + spec_end('bits-of', [LISTED] * len(BITS) + ['returns'])
-
-
-def values_proof(l):
-    at, lines = moments([r.name for r in l.fields])
-    done, parts, answers = 0, [], []
-    for r in l.rows:
-        if r.reserved:
-            parts.append('0')
-        elif r.bit:
-            parts.append(f'bitNo (s .{r.key})')
-            answers.append(CAST)
-        else:
-            done += 1
-            parts.append(f'({at[l.fields.index(r)]} .{nth("number", done)} .ensures) i')
-            answers.append(CALL)
-    return f'''-- `states::{l.struct}::values` meets its contract: each named field by what its number ensures.
--- Written by catalogue/write.py. Assumes nothing.
-use mathlib.Core.List.{{[], _∷_}}
-use Rattle·rows.specs.Values.{{padded, bitNo}}
-{ties('states', f'{module(l.struct)}.{l.struct}.values')}
-returns : tie.Need-returns
-returns c =
-{lines}    let s = {at[0]} .before .args .self in
-    λ i.
-    padded
-    ({' ∷ '.join(parts)} ∷
-    [])
-
-{spec_end('values', answers + ['returns'])}'''
 
 
 # ---- kinds: what depends on the kind
@@ -570,41 +448,45 @@ def kinds_source():
     text = f'''// The floor of kinds: the kinds of element, one for each layout, the state of any kind, and every function that has an arm
 // for each kind. Written by catalogue/write.py from catalogue/fields.tsv, where a layout is added. It refuses nothing. The floors above
 // read what they need of a kind from its layout.
-use rows::Layout;
-use rows::Marks;
-{''.join(f"use states::{s};{chr(10)}" for s in sorted(STRUCTS))}
-ghost use mathlib.Core.Path.{{_≡_}};
-ghost use Prim.Native.Nat.{{_+_, _≤_}};
-ghost use lib.Dec.{{T}};
-ghost use lib.ListN.{{length}};
-ghost use Rattle·rows.specs.Values.{{padded}};
-ghost use Rattle·rows.specs.Marks.{{marked, Shows}};
-ghost use Rattle·kinds·specs.specs.Kinds.{{layoutOf, widthOf, rowsOf, findByNumber, kindIn, elementOf, elementValues}};
-ghost use Rattle·kinds·specs.specs.Glances.{{Glanced}};
+#![tactic(auto)]
+
+ghost use Rattle.std.specs.Prelude.{{◌≡◌, ◌+◌, ◌≤◌, T, length}};
+ghost use Rattle.rows.specs.Values.{{padded}};
+ghost use Rattle.rows.specs.Marks.{{marked, Shows}};
+ghost use Rattle.kinds.specs.Kinds.{{layout_of, width_of, rows_of, find_by_number, kind_in, element_of, element_values}};
+ghost use Rattle.kinds.specs.Glances.{{Glanced}};
+
+use rows::{{Layout, Marks}};
+use states::{{{names(sorted(STRUCTS))}}};
 
 // The kinds of element that are carried.
+#[derive(Clone, Copy)]
 pub enum Kind {{
 {''.join(f"    {s},{chr(10)}" for s in STRUCTS)}}}
 
 // A state of any kind.
+#[derive(Clone, Copy)]
 pub enum Element {{
 {''.join(f"    {s}({s}),{chr(10)}" for s in STRUCTS)}}}
 
 // What a number stands for: a kind that is carried, or none.
+#[derive(Clone, Copy)]
 pub enum OptionalKind {{
     Some(Kind),
     None,
 }}
 
 // What a glance at an element gives: its number, and whether each field is shown to have a listed value.
+#[derive(Clone, Copy)]
 pub struct Glance {{
     pub word: u32,
     pub listed: bool,
 }}
 
 // A kind's layout: which rows are its own, its width, and whether it has DAT.
+#[tactic(auto, unfolding(rows::specs::Rows::layouts))]
 pub fn layout(kind: Kind) -> Layout
-    ensures {{ λ r. ⌜ r ≡ layoutOf kind ⌝ }}
+    ensures {{ result ≡ layout_of kind }}
 {{
 '''
     text += match('kind', lambda l: f'''Layout {{
@@ -617,26 +499,28 @@ pub fn layout(kind: Kind) -> Layout
     text += '''
 // A kind's marks. The contract checks them against its rows.
 fn marks(kind: Kind) -> Marks
-    ensures { λ r. ⌜ T (marked (r .add) (r .carry) (rowsOf kind)) ⌝ }
+    ensures { T (marked result.add result.carry (rows_of kind)) }
 {
 ''' + match('kind', lambda l: f'Marks {{ add: {l.add:#x}, carry: {l.carry:#x} }}', kind) + '''
 // Whether a glance at an element's number shows that each field has a listed value. If it doesn't, the rows decide.
+#[tactic(auto, using(rows::proofs::Glance::shows))]
 pub fn shows_listed(word: u32, kind: Kind) -> bool
-    ensures { λ r. ⌜ Shows (rowsOf kind) word r ⌝ }
+    ensures { Shows (rows_of kind) word result }
 {
     rows::carries_none(word, marks(kind))
 }
 
 // A glance at the element at a place. Each kind has its own arm, in which its width and its marks are known to the compiler.
+#[tactic(auto, unfolding(rows::specs::Rows::layouts))]
 pub fn glance_at(s: &[u8], at: usize, kind: Kind) -> Glance
-    requires { ⌜ at + widthOf kind ≤ length (now s) ⌝ }
-    ensures { λ r. ⌜ Glanced kind (now (s .entry)) at r ⌝ }
+    requires { at + width_of kind ≤ length s.now }
+    ensures { Glanced kind s.now at result }
 {
 ''' + match('kind', lambda l: f'glance_by(s, at, kind, {l.struct}::WIDTH)', kind) + '''
 // One arm of `glance_at`: the kind, and its width as a constant.
 fn glance_by(s: &[u8], at: usize, kind: Kind, width: usize) -> Glance
-    requires { ⌜ (width ≡ widthOf kind) × (width ≤ 4) × (at + widthOf kind ≤ length (now s)) ⌝ }
-    ensures { λ r. ⌜ Glanced kind (now (s .entry)) at r ⌝ }
+    requires { (width ≡ width_of kind) × (width ≤ 4) × (at + width_of kind ≤ length s.now) }
+    ensures { Glanced kind s.now at result }
 {
     let word = octets::get_at(s, at, width);
     let listed = shows_listed(word, kind);
@@ -644,8 +528,9 @@ fn glance_by(s: &[u8], at: usize, kind: Kind, width: usize) -> Glance
 }
 
 // The kind whose layout has this number, if there is one.
+#[tactic(auto, unfolding(rows::specs::Rows::layouts))]
 pub fn find_by_number(number: u8) -> OptionalKind
-    ensures { λ r. ⌜ r ≡ findByNumber number ⌝ }
+    ensures { result ≡ find_by_number number }
 {
     match number {
 ''' + ''.join(f'        {l.number} => return OptionalKind::Some(Kind::{l.struct}),\n' for l in LAYOUTS) + '''        _ => return OptionalKind::None,
@@ -654,17 +539,17 @@ pub fn find_by_number(number: u8) -> OptionalKind
 
 // The kind of a state.
 pub fn kind_in(element: Element) -> Kind
-    ensures { λ r. ⌜ r ≡ kindIn element ⌝ }
+    ensures { result ≡ kind_in element }
 {
 ''' + match('element', kind, lambda l: f'Element::{l.struct}(_)') + '''
 // A kind's state from its fields' values in the rows' order.
 pub fn element_of(kind: Kind, values: [u32; 24]) -> Element
-    ensures { λ r. ⌜ r ≡ elementOf kind values ⌝ }
+    ensures { result ≡ element_of kind values }
 {
 ''' + match('kind', lambda l: f'Element::{l.struct}({l.struct}::of_values(values))', kind) + '''
 // A state's fields' values in the rows' order, padded with zeros.
 pub fn values_of(element: Element) -> [u32; 24]
-    ensures { λ r. ⌜ r ≡ padded (elementValues element) ⌝ }
+    ensures { result ≡ padded (element_values element) }
 {
 ''' + match('element', lambda l: 'state.values()', lambda l: f'Element::{l.struct}(state)')
     return text
@@ -674,18 +559,15 @@ def kinds_specs():
     kinds = ' ∷ '.join(f'Kind.{s}' for s in STRUCTS)
     text = '''-- The kinds of element, one for each layout; the layout of each; the state of any kind, from its fields' values and back.
 -- Written by catalogue/write.py.
-use mathlib.Core.Bool.{cond}
-use mathlib.Core.List.{List, [], _∷_, map}
-use Prim.Native.Nat.{ℕ}
-use lib.Dec.{eqb}
-use Rattle·rows.specs.Rows.{Row, layoutAt}
-use Rattle·rows.specs.Covering.{layoutRows}
-use Rattle·rows.specs.declared.Layout.{Layout}
+use Rattle.std.specs.Prelude.{cond, List, [], ◌∷◌, map, ℕ, eqb}
+use Rattle.rows.specs.Rows.{Row, layout_at}
+use Rattle.rows.specs.Covering.{layout_rows}
+use Rattle.rows.specs.declared.Layout.{Layout}
 '''
-    text += f'use Rattle·states.specs.States.{{{names(l.key + x for l in LAYOUTS for x in ("Of", "Values"))}}}\n'
-    text += f'''use Rattle·kinds·specs.specs.declared.Kind.{{Kind}}
-use Rattle·kinds·specs.specs.declared.Element.{{Element}}
-use Rattle·kinds·specs.specs.declared.OptionalKind.{{OptionalKind}}
+    text += f'use Rattle.states.specs.States.{{{by_layout("_of", "_values")}}}\n'
+    text += f'''use Rattle.kinds.specs.declared.Kind.{{Kind}}
+use Rattle.kinds.specs.declared.Element.{{Element}}
+use Rattle.kinds.specs.declared.OptionalKind.{{OptionalKind}}
 
 abbrev pub kinds : List Kind
 kinds = {kinds} ∷ []
@@ -693,103 +575,109 @@ kinds = {kinds} ∷ []
 -- a kind's place among them, which is its layout's place among the layouts
 abbrev pub place : Kind → ℕ
 {''.join(f"place Kind.{l.struct} = {l.place}{chr(10)}" for l in LAYOUTS)}
-abbrev pub layoutOf : Kind → Layout
-layoutOf k = layoutAt (place k)
+abbrev pub layout_of : Kind → Layout
+layout_of k = layout_at (place k)
 
-abbrev pub layoutNo : Kind → ℕ
-layoutNo k = layoutOf k .number
+abbrev pub layout_no : Kind → ℕ
+layout_no k = (layout_of k).number
 
-abbrev pub widthOf : Kind → ℕ
-widthOf k = layoutOf k .bytes
+abbrev pub width_of : Kind → ℕ
+width_of k = (layout_of k).bytes
 
-abbrev pub rowsOf : Kind → List Row
-rowsOf k = layoutRows (layoutOf k)
+abbrev pub rows_of : Kind → List Row
+rows_of k = layout_rows (layout_of k)
 
 -- a number, and the kind that it stands for
 pub record KindLine : Type 0 where
   pub number : ℕ
   pub kind : Kind
 
-abbrev pub kindLine : ℕ → Kind → KindLine
-kindLine number kind = record {{ number = number; kind = kind }}
+abbrev pub kind_line : ℕ → Kind → KindLine
+kind_line number kind = record {{ number = number; kind = kind }}
 
 -- the kind that a number stands for, by the first line that has it
-abbrev pub findIn : ℕ → List KindLine → OptionalKind
-findIn n [] = OptionalKind.None
-findIn n (l ∷ ls) = cond (eqb n (l .number)) (OptionalKind.Some (l .kind)) (findIn n ls)
+abbrev pub find_in : ℕ → List KindLine → OptionalKind
+find_in n [] = OptionalKind.None
+find_in n (l ∷ ls) = cond (eqb n l.number) (OptionalKind.Some l.kind) (find_in n ls)
 
 -- a line for each kind, with the number of its layout
-abbrev pub kindLines : List KindLine
-kindLines = map (λ (k : Kind). kindLine (layoutNo k) k) kinds
+abbrev pub kind_lines : List KindLine
+kind_lines = map (λ (k : Kind). kind_line (layout_no k) k) kinds
 
-abbrev pub findByNumber : ℕ → OptionalKind
-findByNumber n = findIn n kindLines
+abbrev pub find_by_number : ℕ → OptionalKind
+find_by_number n = find_in n kind_lines
 
-abbrev pub elementOf : Kind → List ℕ → Element
-{''.join(f"elementOf Kind.{l.struct} vs = Element.{l.struct} ({l.key}Of vs){chr(10)}" for l in LAYOUTS)}
-abbrev pub elementValues : Element → List ℕ
-{''.join(f"elementValues (Element.{l.struct} s) = {l.key}Values s{chr(10)}" for l in LAYOUTS)}
-abbrev pub kindIn : Element → Kind
-{''.join(f"kindIn (Element.{s} s) = Kind.{s}{chr(10)}" for s in STRUCTS)}'''
+abbrev pub element_of : Kind → List ℕ → Element
+{''.join(f"element_of Kind.{l.struct} vs = Element.{l.struct} ({l.key}_of vs){chr(10)}" for l in LAYOUTS)}
+abbrev pub element_values : Element → List ℕ
+{''.join(f"element_values (Element.{l.struct} s) = {l.key}_values s{chr(10)}" for l in LAYOUTS)}
+abbrev pub kind_in : Element → Kind
+{''.join(f"kind_in (Element.{s} s) = Kind.{s}{chr(10)}" for s in STRUCTS)}'''
     return text
 
 
 def glance_specs():
     return '''-- A glance at the element at a place: a shortcut of the code, nothing to believe.
 -- Written by catalogue/write.py.
-use mathlib.Core.Path.{_≡_}
-use mathlib.Core.List.{List}
-use Prim.Native.Nat.{ℕ}
-use lib.ListN.{take, drop}
-use Rattle·octets.specs.Octets.{number}
-use Rattle·rows.specs.Marks.{Shows}
-use Rattle·kinds·specs.specs.Kinds.{widthOf, rowsOf}
-use Rattle·kinds·specs.specs.declared.Kind.{Kind}
-use Rattle·kinds·specs.specs.declared.Glance.{Glance}
+use Rattle.std.specs.Prelude.{◌≡◌, List, ℕ, take, drop}
+use Rattle.octets.specs.Octets.{number}
+use Rattle.rows.specs.Marks.{Shows}
+use Rattle.kinds.specs.Kinds.{width_of, rows_of}
+use Rattle.kinds.specs.declared.Kind.{Kind}
+use Rattle.kinds.specs.declared.Glance.{Glance}
 
 -- the element's number, and what a glance says of its fields
 pub record Glanced (k : Kind) (b : List ℕ) (at : ℕ) (r : Glance) : Type 0 where
-  pub read : r .word ≡ number (take (widthOf k) (drop at b))
-  pub shown : Shows (rowsOf k) (r .word) (r .listed)
+  pub read : r.word ≡ number (take (width_of k) (drop at b))
+  pub shown : Shows (rows_of k) r.word r.listed
 '''
 
 
 def lookup_law():
     return '''-- Looking up a number among lines: if no line has it, nothing is found; what a test says of every line holds of the line found.
 -- Written by catalogue/write.py. Assumes nothing.
-use mathlib.Core.Path.{_≡_, _∙_, refl, sym, ap, subst, subst⁻¹}
-use mathlib.Core.Bool.{Bool, true, false, cond, _&&_}
-use mathlib.Core.List.{List, [], _∷_}
+use mathlib.Core.Path.{◌≡◌, ◌∙◌, refl, sym, ap, subst, subst⁻¹}
+use mathlib.Core.Bool.{Bool, true, false, cond, ◌&&◌}
+use mathlib.Core.List.{List, [], ◌∷◌}
 use Prim.Native.Nat.{ℕ}
 use native.Mathlib.Omega.{arith}
 use lib.Dec.{T, eqb}
-use borrow.Author.Tests.{ne-eqb, eqb-true}
-use Rattle·rows.proofs.Tests.{both-left, both-right}
-use Rattle·kinds·specs.specs.Kinds.{KindLine, findIn}
-use Rattle·kinds·specs.specs.declared.Kind.{Kind}
-use Rattle·kinds·specs.specs.declared.OptionalKind.{OptionalKind}
+use borrow.Author.Tests.{ne_eqb, eqb-true}
+use Rattle.rows.proofs.Tests.{both_left, both_right}
+use Rattle.kinds.specs.Kinds.{KindLine, find_in}
+use Rattle.kinds.specs.declared.Kind.{Kind}
+use Rattle.kinds.specs.declared.OptionalKind.{OptionalKind}
 
 abbrev pub Apart : ℕ → List KindLine → Type 0
 Apart n [] = Unit
-Apart n (l ∷ ls) = (n ≡ l .number → ⊥) × Apart n ls
+Apart n (l ∷ ls) = (n ≡ l.number → ⊥) × Apart n ls
 
-pub not-found : (n : ℕ) (ls : List KindLine) → Apart n ls → OptionalKind.None ≡ findIn n ls
-not-found n [] a = refl
-not-found n (l ∷ ls) a = not-found n ls (a .1) ∙ sym (ap (λ (b : Bool). cond b (OptionalKind.Some (l .kind)) (findIn n ls)) (ne-eqb n (l .number) (a .0)))
+pub not_found : (n : ℕ) (ls : List KindLine) → Apart n ls → OptionalKind.None ≡ find_in n ls
+not_found n [] a = refl
+not_found n (l ∷ ls) a =
+    not_found n ls a.1
+    ∙ sym (ap (λ (b : Bool). cond b (OptionalKind.Some l.kind) (find_in n ls)) (ne_eqb n l.number a.0))
 
-abbrev pub allLines : (ℕ → Kind → Bool) → List KindLine → Bool
-allLines test [] = true
-allLines test (l ∷ ls) = test (l .number) (l .kind) && allLines test ls
+abbrev pub all_lines : (ℕ → Kind → Bool) → List KindLine → Bool
+all_lines test [] = true
+all_lines test (l ∷ ls) = test l.number l.kind && all_lines test ls
 
-pub every-line : (test : ℕ → Kind → Bool) (n : ℕ) (ls : List KindLine) → T (allLines test ls) → {k : Kind} → findIn n ls ≡ OptionalKind.Some k → T (test n k)
-every-line test n [] t e = absurd (let z : _≡_ {A = ℕ} 0 1 = cc in omega arith)
-every-line test n (l ∷ ls) t {k} e = at (eqb n (l .number)) refl (every-line test n ls (both-right (test (l .number) (l .kind)) (allLines test ls) t)) e
+pub every_line : (test : ℕ → Kind → Bool) (n : ℕ) (ls : List KindLine) → T (all_lines test ls) → {k : Kind}
+    → find_in n ls ≡ OptionalKind.Some k → T (test n k)
+every_line test n [] t e = absurd (let z : ◌≡◌ {A = ℕ} 0 1 = cc in omega arith)
+every_line test n (l ∷ ls) t {k} e =
+    at (eqb n l.number) refl (every_line test n ls (both_right (test l.number l.kind) (all_lines test ls) t)) e
   where
-    here : (j : Kind) → T (test (l .number) j) → OptionalKind.Some j ≡ OptionalKind.Some k → n ≡ l .number → T (test n k)
-    here j h e q = subst⁻¹ (λ (m : ℕ). T (test m k)) q (let same : j ≡ k = cc in subst (λ (j : Kind). T (test (l .number) j)) same h)
+    here : (j : Kind) → T (test l.number j) → OptionalKind.Some j ≡ OptionalKind.Some k → n ≡ l.number
+        → T (test n k)
+    here j h e q =
+        subst⁻¹ (λ (m : ℕ). T (test m k)) q
+        (let same : j ≡ k = cc in subst (λ (j : Kind). T (test l.number j)) same h)
 
-    at : (b : Bool) → eqb n (l .number) ≡ b → (findIn n ls ≡ OptionalKind.Some k → T (test n k)) → cond b (OptionalKind.Some (l .kind)) (findIn n ls) ≡ OptionalKind.Some k → T (test n k)
-    at true q rest e = here (l .kind) (both-left (test (l .number) (l .kind)) (allLines test ls) t) e (eqb-true n (l .number) q)
+    at : (b : Bool) → eqb n l.number ≡ b → (find_in n ls ≡ OptionalKind.Some k → T (test n k))
+        → cond b (OptionalKind.Some l.kind) (find_in n ls) ≡ OptionalKind.Some k → T (test n k)
+    at true q rest e =
+        here l.kind (both_left (test l.number l.kind) (all_lines test ls) t) e (eqb-true n l.number q)
     at false q rest e = rest e
 '''
 
@@ -798,192 +686,81 @@ def kinds_laws():
     text = '''-- For each kind: it has a layout, the layout's number finds it, a state made from values keeps the listed ones, and a state's values
 -- make that state again.
 -- Written by catalogue/write.py. Assumes nothing.
-use mathlib.Core.Path.{_≡_, refl, ap}
+use mathlib.Core.Path.{◌≡◌, refl, ap}
 use mathlib.Core.List.{List, [], map}
-use Prim.Native.Nat.{ℕ, _<_}
+use Prim.Native.Nat.{ℕ, ◌<◌}
 use lib.Dec.{lit<}
-use lib.ListN.{length, getD}
-use Rattle·rows.specs.Rows.{cells, layouts}
-use Rattle·rows.specs.Values.{padded, valuesOf}
-use Rattle·rows.proofs.Listed.{listedFrom}
+use lib.ListN.{length, get_or}
+use Rattle.rows.specs.Rows.{cells, layouts}
+use Rattle.rows.specs.Values.{padded, values_of}
+use Rattle.rows.proofs.Listed.{listed_from}
 '''
-    text += f'use Rattle·states.proofs.StateLaws.{{{names(l.key + x for l in LAYOUTS for x in ("-listed", "-back"))}}}\n'
-    text += f'''use Rattle·kinds·specs.specs.Kinds.{{kinds, place, layoutNo, rowsOf, findByNumber, elementOf, elementValues, kindIn}}
-use Rattle·kinds·specs.specs.declared.Kind.{{Kind}}
-use Rattle·kinds·specs.specs.declared.Element.{{Element}}
-use Rattle·kinds·specs.specs.declared.OptionalKind.{{OptionalKind}}
+    text += f'use Rattle.states.proofs.StateLaws.{{{by_layout("_listed", "_back")}}}\n'
+    text += f'''use Rattle.kinds.specs.Kinds.{{kinds, place, layout_no, rows_of, find_by_number, element_of, element_values, kind_in}}
+use Rattle.kinds.specs.declared.Kind.{{Kind}}
+use Rattle.kinds.specs.declared.Element.{{Element}}
+use Rattle.kinds.specs.declared.OptionalKind.{{OptionalKind}}
 
 -- two functions that agree on the list of all kinds agree on each, so a table with a line for each kind is one computation
-pub every-kind : {{A : Type 0}} (f g : Kind → A) → map f kinds ≡ map g kinds → (k : Kind) → f k ≡ g k
-{''.join(f"every-kind {{A}} f g e Kind.{l.struct} = ap (λ (l : List A). getD l {l.place} (f Kind.{l.struct})) e{chr(10)}" for l in LAYOUTS)}
+pub every_kind : {{A : Type 0}} (f g : Kind → A) → map f kinds ≡ map g kinds → (k : Kind) → f k ≡ g k
+{''.join(f"every_kind {{A}} f g e Kind.{l.struct} = ap (λ (l : List A). get_or l {l.place} (f Kind.{l.struct})) e{chr(10)}" for l in LAYOUTS)}
 pub placed : (k : Kind) → place k < length layouts
 unfolding layouts
 {''.join(f"placed Kind.{s} = lit< tt{chr(10)}" for s in STRUCTS)}
-pub kind-found : (k : Kind) → findByNumber (layoutNo k) ≡ OptionalKind.Some k
+pub kind_found : (k : Kind) → find_by_number (layout_no k) ≡ OptionalKind.Some k
 unfolding layouts
-{''.join(f"kind-found Kind.{s} = refl{chr(10)}" for s in STRUCTS)}
-pub element-listed : (k : Kind) (vs : List ℕ) → elementValues (elementOf k vs) ≡ listedFrom 0 (rowsOf k) vs
+{''.join(f"kind_found Kind.{s} = refl{chr(10)}" for s in STRUCTS)}
+pub element_listed : (k : Kind) (vs : List ℕ) → element_values (element_of k vs) ≡ listed_from 0 (rows_of k) vs
 unfolding layouts
-{''.join(f"element-listed Kind.{l.struct} vs = {l.key}-listed vs{chr(10)}" for l in LAYOUTS)}
-pub element-back : (e : Element) → elementOf (kindIn e) (padded (elementValues e)) ≡ e
-{''.join(f"element-back (Element.{l.struct} s) = ap Element.{l.struct} ({l.key}-back s){chr(10)}" for l in LAYOUTS)}
-pub element-kind : (k : Kind) (vs : List ℕ) → kindIn (elementOf k vs) ≡ k
-{''.join(f"element-kind Kind.{s} vs = refl{chr(10)}" for s in STRUCTS)}
+{''.join(f"element_listed Kind.{l.struct} vs = {l.key}_listed vs{chr(10)}" for l in LAYOUTS)}
+pub element_back : (e : Element) → element_of (kind_in e) (padded (element_values e)) ≡ e
+{''.join(f"element_back (Element.{l.struct} s) = ap Element.{l.struct} ({l.key}_back s){chr(10)}" for l in LAYOUTS)}
+pub element_kind : (k : Kind) (vs : List ℕ) → kind_in (element_of k vs) ≡ k
+{''.join(f"element_kind Kind.{s} vs = refl{chr(10)}" for s in STRUCTS)}
 -- the number 0 is read as the state of no values, which is the one without data if the kind has DAT
-pub zero-state : (k : Kind) → elementOf k (padded (valuesOf 0 (rowsOf k))) ≡ elementOf k []
+pub zero_state : (k : Kind) → element_of k (padded (values_of 0 (rows_of k))) ≡ element_of k []
 unfolding cells layouts
-{''.join(f"zero-state Kind.{s} = refl{chr(10)}" for s in STRUCTS)}'''
+{''.join(f"zero_state Kind.{s} = refl{chr(10)}" for s in STRUCTS)}'''
     return text
 
 
-def by_kind_proof(fn, spec, value, opens):
-    arms = [f'(λ c. sym (ap {spec} (c .{nth("enum-told", i)} .given .1)))' for i in range(1, len(LAYOUTS) + 1)]
-    spec_name = fn.replace('_', '-')
-    text = f'''-- `kinds::{fn}` meets its contract, arm by arm.
--- Written by catalogue/write.py. Assumes nothing.
-use mathlib.Core.Path.{{sym, ap}}
-{value}use Rattle·kinds·specs.specs.Kinds.{{{spec}}}
-{ties('kinds', fn)}
-'''
-    end = spec_end(spec_name, each(told(len(LAYOUTS)), arms))
-    return text + (end.replace('statement M\n', f'statement M\nunfolding {opens}\n') if opens else end)
-
-
-def refuted(n):
-    """In the last arm of a match on a number: that it is none of the n before, beginning with the first."""
-    rest = 'tt'
-    for i in reversed(range(n)):
-        rest = f'(c .match .rest{" .0" * (n - 1 - i)} .1, {rest})'
-    return rest
-
-
-def lookup_proof(crate, fn, says, uses, lines, n, opens, number):
-    """The proof of a match on a number with an arm for each of n lines, and one for a number that no line has."""
-    answers = [f'(λ c. sym (ap (λ (n : ℕ). findIn n {lines}) (c .match .keys{i + 1})))' for i in range(n)]
-    opened = f'unfolding {opens}\n' if opens else ''
-    name = fn.split('.')[-1].replace('_', '-')
-    return f'''-- `{crate}::{fn.replace('.', '::')}` meets its contract: {says}.
--- Written by catalogue/write.py. Assumes nothing.
-use mathlib.Core.Path.{{sym, ap}}
-use Prim.Native.Nat.{{ℕ}}
-{uses}{ties(crate, fn)}
-other : tie.Need-{returns(n + 1)}
-{opened}other c = not-found (c .before .args .{number}) {lines} {refuted(n)}
-
-{spec_end(name, answers + ['other']).replace('statement M' + chr(10), 'statement M' + chr(10) + opened)}'''
-
-
-def find_by_number_proof():
-    return lookup_proof(
-        'kinds', 'find_by_number', "a number that no layout has finds no kind",
-        'use Rattle·rows.specs.Rows.{layouts}\nuse Rattle·kinds·specs.specs.Kinds.{findIn, kindLines}\nuse Rattle·kinds·proofs.proofs.Lookup.{not-found}\n',
-        'kindLines', len(LAYOUTS), 'layouts', 'number')
-
-
-def per_kind_proof(fn, uses, answer):
-    n = len(LAYOUTS)
-    text = f'''-- `kinds::{fn}` meets its contract: each kind by what its own function ensures.
--- Written by catalogue/write.py. Assumes nothing.
-use mathlib.Core.Path.{{_∙_, sym, ap}}
-{uses}use Rattle·kinds·specs.specs.declared.Element.{{Element}}
-{ties('kinds', fn)}'''
-    for i, l in enumerate(LAYOUTS, 1):
-        text += f'\n{returns(i)} : tie.Need-{returns(i)}\n{returns(i)} c = {answer(i, l)}\n'
-    return text + '\n' + spec_end(fn.replace('_', '-'), each(told(n), [CALL] * n, [returns(i) for i in range(1, n + 1)]))
-
-
-def element_of_answer(i, l):
-    return (f'ap Element.{l.struct} (c .{nth("of-values", i)} .ensures) '
-            f'∙ sym (ap (λ (k : Kind). elementOf k (c .before .before .before .args .values)) (c .before .{nth("enum-told", i)} .given .1))')
-
-
-def values_of_answer(i, l):
-    return (f'c .{nth("values", i)} .ensures '
-            f'∙ sym (ap (λ (e : Element). padded (elementValues e)) (c .before .before .{nth("element", i)} .given .1))')
-
-
 def marks_proof():
-    n = len(LAYOUTS)
-    text = f'''-- `kinds::marks` meets its contract: each kind's marks are checked against its rows.
+    text = '''-- `kinds::marks` meets its contract: each kind's marks are checked against its rows.
 -- Written by catalogue/write.py. Assumes nothing.
-use mathlib.Core.Path.{{_≡_, subst⁻¹}}
-use Prim.Native.Nat.{{ℕ}}
-use lib.Dec.{{T}}
-use Rattle·rows.specs.Rows.{{cells, layouts}}
-use Rattle·rows.specs.Marks.{{marked}}
-use Rattle·kinds·specs.specs.Kinds.{{rowsOf}}
-use Rattle·kinds·specs.specs.declared.Kind.{{Kind}}
-{ties('kinds', 'marks')}
+use mathlib.Core.Path.{◌≡◌, subst⁻¹}
+use Prim.Native.Nat.{ℕ}
+use lib.Dec.{T}
+use Rattle.rows.specs.Rows.{cells, layouts}
+use Rattle.rows.specs.Marks.{marked}
+use Rattle.kinds.specs.Kinds.{rows_of}
+use Rattle.kinds.specs.declared.Kind.{Kind}
+use Rattle.kinds.proofs.marks.Goals as goal
+
+fits : (add carry : ℕ) {k j : Kind} → k ≡ j → T (marked add carry (rows_of j)) → T (marked add carry (rows_of k))
+fits add carry e t = subst⁻¹ (λ (k : Kind). T (marked add carry (rows_of k))) e t
 '''
-    text += '''fits : (add carry : ℕ) {k j : Kind} → k ≡ j → T (marked add carry (rowsOf j)) → T (marked add carry (rowsOf k))
-fits add carry e t = subst⁻¹ (λ (k : Kind). T (marked add carry (rowsOf k))) e t
-
+    for s in STRUCTS:
+        text += f'''
+pub returns-in-{s} : goal.returns-in-{s}
+unfolding cells layouts
+returns-in-{s} c = fits _ _ c.in-{s}.is tt
 '''
-    arms = [f'(λ c. fits _ _ (c .{nth("enum-told", i)} .given .1) tt)' for i in range(1, n + 1)]
-    return text + spec_end('marks', each(told(n), arms)).replace('statement M\n', 'statement M\nunfolding cells layouts\n')
-
-
-def shows_listed_proof():
-    return f'''-- `kinds::shows_listed` meets its contract: the marks are those of the kind's rows.
--- Written by catalogue/write.py. Assumes nothing.
-use Rattle·rows.proofs.Glance.{{shows}}
-{ties('kinds', 'shows_listed')}
-returns : tie.Need-returns
-returns c = shows _ _ (c .before .marks .ensures) (c .carries-none .ensures)
-
-{spec_end('shows-listed', [CALL, CALL, 'returns'])}'''
-
-
-def glance_at_proof():
-    n = len(LAYOUTS)
-    calls = [f'(λ c κs. (sym (ap widthOf (c .{nth("enum-told", i)} .given .1)), lit≤ tt, c .before .before .before .pre))' for i in range(1, n + 1)]
-    arms = [f'(λ c. c .{nth("glance-by", i)} .ensures)' for i in range(1, n + 1)]
-    text = f'''-- `kinds::glance_at` meets its contract: each kind by its own width.
--- Written by catalogue/write.py. Assumes nothing.
-use mathlib.Core.Path.{{sym, ap}}
-use lib.Dec.{{lit≤}}
-use Rattle·rows.specs.Rows.{{layouts}}
-use Rattle·kinds·specs.specs.Kinds.{{widthOf}}
-{ties('kinds', 'glance_at')}
-'''
-    return text + spec_end('glance-at', each(told(n), calls, arms)).replace('statement M\n', 'statement M\nunfolding layouts\n')
-
-
-def glance_by_proof():
-    return f'''-- `kinds::glance_by` meets its contract: the number of as many bytes as the kind is wide, and what a glance shows of it.
--- Written by catalogue/write.py. Assumes nothing.
-use mathlib.Core.Path.{{_∙_, ap}}
-use Prim.Native.Nat.{{ℕ}}
-use native.Mathlib.Omega.{{arith}}
-use lib.ListN.{{take, drop}}
-use Rattle·octets.specs.Octets.{{number}}
-{ties('kinds', 'glance_by')}
-returns : tie.Need-returns
-returns c =
-    let read = c .before in
-    let start = read .before .before in
-    let a = start .args in
-    record {{
-      read = read .get-at .ensures .0 ∙ ap (λ (n : ℕ). number (take n (drop (a .at) (a .s .now)))) (start .pre .0);
-      shown = c .shows-listed .ensures;
-    }}
-
-{spec_end('glance-by', ['(λ c κs. (omega arith, omega arith))', CALL, 'returns'])}'''
+    return text
 
 
 # ---- elements: which types are carried
 
 def types_source():
     text = f'''// Which types are carried under each catalogue's X, and as which kind. Written by catalogue/write.py from catalogue/types.tsv.
-use kinds::Kind;
-use kinds::OptionalKind;
-ghost use mathlib.Core.Path.{{_≡_}};
-ghost use Rattle·kinds.specs.Kinds.{{findIn}};
-ghost use Rattle·elements·specs.specs.Types.{{{names([f"typesUnder{x}" for x in CATALOGUES] + ["findByType"])}}};
+ghost use Rattle.std.specs.Prelude.{{◌≡◌}};
+ghost use Rattle.kinds.specs.Kinds.{{find_in}};
+ghost use Rattle.elements.specs.Types.{{{names([f"types_under{x}" for x in CATALOGUES] + ["find_by_type"])}}};
+
+use kinds::{{Kind, OptionalKind}};
 
 // The kind of a type under a catalogue's X, if it is carried.
 pub fn find_by_type(x: u8, ty: u8) -> OptionalKind
-    ensures {{ λ r. ⌜ r ≡ findByType x ty ⌝ }}
+    ensures {{ result ≡ find_by_type x ty }}
 {{
     match x {{
 {''.join(f"        {x} => return under_{x}(ty),{chr(10)}" for x in CATALOGUES)}        _ => return OptionalKind::None,
@@ -993,7 +770,7 @@ pub fn find_by_type(x: u8, ty: u8) -> OptionalKind
     for x, types in CATALOGUES.items():
         text += f'''
 fn under_{x}(ty: u8) -> OptionalKind
-    ensures {{ λ r. ⌜ r ≡ findIn ty typesUnder{x} ⌝ }}
+    ensures {{ result ≡ find_in ty types_under{x} }}
 {{
     match ty {{
 {''.join(f"        {t} => return OptionalKind::Some(Kind::{l.struct}),{chr(10)}" for t, l in types.items())}        _ => return OptionalKind::None,
@@ -1006,17 +783,14 @@ fn under_{x}(ty: u8) -> OptionalKind
 def types_specs():
     text = '''-- Which types are carried under each catalogue's X, and as which kind. No others are.
 -- Written by catalogue/write.py.
-use mathlib.Core.Bool.{cond}
-use mathlib.Core.List.{List, [], _∷_}
-use Prim.Native.Nat.{ℕ}
-use lib.Dec.{eqb}
-use Rattle·kinds.specs.Kinds.{KindLine, kindLine, findIn}
-use Rattle·kinds.specs.declared.Kind.{Kind}
-use Rattle·kinds.specs.declared.OptionalKind.{OptionalKind}
+use Rattle.std.specs.Prelude.{cond, List, [], ◌∷◌, ℕ, eqb}
+use Rattle.kinds.specs.Kinds.{KindLine, kind_line, find_in}
+use Rattle.kinds.specs.declared.Kind.{Kind}
+use Rattle.kinds.specs.declared.OptionalKind.{OptionalKind}
 '''
     for x, types in CATALOGUES.items():
-        text += f'\n-- the types carried under X = {x}, each with its kind\nabbrev pub typesUnder{x} : List KindLine\ntypesUnder{x} =\n'
-        text += ''.join(f'    kindLine {t} Kind.{l.struct} ∷\n' for t, l in types.items()) + '    []\n'
+        text += f'\n-- the types carried under X = {x}, each with its kind\nabbrev pub types_under{x} : List KindLine\ntypes_under{x} =\n'
+        text += ''.join(f'    kind_line {t} Kind.{l.struct} ∷\n' for t, l in types.items()) + '    []\n'
     text += f'''
 -- a catalogue: its X and the types carried under it
 pub record Catalogue : Type 0 where
@@ -1027,40 +801,17 @@ abbrev catalogue : ℕ → List KindLine → Catalogue
 catalogue x types = record {{ x = x; types = types }}
 
 abbrev pub catalogues : List Catalogue
-catalogues = {' ∷ '.join(f"catalogue {x} typesUnder{x}" for x in CATALOGUES)} ∷ []
+catalogues = {' ∷ '.join(f"catalogue {x} types_under{x}" for x in CATALOGUES)} ∷ []
 
 -- the kind of a type under an X
-abbrev pub findUnder : ℕ → ℕ → List Catalogue → OptionalKind
-findUnder x type [] = OptionalKind.None
-findUnder x type (c ∷ cs) = cond (eqb x (c .x)) (findIn type (c .types)) (findUnder x type cs)
+abbrev pub find_under : ℕ → ℕ → List Catalogue → OptionalKind
+find_under x type [] = OptionalKind.None
+find_under x type (c ∷ cs) = cond (eqb x c.x) (find_in type c.types) (find_under x type cs)
 
-abbrev pub findByType : ℕ → ℕ → OptionalKind
-findByType x type = findUnder x type catalogues
+abbrev pub find_by_type : ℕ → ℕ → OptionalKind
+find_by_type x type = find_under x type catalogues
 '''
     return text
-
-
-def under_proof(x):
-    return lookup_proof(
-        'elements', f'types.under_{x}', 'a type that is not carried finds no kind',
-        f'use Rattle·kinds.specs.Kinds.{{findIn}}\nuse Rattle·kinds.proofs.Lookup.{{not-found}}\nuse Rattle·elements·specs.specs.Types.{{typesUnder{x}}}\n',
-        f'typesUnder{x}', len(CATALOGUES[x]), '', 'ty')
-
-
-def find_by_type_proof():
-    n = len(CATALOGUES)
-    text = f'''-- `elements::types::find_by_type` meets its contract: each catalogue by its own function, and an X that no catalogue has finds no kind.
--- Written by catalogue/write.py. Assumes nothing.
-use mathlib.Core.Path.{{_∙_, sym, ap}}
-use Prim.Native.Nat.{{ℕ}}
-use Rattle·elements·specs.specs.Types.{{catalogues, findByType}}
-use Rattle·elements·proofs.proofs.TypeLaws.{{not-carried}}
-{ties('elements', 'types.find_by_type')}'''
-    for i, x in enumerate(CATALOGUES, 1):
-        text += (f'\n{returns(i)} : tie.Need-{returns(i)}\n'
-                 f'{returns(i)} c = c .under-{x} .ensures ∙ sym (ap (λ (x : ℕ). findByType x (c .before .before .args .ty)) (c .before .match .keys{i}))\n')
-    text += f'\nother : tie.Need-{returns(n + 1)}\nother c = not-carried (c .before .args .x) (c .before .args .ty) catalogues {refuted(n)}\n\n'
-    return text + spec_end('find-by-type', each([CALL] * n, [returns(i) for i in range(1, n + 1)]) + ['other'])
 
 
 # ---- files
@@ -1087,32 +838,12 @@ def files():
         'kinds/proofs/Lib.antt': 'pub mod Lookup\npub mod KindLaws\n',
         'kinds/proofs/Lookup.antt': lookup_law(),
         'kinds/proofs/KindLaws.antt': kinds_laws(),
-        'kinds/proofs/layout/Proof.antt': by_kind_proof('layout', 'layoutOf', 'use Rattle·rows.specs.Rows.{layouts}\n', 'layouts'),
-        'kinds/proofs/kind_in/Proof.antt': by_kind_proof('kind_in', 'kindIn', '', ''),
-        'kinds/proofs/marks/Proof.antt': marks_proof(),
-        'kinds/proofs/shows_listed/Proof.antt': shows_listed_proof(),
-        'kinds/proofs/glance_at/Proof.antt': glance_at_proof(),
-        'kinds/proofs/glance_by/Proof.antt': glance_by_proof(),
-        'kinds/proofs/find_by_number/Proof.antt': find_by_number_proof(),
-        'kinds/proofs/element_of/Proof.antt': per_kind_proof(
-            'element_of',
-            'use Rattle·kinds·specs.specs.Kinds.{elementOf}\nuse Rattle·kinds·specs.specs.declared.Kind.{Kind}\n', element_of_answer),
-        'kinds/proofs/values_of/Proof.antt': per_kind_proof(
-            'values_of',
-            'use Rattle·rows.specs.Values.{padded}\nuse Rattle·kinds·specs.specs.Kinds.{elementValues}\n', values_of_answer),
+        'kinds/proofs/marks/Answers.antt': marks_proof(),
         'elements/src/types.rt': types_source(),
         'elements/specs/Types.antt': types_specs(),
-        'elements/proofs/types/find_by_type/Proof.antt': find_by_type_proof(),
     }
-    out['states/proofs/bits_of/Proof.antt'] = bits_of_proof()
-    for e in ENUMS:
-        out[f'cases/proofs/{e}/of/Proof.antt'] = case_of_proof(e)
-    for x in CATALOGUES:
-        out[f'elements/proofs/types/under_{x}/Proof.antt'] = under_proof(x)
     for l in LAYOUTS:
-        out[f'states/src/{module(l.struct)}.rt'] = state_source(l)
-        out[f'states/proofs/{module(l.struct)}/{l.struct}/of_values/Proof.antt'] = of_values_proof(l)
-        out[f'states/proofs/{module(l.struct)}/{l.struct}/values/Proof.antt'] = values_proof(l)
+        out[f'states/src/{l.key}.rt'] = state_source(l)
     return out
 
 
@@ -1140,20 +871,21 @@ def write(root):
         with open(full, 'w') as f:
             f.write(text)
     removed = remove_left(root, paths)
-    lay_out(root)
+    lay_out(root, CRATES)
     return removed
 
 
 def check():
     with tempfile.TemporaryDirectory() as fresh:
         for crate in CRATES:
-            shutil.copytree(os.path.join(ROOT, 'crates', crate), os.path.join(fresh, 'crates', crate))
+            shutil.copytree(os.path.join(ROOT, 'crates', crate), os.path.join(fresh, 'crates', crate),
+                            ignore=shutil.ignore_patterns('out'))
         with open(os.path.join(fresh, 'crates.txt'), 'w') as f:
             f.write(''.join(f'{crate}:\n' for crate in CRATES))
         write(fresh)
         other = ''
         for crate in CRATES:
-            said = subprocess.run(['diff', '-r', os.path.join(ROOT, 'crates', crate), os.path.join(fresh, 'crates', crate)],
+            said = subprocess.run(['diff', '-r', '-x', 'out', os.path.join(ROOT, 'crates', crate), os.path.join(fresh, 'crates', crate)],
                                   capture_output=True, text=True)
             other += said.stdout
     if other:

@@ -4,7 +4,9 @@
     tools/lines.py            break what is wider, and lay the files out by rt fmt
     tools/lines.py --check    say which lines are wider (exit status 1), and write nothing
 
-A comment at the end of a line of code doesn't count: it may quote the annex. A line with a string is left as it is.
+A comment at the end of a line of code doesn't count: it may quote the annex. Nor does an import of
+one name: it can't be broken. A line with a string is left as it is.
+rt fmt keeps the line breaks of .antt files, of clauses and of `ghost use`; other code of .rt files it breaks at 100 itself.
 """
 import os
 import re
@@ -14,13 +16,13 @@ import sys
 ROOT = os.path.dirname(os.path.dirname(os.path.abspath(__file__)))
 WIDTH = 120
 SHORT = 12  # what is left of a line shouldn't be less
-OPEN, CLOSE = '([{⌜«', ')]}⌝»'
+OPEN, CLOSE = '([{«', ')]}»'
 # words that a line is broken before, and words and marks that it is broken after, the loosest first
 BEFORE = [['→'], ['≡', '×', '⊎', '≤', '<'], ['∙'], ['++', '+']]
 AFTER = [['$', 'in', '∵', ',', ';'], ['⨾'], [], ['∷']]
 # words that stay with the one before them, and words that stay with the one after them
-HELD = [':', '=', ';', 'in', '}', '⌝', 'where', '!', '∷', '$', '∵', 'refl']
-HOLDS = ['λ', 'let', ':', 'pub', 'abbrev', 'unfoldable', 'module', 'record', '{', '⌜', '!', 'then', 'ap', 'sym']
+HELD = [':', '=', ';', 'in', '}', 'where', '!', '∷', '$', '∵', 'refl']
+HOLDS = ['λ', 'let', ':', 'pub', 'abbrev', 'unfoldable', 'module', 'record', '{', '!', 'then', 'ap', 'sym']
 HOLDS += sum(BEFORE, [])
 
 
@@ -31,6 +33,8 @@ def comment(line):
 
 
 def width(line):
+    if re.match(r'\s*(pub )?(ghost )?use [^ ,]+( as \S+)?$', line):
+        return 0
     found = re.search(r'\s+(//|--) ', line)
     return found.start() if found and not comment(line) and '"' not in line[:found.start()] else len(line)
 
@@ -51,18 +55,32 @@ def break_comment(line, before, following):
     return [line[:cut]] + ([f'{rest} {following[len(lead):]}'] if goes_on else [rest, following])
 
 
-def break_import(line):
-    """An import of many names as several."""
+def break_import(line, following):
+    """An import of many names as two; the second with the next line, if that one goes on with the same module."""
     found = re.match(r'((?:pub )?(?:ghost )?use .*\.\{)(.*)(\};?)$', line)
     if not found:
         return None
     lead, names, end = found.groups()
-    lines = [[]]
-    for name in names.split(', '):
-        if lines[-1] and len(lead + ', '.join(lines[-1] + [name]) + end) > WIDTH:
-            lines.append([])
-        lines[-1].append(name)
-    return [lead + ', '.join(some) + end for some in lines] if len(lines) > 1 else None
+    names, rest = names.split(', '), []
+    while len(names) > 1 and len(lead + ', '.join(names) + end) > WIDTH:
+        rest.insert(0, names.pop())
+    if not rest:
+        return None
+    if following.startswith(lead) and following.endswith(end):
+        return [lead + ', '.join(names) + end, lead + ', '.join(rest) + ', ' + following[len(lead):]]
+    return [lead + ', '.join(names) + end, lead + ', '.join(rest) + end, following]
+
+
+def goes_on(opened, line):
+    """Whether a line goes on with the list of an `unfolding` that stands so far in."""
+    return re.match(r' {%d,}[^ =:({]+( [^ =:({]+)*$' % (opened + 1), line)
+
+
+def break_unfolding(line, opened, following):
+    """A list of definitions to unfold up to a blank, and the rest with the next line, if that one goes on with the list."""
+    cut = line.rindex(' ', 0, WIDTH + 1)
+    rest = ' ' * (opened + 4) + line[cut + 1:]
+    return [line[:cut], f'{rest} {following.lstrip()}'] if goes_on(opened, following) else [line[:cut], rest, following]
 
 
 def looseness(before, after):
@@ -108,15 +126,22 @@ def break_code(line):
 
 def broken(text):
     """The text with each line broken as often as it takes."""
-    done, lines = [''], text.split('\n') + ['']
+    done, lines, opened = [''], text.split('\n') + [''], None
     while len(lines) > 1:
         line, following, new = lines[0], lines[1], None
+        if line.lstrip().startswith('unfolding '):
+            opened = len(line) - len(line.lstrip())
+        elif opened is not None and not goes_on(opened, line):
+            opened = None
         if width(line) > WIDTH:
             if comment(line):
                 new = break_comment(line, done[-1], following)
             elif width(line) == len(line) and '"' not in line:
-                new = break_import(line) or break_code(line)
-                new = new and new + [following]
+                if opened is not None:
+                    new = break_unfolding(line, opened, following)
+                else:
+                    code = break_code(line)
+                    new = break_import(line, following) or (code and code + [following])
         if new:
             lines[:2] = new
         else:
@@ -124,10 +149,10 @@ def broken(text):
     return '\n'.join(done[1:])
 
 
-def wide(root):
-    """Each line that is wider: its file, its number and its width."""
-    for folder, inner, names in os.walk(os.path.join(root, 'crates')):
-        inner[:] = sorted(set(inner) - {'target'})
+def wide(folders):
+    """Each line of these folders that is wider: its file, its number and its width."""
+    for folder, inner, names in (step for top in folders for step in os.walk(top)):
+        inner[:] = sorted(set(inner) - {'out'})
         for path in (os.path.join(folder, name) for name in sorted(names) if name.endswith(('.rt', '.antt'))):
             with open(path, encoding='utf-8') as file:
                 for number, line in enumerate(file.read().split('\n'), 1):
@@ -135,14 +160,21 @@ def wide(root):
                         yield path, number, width(line)
 
 
-def lay_out(root):
-    """Lays the files out by rt fmt, and breaks lines until none is too wide or nothing helps."""
-    before = None
+def crates(root, names=None):
+    """The folders of these crates, or of all."""
+    folders = [os.path.join(root, 'crates', name) for name in sorted(names or os.listdir(os.path.join(root, 'crates')))]
+    return [folder for folder in folders if os.path.isdir(os.path.join(folder, 'src'))]
+
+
+def lay_out(root, names=None):
+    """Lays the files of these crates, or of all, out by rt fmt, and breaks lines until none is too wide or nothing helps."""
+    folders, before = crates(root, names), None
     while True:
-        done = subprocess.run(['rt', 'fmt'], cwd=root, capture_output=True, text=True)
-        if done.returncode:
-            sys.exit(done.stdout + done.stderr)
-        found = list(wide(root))
+        for folder in folders:
+            done = subprocess.run(['rt', 'fmt'], cwd=folder, capture_output=True, text=True)
+            if done.returncode:
+                sys.exit(done.stdout + done.stderr)
+        found = list(wide(folders))
         if not found or found == before:
             return
         before = found
@@ -155,7 +187,7 @@ def lay_out(root):
 
 def main():
     if sys.argv[1:] == ['--check']:
-        found = list(wide(ROOT))
+        found = list(wide(crates(ROOT)))
         for path, number, size in found:
             print(f'{os.path.relpath(path, ROOT)}:{number}: {size} characters')
         if found:

@@ -10,15 +10,15 @@ use Rattle.cases.specs.Cases.{mixed_gauge_indication_no, auto_route_indication_c
 use Rattle.cases.specs.Cases.{auto_route_indication_no, changer_aspect_cases, changer_aspect_of, changer_aspect_no}
 use Rattle.cases.specs.Cases.{board_aspect_cases, board_aspect_of, board_aspect_no, section_occupancy_cases}
 use Rattle.cases.specs.Cases.{section_occupancy_of, section_occupancy_no, overlap_cases, overlap_of, overlap_no}
-use Rattle.cases.specs.Cases.{gauge_presence_cases, gauge_presence_of, gauge_presence_no, points_section_occupancy_cases}
-use Rattle.cases.specs.Cases.{points_section_occupancy_of, points_section_occupancy_no, leg_occupancy_cases}
-use Rattle.cases.specs.Cases.{leg_occupancy_of, leg_occupancy_no, leg_shown_cases, leg_shown_of, leg_shown_no}
-use Rattle.cases.specs.Cases.{points_detection_cases, points_detection_of, points_detection_no, points_locking_cases}
-use Rattle.cases.specs.Cases.{points_locking_of, points_locking_no, heater_indication_cases, heater_indication_of}
-use Rattle.cases.specs.Cases.{heater_indication_no, earth_fault_indication_cases, earth_fault_indication_of}
-use Rattle.cases.specs.Cases.{earth_fault_indication_no, boundary_movement_cases, boundary_movement_of}
-use Rattle.cases.specs.Cases.{boundary_movement_no, auto_route_cases, auto_route_of, auto_route_no, router_indication_cases}
-use Rattle.cases.specs.Cases.{router_indication_of, router_indication_no}
+use Rattle.cases.specs.Cases.{gauge_presence_cases, gauge_presence_of, gauge_presence_no}
+use Rattle.cases.specs.Cases.{points_section_occupancy_cases, points_section_occupancy_of, points_section_occupancy_no}
+use Rattle.cases.specs.Cases.{leg_occupancy_cases, leg_occupancy_of, leg_occupancy_no, leg_shown_cases, leg_shown_of}
+use Rattle.cases.specs.Cases.{leg_shown_no, points_detection_cases, points_detection_of, points_detection_no}
+use Rattle.cases.specs.Cases.{points_locking_cases, points_locking_of, points_locking_no, heater_indication_cases}
+use Rattle.cases.specs.Cases.{heater_indication_of, heater_indication_no, earth_fault_indication_cases}
+use Rattle.cases.specs.Cases.{earth_fault_indication_of, earth_fault_indication_no, boundary_movement_cases}
+use Rattle.cases.specs.Cases.{boundary_movement_of, boundary_movement_no, auto_route_cases, auto_route_of}
+use Rattle.cases.specs.Cases.{auto_route_no, router_indication_cases, router_indication_of, router_indication_no}
 use Rattle.cases.specs.declared.SignalKind.{SignalKind}
 use Rattle.cases.specs.declared.SignalAspect.{SignalAspect}
 use Rattle.cases.specs.declared.MixedGaugeIndication.{MixedGaugeIndication}
@@ -70,7 +70,8 @@ pub mixed_gauge_indication_listed : (v : ℕ) → mixed_gauge_indication_no (mix
 mixed_gauge_indication_listed =
     named mixed_gauge_indication_no mixed_gauge_indication_cases MixedGaugeIndication.NoThirdRail 7 tt refl refl
 
-pub mixed_gauge_indication_back : (c : MixedGaugeIndication) → mixed_gauge_indication_of (mixed_gauge_indication_no c) ≡ c
+pub mixed_gauge_indication_back : (c : MixedGaugeIndication)
+    → mixed_gauge_indication_of (mixed_gauge_indication_no c) ≡ c
 mixed_gauge_indication_back MixedGaugeIndication.NoThirdRail = refl
 mixed_gauge_indication_back MixedGaugeIndication.AtRest = refl
 mixed_gauge_indication_back MixedGaugeIndication.UicMovementSet = refl
@@ -192,7 +193,8 @@ pub earth_fault_indication_listed : (v : ℕ) → earth_fault_indication_no (ear
 earth_fault_indication_listed =
     named earth_fault_indication_no earth_fault_indication_cases EarthFaultIndication.NotShown 2 tt refl refl
 
-pub earth_fault_indication_back : (c : EarthFaultIndication) → earth_fault_indication_of (earth_fault_indication_no c) ≡ c
+pub earth_fault_indication_back : (c : EarthFaultIndication)
+    → earth_fault_indication_of (earth_fault_indication_no c) ≡ c
 earth_fault_indication_back EarthFaultIndication.NotShown = refl
 earth_fault_indication_back EarthFaultIndication.EarthFault = refl
 earth_fault_indication_back EarthFaultIndication.TestRunning = refl

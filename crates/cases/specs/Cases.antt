@@ -274,7 +274,8 @@ auto_route_no AutoRoute.GreenFlashing = 2
 auto_route_no AutoRoute.RedFlashing = 3
 
 abbrev pub router_indication_cases : List RouterIndication
-router_indication_cases = RouterIndication.NotShown ∷ RouterIndication.ManualBlock ∷ RouterIndication.AutomaticBlock ∷ []
+router_indication_cases =
+    RouterIndication.NotShown ∷ RouterIndication.ManualBlock ∷ RouterIndication.AutomaticBlock ∷ []
 
 abbrev pub router_indication_of : ℕ → RouterIndication
 router_indication_of v = get_or router_indication_cases v RouterIndication.NotShown

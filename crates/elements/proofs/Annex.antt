@@ -12,11 +12,12 @@ use lib.ListN.{length}
 use borrow.Author.Tests.{eq-eqb}
 use Rattle.rows.specs.Rows.{Row, cells, layouts, row_total}
 use Rattle.states.proofs.Annex.{signal_in, signal_bits, changer_signal_in, changer_signal_bits, virtual_board_in}
-use Rattle.states.proofs.Annex.{virtual_board_bits, line_track_circuit_in, line_track_circuit_bits, points_track_circuit_in}
-use Rattle.states.proofs.Annex.{points_track_circuit_bits, crossing_track_circuit_in, crossing_track_circuit_bits}
-use Rattle.states.proofs.Annex.{dual_detection_in, dual_detection_bits, points_in, points_bits, electric_lock_in}
-use Rattle.states.proofs.Annex.{electric_lock_bits, general_notices_in, general_notices_bits, control_boundary_in}
-use Rattle.states.proofs.Annex.{control_boundary_bits, signal_v3_in, signal_v3_bits}
+use Rattle.states.proofs.Annex.{virtual_board_bits, line_track_circuit_in, line_track_circuit_bits}
+use Rattle.states.proofs.Annex.{points_track_circuit_in, points_track_circuit_bits, crossing_track_circuit_in}
+use Rattle.states.proofs.Annex.{crossing_track_circuit_bits, dual_detection_in, dual_detection_bits, points_in}
+use Rattle.states.proofs.Annex.{points_bits, electric_lock_in, electric_lock_bits, general_notices_in}
+use Rattle.states.proofs.Annex.{general_notices_bits, control_boundary_in, control_boundary_bits, signal_v3_in}
+use Rattle.states.proofs.Annex.{signal_v3_bits}
 use Rattle.kinds.specs.Kinds.{KindLine, find_in, kind_in, kinds, layout_no, rows_of}
 use Rattle.kinds.specs.declared.Kind.{Kind}
 use Rattle.kinds.specs.declared.Element.{Element}
@@ -52,7 +53,8 @@ carried_in type [] = refl
 carried_in type (l ∷ ls) =
     either (eqb type l.number) (OptionalKind.Some l.kind) (find_in type ls) refl (carried_in type ls)
 
-carried_under : (x type : ℕ) (cs : List Catalogue) → is_carried (find_under x type cs) ≡ carried_by (numbers_in cs) x type
+carried_under : (x type : ℕ) (cs : List Catalogue)
+    → is_carried (find_under x type cs) ≡ carried_by (numbers_in cs) x type
 carried_under x type [] = refl
 carried_under x type (c ∷ cs) =
     either (eqb x c.x) (find_in type c.types) (find_under x type cs) (carried_in type c.types)

@@ -10,4 +10,5 @@ use Rattle.kinds.proofs.KindLaws.{every_kind}
 
 pub bearing_rows : (k : Kind) → bearing (layout_no k) (layout_of k).first (row_total - (layout_of k).first) ≡ rows_of k
 unfolding cells layouts
-bearing_rows = every_kind (λ k. bearing (layout_no k) (layout_of k).first (row_total - (layout_of k).first)) rows_of refl
+bearing_rows =
+    every_kind (λ k. bearing (layout_no k) (layout_of k).first (row_total - (layout_of k).first)) rows_of refl

@@ -69,7 +69,8 @@ module _ (e : Element) where
   pub state_accepted : (Stale (kind_in e) (word_of e) → ⊥) → element_check (kind_in e) (word_of e) ≡ Finding.Accepted
   state_accepted n = state_check e ∙ not_stale (kind_in e) (word_of e) n
 
-  pub state_stale : Stale (kind_in e) (word_of e) → element_check (kind_in e) (word_of e) ≡ Finding.Refused (code_at 12 0)
+  pub state_stale : Stale (kind_in e) (word_of e)
+      → element_check (kind_in e) (word_of e) ≡ Finding.Refused (code_at 12 0)
   state_stale s = state_check e ∙ dat_stale (kind_in e) (word_of e) s
 
 -- a number is accepted exactly if each field has a listed value and it is not stale
@@ -101,6 +102,7 @@ element_names k w {x} e = go (check_rows w (rows_of k)) refl e
     silent (inr s) d = (s, cc (dat_stale k w s))
 
     go : (f : Finding) → check_rows w (rows_of k) ≡ f → on_finding f (dat_rule k w) Finding.Refused ≡ Finding.Refused x
-        → FirstUnlisted w (rows_of k) x ⊎ ((check_rows w (rows_of k) ≡ Finding.Accepted) × Stale k w × (x ≡ code_at 12 0))
+        → FirstUnlisted w (rows_of k) x
+        ⊎ ((check_rows w (rows_of k) ≡ Finding.Accepted) × Stale k w × (x ≡ code_at 12 0))
     go Finding.Accepted t d = let s = silent (dat_either k w) d in inr (t, s.0, s.1)
     go (Finding.Refused r) t d = inl (names_first w (rows_of k) (t ∙ d))

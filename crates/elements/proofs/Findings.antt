@@ -38,7 +38,8 @@ element_refuses k w {x} e = go (element_names k w e)
     field r m true q = reserved m (eqb-true _ _ q)
     field r m false q = unlisted m (eqb-false _ _ q)
 
-    go : FirstUnlisted w (rows_of k) x ⊎ ((check_rows w (rows_of k) ≡ Finding.Accepted) × Stale k w × (x ≡ code_at 12 0))
+    go : FirstUnlisted w (rows_of k) x
+        ⊎ ((check_rows w (rows_of k) ≡ Finding.Accepted) × Stale k w × (x ≡ code_at 12 0))
         → Refuses k x.code x.bit
     go (inl q) =
         rw q.told

@@ -122,4 +122,5 @@ zero_word k = ap word_of (sym (zero_state k)) ∙ fields_word k 0 (pow_pos (8 * 
 pub compose_padded : (e : Element) → compose_of (rows_of (kind_in e)) (padded (element_values e)) ≡ word_of e
 unfolding word_of
 compose_padded e =
-    compose_append (rows_of (kind_in e)) (element_values e) (replicate (24 - length (element_values e)) 0) (state_within e)
+    compose_append (rows_of (kind_in e)) (element_values e) (replicate (24 - length (element_values e)) 0)
+    (state_within e)

@@ -6,11 +6,12 @@ use Rattle.rows.specs.Rows.{Row, layout_at}
 use Rattle.rows.specs.Covering.{layout_rows}
 use Rattle.rows.specs.declared.Layout.{Layout}
 use Rattle.states.specs.States.{signal_of, signal_values, changer_signal_of, changer_signal_values, virtual_board_of}
-use Rattle.states.specs.States.{virtual_board_values, line_track_circuit_of, line_track_circuit_values, points_track_circuit_of}
-use Rattle.states.specs.States.{points_track_circuit_values, crossing_track_circuit_of, crossing_track_circuit_values}
-use Rattle.states.specs.States.{dual_detection_of, dual_detection_values, points_of, points_values, electric_lock_of}
-use Rattle.states.specs.States.{electric_lock_values, general_notices_of, general_notices_values, control_boundary_of}
-use Rattle.states.specs.States.{control_boundary_values, signal_v3_of, signal_v3_values}
+use Rattle.states.specs.States.{virtual_board_values, line_track_circuit_of, line_track_circuit_values}
+use Rattle.states.specs.States.{points_track_circuit_of, points_track_circuit_values, crossing_track_circuit_of}
+use Rattle.states.specs.States.{crossing_track_circuit_values, dual_detection_of, dual_detection_values, points_of}
+use Rattle.states.specs.States.{points_values, electric_lock_of, electric_lock_values, general_notices_of}
+use Rattle.states.specs.States.{general_notices_values, control_boundary_of, control_boundary_values, signal_v3_of}
+use Rattle.states.specs.States.{signal_v3_values}
 use Rattle.kinds.specs.declared.Kind.{Kind}
 use Rattle.kinds.specs.declared.Element.{Element}
 use Rattle.kinds.specs.declared.OptionalKind.{OptionalKind}

@@ -64,6 +64,7 @@ pub struct Glance {
 }
 
 // A kind's layout: which rows are its own, its width, and whether it has DAT.
+#[tactic(auto, unfolding(rows::specs::Rows::layouts))]
 pub fn layout(kind: Kind) -> Layout
     ensures { result ≡ layout_of kind }
 {
@@ -212,6 +213,7 @@ fn marks(kind: Kind) -> Marks
 }
 
 // Whether a glance at an element's number shows that each field has a listed value. If it doesn't, the rows decide.
+#[tactic(auto, using(rows::proofs::Glance::shows))]
 pub fn shows_listed(word: u32, kind: Kind) -> bool
     ensures { Shows (rows_of kind) word result }
 {
@@ -220,6 +222,7 @@ pub fn shows_listed(word: u32, kind: Kind) -> bool
 
 // A glance at the element at a place. Each kind has its own arm, in which its width and its
 // marks are known to the compiler.
+#[tactic(auto, unfolding(rows::specs::Rows::layouts))]
 pub fn glance_at(s: &[u8], at: usize, kind: Kind) -> Glance
     requires { at + width_of kind ≤ length s.now }
     ensures { Glanced kind s.now at result }
@@ -251,6 +254,7 @@ fn glance_by(s: &[u8], at: usize, kind: Kind, width: usize) -> Glance
 }
 
 // The kind whose layout has this number, if there is one.
+#[tactic(auto, unfolding(rows::specs::Rows::layouts))]
 pub fn find_by_number(number: u8) -> OptionalKind
     ensures { result ≡ find_by_number number }
 {

@@ -17,9 +17,9 @@ use Rattle.rows.specs.Values.{values_of, padded}
 use Rattle.rows.specs.declared.Layout.{Layout}
 use Rattle.cases.specs.Cases.{signal_kind_of, signal_aspect_of, mixed_gauge_indication_of, auto_route_indication_of}
 use Rattle.cases.specs.Cases.{changer_aspect_of, board_aspect_of, section_occupancy_of, overlap_of, gauge_presence_of}
-use Rattle.cases.specs.Cases.{points_section_occupancy_of, leg_occupancy_of, leg_shown_of, points_detection_of, points_locking_of}
-use Rattle.cases.specs.Cases.{heater_indication_of, earth_fault_indication_of, boundary_movement_of, auto_route_of}
-use Rattle.cases.specs.Cases.{router_indication_of}
+use Rattle.cases.specs.Cases.{points_section_occupancy_of, leg_occupancy_of, leg_shown_of, points_detection_of}
+use Rattle.cases.specs.Cases.{points_locking_of, heater_indication_of, earth_fault_indication_of, boundary_movement_of}
+use Rattle.cases.specs.Cases.{auto_route_of, router_indication_of}
 use Rattle.cases.specs.declared.SignalKind.{SignalKind}
 use Rattle.cases.specs.declared.SignalAspect.{SignalAspect}
 use Rattle.cases.specs.declared.MixedGaugeIndication.{MixedGaugeIndication}
@@ -188,7 +188,8 @@ pub points_track_circuit_bits : (w : ℕ) → points_track_circuit_of (values 5 
 unfolding cells layouts
 points_track_circuit_bits w = refl
 
-pub points_track_circuit_words : ((points_track_circuit_of (values 5 0x0011)).occupancy ≡ PointsSectionOccupancy.Occupied)
+pub points_track_circuit_words : ((points_track_circuit_of (values 5 0x0011)).occupancy
+    ≡ PointsSectionOccupancy.Occupied)
     × ((points_track_circuit_of (values 5 0x0C01)).gauge ≡ GaugePresence.ConventionalTrain)
 unfolding cells layouts
 points_track_circuit_words = (refl, refl)
@@ -214,7 +215,8 @@ pub crossing_track_circuit_bits : (w : ℕ) → crossing_track_circuit_of (value
 unfolding cells layouts
 crossing_track_circuit_bits w = refl
 
-pub crossing_track_circuit_words : ((crossing_track_circuit_of (values 6 0x0011)).occupancy ≡ LegOccupancy.ClearMovementSet)
+pub crossing_track_circuit_words : ((crossing_track_circuit_of (values 6 0x0011)).occupancy
+    ≡ LegOccupancy.ClearMovementSet)
     × ((crossing_track_circuit_of (values 6 0x0041)).leg_shown ≡ LegShown.NormalOnly)
     × ((crossing_track_circuit_of (values 6 0x0101)).overlap_normal ≡ Overlap.MovementOverlap)
     × ((crossing_track_circuit_of (values 6 0x0401)).overlap_reverse ≡ Overlap.MovementOverlap)

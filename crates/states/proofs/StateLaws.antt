@@ -9,16 +9,17 @@ use Rattle.rows.specs.Rows.{cells, rows_from}
 use Rattle.rows.specs.Values.{padded}
 use Rattle.rows.proofs.Listed.{listed_from, bit_listed, bit_back, reserved_listed}
 use Rattle.cases.proofs.CaseLaws.{signal_kind_listed, signal_kind_back, signal_aspect_listed, signal_aspect_back}
-use Rattle.cases.proofs.CaseLaws.{mixed_gauge_indication_listed, mixed_gauge_indication_back, auto_route_indication_listed}
-use Rattle.cases.proofs.CaseLaws.{auto_route_indication_back, changer_aspect_listed, changer_aspect_back}
-use Rattle.cases.proofs.CaseLaws.{board_aspect_listed, board_aspect_back, section_occupancy_listed, section_occupancy_back}
-use Rattle.cases.proofs.CaseLaws.{overlap_listed, overlap_back, gauge_presence_listed, gauge_presence_back}
-use Rattle.cases.proofs.CaseLaws.{points_section_occupancy_listed, points_section_occupancy_back, leg_occupancy_listed}
-use Rattle.cases.proofs.CaseLaws.{leg_occupancy_back, leg_shown_listed, leg_shown_back, points_detection_listed}
-use Rattle.cases.proofs.CaseLaws.{points_detection_back, points_locking_listed, points_locking_back}
-use Rattle.cases.proofs.CaseLaws.{heater_indication_listed, heater_indication_back, earth_fault_indication_listed}
-use Rattle.cases.proofs.CaseLaws.{earth_fault_indication_back, boundary_movement_listed, boundary_movement_back}
-use Rattle.cases.proofs.CaseLaws.{auto_route_listed, auto_route_back, router_indication_listed, router_indication_back}
+use Rattle.cases.proofs.CaseLaws.{mixed_gauge_indication_listed, mixed_gauge_indication_back}
+use Rattle.cases.proofs.CaseLaws.{auto_route_indication_listed, auto_route_indication_back, changer_aspect_listed}
+use Rattle.cases.proofs.CaseLaws.{changer_aspect_back, board_aspect_listed, board_aspect_back, section_occupancy_listed}
+use Rattle.cases.proofs.CaseLaws.{section_occupancy_back, overlap_listed, overlap_back, gauge_presence_listed}
+use Rattle.cases.proofs.CaseLaws.{gauge_presence_back, points_section_occupancy_listed, points_section_occupancy_back}
+use Rattle.cases.proofs.CaseLaws.{leg_occupancy_listed, leg_occupancy_back, leg_shown_listed, leg_shown_back}
+use Rattle.cases.proofs.CaseLaws.{points_detection_listed, points_detection_back, points_locking_listed}
+use Rattle.cases.proofs.CaseLaws.{points_locking_back, heater_indication_listed, heater_indication_back}
+use Rattle.cases.proofs.CaseLaws.{earth_fault_indication_listed, earth_fault_indication_back, boundary_movement_listed}
+use Rattle.cases.proofs.CaseLaws.{boundary_movement_back, auto_route_listed, auto_route_back, router_indication_listed}
+use Rattle.cases.proofs.CaseLaws.{router_indication_back}
 use Rattle.states.specs.States.{signal_of, signal_values, changer_signal_of, changer_signal_values, virtual_board_of}
 use Rattle.states.specs.States.{virtual_board_values, line_track_circuit_of, line_track_circuit_values}
 use Rattle.states.specs.States.{points_track_circuit_of, points_track_circuit_values, crossing_track_circuit_of}
@@ -96,7 +97,8 @@ signal_back s = λ i. record {
   auto_route_indication = auto_route_indication_back s.auto_route_indication i;
 }
 
-pub changer_signal_listed : (vs : List ℕ) → changer_signal_values (changer_signal_of vs) ≡ listed_from 0 (rows_from 24 3) vs
+pub changer_signal_listed : (vs : List ℕ)
+    → changer_signal_values (changer_signal_of vs) ≡ listed_from 0 (rows_from 24 3) vs
 unfolding cells
 changer_signal_listed vs =
     λ i.
@@ -111,7 +113,8 @@ changer_signal_back s = λ i. record {
   aspect = changer_aspect_back s.aspect i;
 }
 
-pub virtual_board_listed : (vs : List ℕ) → virtual_board_values (virtual_board_of vs) ≡ listed_from 0 (rows_from 27 4) vs
+pub virtual_board_listed : (vs : List ℕ)
+    → virtual_board_values (virtual_board_of vs) ≡ listed_from 0 (rows_from 27 4) vs
 unfolding cells
 virtual_board_listed vs =
     λ i.
@@ -178,7 +181,8 @@ points_track_circuit_listed vs =
     reserved_listed (get_or vs 10 0) i ∷
     []
 
-pub points_track_circuit_back : (s : PointsTrackCircuit) → points_track_circuit_of (padded (points_track_circuit_values s)) ≡ s
+pub points_track_circuit_back : (s : PointsTrackCircuit)
+    → points_track_circuit_of (padded (points_track_circuit_values s)) ≡ s
 points_track_circuit_back s = λ i. record {
   current = bit_back s.current i;
   special_command_pending = bit_back s.special_command_pending i;
@@ -225,7 +229,8 @@ crossing_track_circuit_back s = λ i. record {
   axle_counter_preset = bit_back s.axle_counter_preset i;
 }
 
-pub dual_detection_listed : (vs : List ℕ) → dual_detection_values (dual_detection_of vs) ≡ listed_from 0 (rows_from 65 7) vs
+pub dual_detection_listed : (vs : List ℕ)
+    → dual_detection_values (dual_detection_of vs) ≡ listed_from 0 (rows_from 65 7) vs
 unfolding cells
 dual_detection_listed vs =
     λ i.
@@ -283,7 +288,8 @@ points_back s = λ i. record {
   clearance_lost = bit_back s.clearance_lost i;
 }
 
-pub electric_lock_listed : (vs : List ℕ) → electric_lock_values (electric_lock_of vs) ≡ listed_from 0 (rows_from 85 5) vs
+pub electric_lock_listed : (vs : List ℕ)
+    → electric_lock_values (electric_lock_of vs) ≡ listed_from 0 (rows_from 85 5) vs
 unfolding cells
 electric_lock_listed vs =
     λ i.
@@ -302,7 +308,8 @@ electric_lock_back s = λ i. record {
   release_authorised = bit_back s.release_authorised i;
 }
 
-pub general_notices_listed : (vs : List ℕ) → general_notices_values (general_notices_of vs) ≡ listed_from 0 (rows_from 90 8) vs
+pub general_notices_listed : (vs : List ℕ)
+    → general_notices_values (general_notices_of vs) ≡ listed_from 0 (rows_from 90 8) vs
 unfolding cells
 general_notices_listed vs =
     λ i.

@@ -2,15 +2,16 @@
 -- Written by catalogue/write.py.
 use Rattle.std.specs.Prelude.{List, [], ◌∷◌, ℕ, get_or, eqb}
 use Rattle.rows.specs.Values.{bit_no}
-use Rattle.cases.specs.Cases.{signal_kind_of, signal_kind_no, signal_aspect_of, signal_aspect_no, mixed_gauge_indication_of}
-use Rattle.cases.specs.Cases.{mixed_gauge_indication_no, auto_route_indication_of, auto_route_indication_no, changer_aspect_of}
-use Rattle.cases.specs.Cases.{changer_aspect_no, board_aspect_of, board_aspect_no, section_occupancy_of, section_occupancy_no}
-use Rattle.cases.specs.Cases.{overlap_of, overlap_no, gauge_presence_of, gauge_presence_no, points_section_occupancy_of}
-use Rattle.cases.specs.Cases.{points_section_occupancy_no, leg_occupancy_of, leg_occupancy_no, leg_shown_of, leg_shown_no}
-use Rattle.cases.specs.Cases.{points_detection_of, points_detection_no, points_locking_of, points_locking_no}
-use Rattle.cases.specs.Cases.{heater_indication_of, heater_indication_no, earth_fault_indication_of, earth_fault_indication_no}
-use Rattle.cases.specs.Cases.{boundary_movement_of, boundary_movement_no, auto_route_of, auto_route_no, router_indication_of}
-use Rattle.cases.specs.Cases.{router_indication_no}
+use Rattle.cases.specs.Cases.{signal_kind_of, signal_kind_no, signal_aspect_of, signal_aspect_no}
+use Rattle.cases.specs.Cases.{mixed_gauge_indication_of, mixed_gauge_indication_no, auto_route_indication_of}
+use Rattle.cases.specs.Cases.{auto_route_indication_no, changer_aspect_of, changer_aspect_no, board_aspect_of}
+use Rattle.cases.specs.Cases.{board_aspect_no, section_occupancy_of, section_occupancy_no, overlap_of, overlap_no}
+use Rattle.cases.specs.Cases.{gauge_presence_of, gauge_presence_no, points_section_occupancy_of}
+use Rattle.cases.specs.Cases.{points_section_occupancy_no, leg_occupancy_of, leg_occupancy_no, leg_shown_of}
+use Rattle.cases.specs.Cases.{leg_shown_no, points_detection_of, points_detection_no, points_locking_of}
+use Rattle.cases.specs.Cases.{points_locking_no, heater_indication_of, heater_indication_no, earth_fault_indication_of}
+use Rattle.cases.specs.Cases.{earth_fault_indication_no, boundary_movement_of, boundary_movement_no, auto_route_of}
+use Rattle.cases.specs.Cases.{auto_route_no, router_indication_of, router_indication_no}
 use Rattle.states.specs.declared.Bits.{Bits}
 use Rattle.states.specs.declared.signal.Signal.{Signal}
 use Rattle.states.specs.declared.changer_signal.ChangerSignal.{ChangerSignal}
