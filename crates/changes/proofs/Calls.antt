@@ -9,8 +9,8 @@ use Rattle.history.specs.Verdict.{value_or, told, Leaves}
 use Rattle.history.specs.Table.{Plan}
 use Rattle.history.specs.Image.{read_image, AcceptedImage}
 use Rattle.history.specs.Changes.{read_list, AcceptedList}
-use Rattle.history.specs.Calls.{difference_under, difference_call, apply_under, apply_call, join_under, join_call, turn_under}
-use Rattle.history.specs.Calls.{turn_call}
+use Rattle.history.specs.Calls.{difference_under, difference_call, apply_under, apply_call, join_under, join_call}
+use Rattle.history.specs.Calls.{turn_under, turn_call}
 use Rattle.history.proofs.OutputLaws.{first_leaves}
 use Rattle.tables.specs.declared.answers.Outline.{Outline}
 use Rattle.tables.specs.Outlines.{plan_as, Outlined}

@@ -9,7 +9,8 @@ use Rattle.history.specs.Calls.{difference_call, apply_call, join_call, turn_cal
 use Rattle.history.proofs.OneOutcome.{one_pair}
 
 module _ (T out : List ℕ) {r r' : Answer} {m m' : List ℕ} where
-  pub one_difference : (A B : List ℕ) → Leaves (difference_call T A B) out r m → Leaves (difference_call T A B) out r' m'
+  pub one_difference : (A B : List ℕ) → Leaves (difference_call T A B) out r m
+      → Leaves (difference_call T A B) out r' m'
       → (r ≡ r') × (m ≡ m')
   one_difference A B = one_pair
 

@@ -11,7 +11,8 @@ use borrow.Author.Tests.{eq-eqb, ne_eqb, le-leb, lt-leb}
 use Rattle.history.specs.declared.Answer.{Answer}
 use Rattle.history.specs.Verdict.{Verdict, refused, done, then, value_or, refusal, refusal_at, unnamed, told}
 use Rattle.history.specs.Image.{Image, widths, words_bytes, image_bytes, AcceptedImage}
-use Rattle.history.specs.Changes.{list_bytes, AcceptedList, after, result_of, joint_of, difference, applied, join, turned}
+use Rattle.history.specs.Changes.{list_bytes, AcceptedList, after, result_of, joint_of, difference, applied, join}
+use Rattle.history.specs.Changes.{turned}
 use Rattle.history.specs.Calls.{difference_under, apply_under, join_under, turn_under}
 use Rattle.history.proofs.CodeLaws.{Coded, applied_coded, zero_told}
 use Rattle.history.proofs.ImageLaws.{length_words}
@@ -26,8 +27,8 @@ use Rattle.walks.proofs.Bridges.{found_at, renewal_is}
 use Rattle.forms.proofs.KindLaws.{length_kinds}
 use Rattle.walks.proofs.Application.{length_renewal}
 use Rattle.heads.specs.Heads.{image_head, position_in, elements_in, from_in, to_in, entry_count_in, entries_in}
-use Rattle.heads.proofs.Parts.{position_in_lem, elements_in_lem, image_length, elements_length, from_in_lem, to_in_lem, count_in_lem}
-use Rattle.heads.proofs.Parts.{entries_in_lem}
+use Rattle.heads.proofs.Parts.{position_in_lem, elements_in_lem, image_length, elements_length, from_in_lem, to_in_lem}
+use Rattle.heads.proofs.Parts.{count_in_lem, entries_in_lem}
 use Rattle.heads.proofs.WrittenLaws.{image_again}
 use Rattle.outputs.specs.Outputs.{walk_list, image_after}
 
@@ -83,7 +84,8 @@ module _ (x y : ℕ) (ns : List ℕ) (few : length ns ≤ 1024) where
       → from ≡ to_in L → to ≡ from_in L → f ≡ entries_in L
       → done (walk_list Walk.Turn x y ns from to f s) ≡ turn_under (plan_as x y ns) L
   unfolding turn_under walk_list turned
-  turn_is l s ef et e = rw (ef, et, e, entries_in_lem l, to_in_lem l, from_in_lem l, turn_walk 0 s bound l.legal.each, l.reads)
+  turn_is l s ef et e =
+      rw (ef, et, e, entries_in_lem l, to_in_lem l, from_in_lem l, turn_walk 0 s bound l.legal.each, l.reads)
 
   -- the list turned back has the list's size
   pub turn_size : {L : List ℕ} → AcceptedList (plan_as x y ns) L → {f : List ℕ} (s : List ℕ) {count size : ℕ}
@@ -194,7 +196,8 @@ module _ (x y : ℕ) (ns : List ℕ) (few : length ns ≤ 1024) where
             lt-leb l.list.from a.image.position (omega (arith, position_in_lem a, from_in_lem l)),
           )
 
-      module _ (h : position ≤ from) (k : from ≤ position) {f s : List ℕ} (e₁ : f ≡ entries_in L) (e₂ : s ≡ elements_in A)
+      module _ (h : position ≤ from) (k : from ≤ position) {f s : List ℕ} (e₁ : f ≡ entries_in L)
+          (e₂ : s ≡ elements_in A)
           {n : ℕ} (en : n ≡ unfit 0 (kinds_of ns) f s) where
         apply_found : apply_under (plan_as x y ns) A L
             ≡ then (found_at 18 (result_of l.list a.image) (length ns) n) (λ b. done (image_bytes (plan_as x y ns) b))

@@ -144,11 +144,14 @@ module _ (t a : List ℕ) (i number : ℕ) (fields : List ℕ) (position : ℕ) 
   of_kinds f g (done s) h = h (kind_in s)
 
   -- only the kind with the number counts
-  only : (f g : Kind → Verdict (List ℕ)) {k : Kind} → find_by_number number ≡ OptionalKind.Some k → f k ≡ g k → (j : Kind)
-      → (refusal_at 22 i unless eqb number (layout_no j) ⨾ f j) ≡ (refusal_at 22 i unless eqb number (layout_no j) ⨾ g j)
+  only : (f g : Kind → Verdict (List ℕ)) {k : Kind} → find_by_number number ≡ OptionalKind.Some k → f k ≡ g k
+      → (j : Kind)
+      → (refusal_at 22 i unless eqb number (layout_no j) ⨾ f j)
+      ≡ (refusal_at 22 i unless eqb number (layout_no j) ⨾ g j)
   only f g {k} e h j = at (eqb number (layout_no j)) refl
     where
-      at : (b : Bool) → eqb number (layout_no j) ≡ b → (refusal_at 22 i unless b ⨾ f j) ≡ (refusal_at 22 i unless b ⨾ g j)
+      at : (b : Bool) → eqb number (layout_no j) ≡ b
+          → (refusal_at 22 i unless b ⨾ f j) ≡ (refusal_at 22 i unless b ⨾ g j)
       at true q = let s : j ≡ k = its_kind j e (eqb-true _ _ q) in rw s h
       at false q = refl
 
@@ -205,12 +208,14 @@ module _ (t a : List ℕ) (i number : ℕ) (fields : List ℕ) (position : ℕ) 
 
   pub writes : {k : Kind} → find_by_number number ≡ OptionalKind.Some k
       → check_named (rows_of k) (values_in k fields) ≡ Finding.Accepted
-      → write_fields_call t a i number fields position ≡ write_state_call t a i (element_of k (values_in k fields)) position
+      → write_fields_call t a i number fields position
+      ≡ write_state_call t a i (element_of k (values_in k fields)) position
   unfolding write_fields_call
   writes {k} e f =
       let s = element_of k (values_in k fields) in
       let written : Verdict (List ℕ) = write_state_call t a i s position in
-      let no : number ≡ layout_no (kind_in s) = its_number e ∙ ap layout_no (sym (element_kind k (values_in k fields))) in
+      let no : number ≡ layout_no (kind_in s) =
+      its_number e ∙ ap layout_no (sym (element_kind k (values_in k fields))) in
       of_kinds valued (λ j. written) (read_state_call t a i)
       (only valued (λ j. written) e (ap (λ (v : Finding). v of i ⨾ written) f))
       ∙ ap (λ (n : ℕ). then (read_state_call t a i)

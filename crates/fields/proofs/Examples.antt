@@ -44,7 +44,8 @@ taken_in = (refl, refl, refl, refl, refl)
 
 -- a signal's number is 31 under catalogue 3.0 and 1 under 1.0: the other's is refused with 22
 pub other_signal : (write_fields_call T3 A3 0 1 (1 ∷ replicate 31 0) 7 ≡ refused (naming 22 0 255))
-    × (write_fields_call (set T3 5 1) (set (set A3 5 1) 14 0x01) 0 31 (1 ∷ replicate 31 0) 7 ≡ refused (naming 22 0 255))
+    × (write_fields_call (set T3 5 1) (set (set A3 5 1) 14 0x01) 0 31 (1 ∷ replicate 31 0) 7
+    ≡ refused (naming 22 0 255))
 unfolding computed write_fields_call
 other_signal = (refl, refl)
 

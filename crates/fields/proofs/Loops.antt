@@ -155,7 +155,8 @@ taken_on true fs xs ys c u = refl
 taken_on false fs xs ys c u = ap (λ (x : ℕ). get_or fs 0 0 ∷ (ys ++ (cond c 0 x ∷ []))) (after_one fs u)
 
 spread_snoc : (n i : ℕ) (fs : List ℕ)
-    → spread (rows_from i (suc n)) fs ≡ spread (rows_from i n) fs ++ (taken (none (i + n)) fs (own (rows_from i n)) ∷ [])
+    → spread (rows_from i (suc n)) fs
+    ≡ spread (rows_from i n) fs ++ (taken (none (i + n)) fs (own (rows_from i n)) ∷ [])
 spread_snoc zero i fs = taken_first (none i) fs ∙ ap (λ (j : ℕ). taken (none j) fs 0 ∷ []) (sym (add-zero i))
 spread_snoc (suc n) i fs =
     let rs = rows_from (suc i) n in

@@ -106,7 +106,8 @@ pub after_unseen : (T A : List ℕ) (i number : ℕ) (F G : List ℕ) (position 
     → write_fields_call T A i number F position ≡ write_fields_call T A i number G position
 unfolding write_fields_call
 after_unseen T A i number F G position h =
-    of_kinds T A i number F position (from F) (from G) (read_state_call T A i) (λ k. at k (eqb number (layout_no k)) refl)
+    of_kinds T A i number F position (from F) (from G) (read_state_call T A i)
+    (λ k. at k (eqb number (layout_no k)) refl)
   where
     from : List ℕ → Kind → Verdict (List ℕ)
     from fields = valued T A i number fields position
@@ -124,7 +125,12 @@ after_unseen T A i number F G position h =
 -- a reading with the kind's own fields of F, then zeros
 abbrev pub own_of : ℕ → Kind → List ℕ → Plain
 own_of number k F =
-    record { answer = unnamed 0 0; kind = number; count = own (rows_of k); fields = filled 32 (take (own (rows_of k)) F) }
+    record {
+      answer = unnamed 0 0;
+      kind = number;
+      count = own (rows_of k);
+      fields = filled 32 (take (own (rows_of k)) F);
+    }
 
 -- a state made of fields with named cases gives them back
 shown_made : (k : Kind) (F : List ℕ) → length F ≡ 32 → is_accepted (check_named (rows_of k) (values_in k F)) ≡ true

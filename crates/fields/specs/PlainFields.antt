@@ -29,7 +29,12 @@ fields_of e = shown_in (rows_of (kind_in e)) (padded (element_values e))
 -- a state as numbers; success writes no bytes
 unfoldable pub shown_plain : Element → Plain
 shown_plain e =
-    record { answer = unnamed 0 0; kind = layout_no (kind_in e); count = (fields_of e).count; fields = (fields_of e).fields }
+    record {
+      answer = unnamed 0 0;
+      kind = layout_no (kind_in e);
+      count = (fields_of e).count;
+      fields = (fields_of e).fields;
+    }
 
 -- a refused reading gives a code and no state
 unfoldable pub plain_of : Reading → Plain

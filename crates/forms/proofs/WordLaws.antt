@@ -48,7 +48,8 @@ module _ {ns b : List ℕ} {i at : ℕ} (l : Left ns b i at) (h : i < length ns)
     -- the rest, after this object's element
     next : Verdict (List ℕ)
     next =
-        then (read_words (suc i) (drop (i + 1) (kinds_of ns)) (drop (width_of kind) (drop at b))) (λ ws. done (word ∷ ws))
+        then (read_words (suc i) (drop (i + 1) (kinds_of ns)) (drop (width_of kind) (drop at b)))
+        (λ ws. done (word ∷ ws))
 
     here : told (read_words 0 (kinds_of ns) b) ≡ told (found of i ⨾ next)
     unfolding element next word
@@ -57,7 +58,8 @@ module _ {ns b : List ℕ} {i at : ℕ} (l : Left ns b i at) (h : i < length ns)
         (kinds_next ns i h ∙ ap (λ (k : Kind). k ∷ drop (i + 1) (kinds_of ns)) (sym kind_is_lem))
         ∙ rw (← found-is)
 
-    pub stops : {r : Refusal} → found ≡ Finding.Refused r → numbers (found_in r i) 0 ≡ told (read_words 0 (kinds_of ns) b)
+    pub stops : {r : Refusal} → found ≡ Finding.Refused r
+        → numbers (found_in r i) 0 ≡ told (read_words 0 (kinds_of ns) b)
     stops {r} e = told_refused (found of i ⨾ next) (is_bad found i next r e) refl ∙ sym here
 
     pub goes_on : found ≡ Finding.Accepted → {w : ℕ} → w ≡ width_of kind → Left ns b (i + 1) (at + w)

@@ -115,7 +115,8 @@ module _ (x y ty : ℕ) (b : List ℕ) {s : Bool} (s-is : s ≡ catalogue_good x
             ap₂ element_check (sym is) (sym number_is) ∙ sym found-is ∙ q in
             sym (rw (yes s-is good, yes t-is h, f, g))
 
-        pub element_refused : {r : Refusal} → found ≡ Finding.Refused r → {a : Answer} → a ≡ numbers (found_in r 65535) 0
+        pub element_refused : {r : Refusal} → found ≡ Finding.Refused r → {a : Answer}
+            → a ≡ numbers (found_in r 65535) 0
             → a ≡ told (element_call x y ty b)
         unfolding told
         element_refused {r} q e = e ∙ by_finding (Finding.Refused r) q
@@ -138,7 +139,8 @@ module _ (fields : List ℕ) {p : Plain} where
   show (refused r) c e z = not_zero c (sym (ap (λ (p : Plain). p.answer.code) e) ∙ z)
   show (done state) c e z = ap (λ (p : Plain). p.fields) e
 
-module _ (T A : List ℕ) (i : ℕ) (fields : List ℕ) {p : Plain} (is : p ≡ plain_of (reading_of (read_state_call T A i))) where
+module _ (T A : List ℕ) (i : ℕ) (fields : List ℕ) {p : Plain}
+    (is : p ≡ plain_of (reading_of (read_state_call T A i))) where
   pub fields_stay : (p.answer.code ≡ 0 → ⊥) → fields ≡ fields_after (read_state_call T A i) fields
   fields_stay = stay fields (read_state_call T A i) is
 
@@ -152,7 +154,8 @@ module _ (T A : List ℕ) (i : ℕ) (fields : List ℕ) {p : Plain} (is : p ≡ 
 
 -- a code that is not 0 leaves the fields as they were
 pub refused_read : (T A : List ℕ) (i : ℕ) (before : List ℕ) {fields a : List ℕ}
-    → fields ≡ fields_after (read_state_call T A i) before → a ≡ read_slots (plain_of (reading_of (read_state_call T A i)))
+    → fields ≡ fields_after (read_state_call T A i) before
+    → a ≡ read_slots (plain_of (reading_of (read_state_call T A i)))
     → (get_or a 0 0 ≡ 0 → ⊥) → fields ≡ before
 unfolding read_slots
 refused_read T A i before e q n =

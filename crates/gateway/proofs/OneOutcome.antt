@@ -4,8 +4,8 @@ use Prim.Native.Nat.{ℕ}
 use mathlib.Core.Path.{◌≡◌}
 use mathlib.Core.List.{List}
 use Rattle.history.specs.Verdict.{Verdict, told}
-use Rattle.history.specs.Calls.{table_call, image_call, list_call, read_state_call, label_call, difference_call, apply_call}
-use Rattle.history.specs.Calls.{join_call, turn_call}
+use Rattle.history.specs.Calls.{table_call, image_call, list_call, read_state_call, label_call, difference_call}
+use Rattle.history.specs.Calls.{apply_call, join_call, turn_call}
 use Rattle.history.proofs.OneOutcome.{one_outcome, one_pair}
 use Rattle.tables.specs.LabelPlaces.{label_told}
 use Rattle.panel.specs.Readings.{reading_of}
@@ -27,7 +27,8 @@ Fills v a = a ≡ answer_slots (told v)
 -- reading a state: its fields, and the eight numbers
 abbrev pub Reads : List ℕ → List ℕ → ℕ → List ℕ → List ℕ → List ℕ → Type 0
 Reads T A i before fields a =
-    (fields ≡ fields_after (read_state_call T A i) before) × (a ≡ read_slots (plain_of (reading_of (read_state_call T A i))))
+    (fields ≡ fields_after (read_state_call T A i) before)
+    × (a ≡ read_slots (plain_of (reading_of (read_state_call T A i))))
 
 -- receiving: the eight numbers, the output and the tallies at the end
 abbrev pub Receives : List ℕ → List ℕ → List ℕ → List ℕ → List ℕ → List ℕ → List ℕ → List ℕ → Type 0

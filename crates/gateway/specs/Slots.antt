@@ -44,4 +44,9 @@ progress_slots r = slots r.answer (capped r.taken) 0
 -- a standing from its four tallies
 abbrev pub standing_in : List ℕ → Standing
 standing_in tallies =
-    record { applied = get_or tallies 0 0; late = get_or tallies 1 0; gap = get_or tallies 2 0; other = get_or tallies 3 0 }
+    record {
+      applied = get_or tallies 0 0;
+      late = get_or tallies 1 0;
+      gap = get_or tallies 2 0;
+      other = get_or tallies 3 0;
+    }

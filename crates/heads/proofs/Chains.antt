@@ -45,7 +45,8 @@ pub table_chain : (b : List ℕ) → read_table b
     ≡ (refusal 1 unless is_whole 5 b ⨾ refusal 2 unless version_good (get_or b 4 0) ⨾
     refusal 3 unless catalogue_good (get_or b 5 0) (get_or b 6 0) ⨾
     refusal 4 unless leb (count_in b) 1024 ⨾
-    then (read_objects (get_or b 4 0) (get_or b 5 0) [] (count_in b) (drop objects_place b)) (λ os. done (table_with b os)))
+    then (read_objects (get_or b 4 0) (get_or b 5 0) [] (count_in b) (drop objects_place b))
+    (λ os. done (table_with b os)))
 unfolding read_table count_in objects_place
 table_chain b = form_then 5 version_good b _ ∙ rw (drop-drop 2 7 b)
 
@@ -73,7 +74,8 @@ image_chain p b =
     ∙ unless_same (is_whole 7 b) (refusal 1) λ h.
     let size : eqb (length (drop 7 b)) (from + w) ≡ eqb (length b) (7 + from + w) =
     eqb_left 7 (from + w) b (omega (arith, (whole 7 b h).long)) ∙ ap (eqb (length b)) (omega arith) in
-    ap (λ (v : Verdict Image). refusal 2 unless image_version_good (get_or b 4 0) ⨾ v) (ap₂ last size (drop-drop from 7 b))
+    ap (λ (v : Verdict Image). refusal 2 unless image_version_good (get_or b 4 0) ⨾ v)
+    (ap₂ last size (drop-drop from 7 b))
 
 pub image_held : (p : Plan) (b : List ℕ) {a : Image} → read_image p b ≡ done a → image_head b ≤ length b
 image_held p b e =

@@ -31,7 +31,8 @@ pub length_head : (x y from to count size : ℕ) → length (list_head x y from 
 unfolding list_head entries_place
 length_head x y from to count size = simp (length-append, length_bytes, length_opening)
 
-pub opening_put : (part : List ℕ) → length part ≡ 7 → (n x y : ℕ) {ns : List ℕ} → ns ≡ bytes (length (mid_of 0 4 part)) n
+pub opening_put : (part : List ℕ) → length part ≡ 7 → (n x y : ℕ) {ns : List ℕ}
+    → ns ≡ bytes (length (mid_of 0 4 part)) n
     → set (set (set (put_mid 0 4 part ns) 4 1) 5 x) 6 y ≡ opening n x y
 unfolding opening list_version
 opening_put part h n x y e =

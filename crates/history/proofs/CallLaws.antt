@@ -74,7 +74,8 @@ module _ (T : List ℕ) {p : Plan} (t : read_plan T ≡ done p) where
 
   -- ---- answers are accepted again
 
-  pub difference_list : {A B L : List ℕ} (a : AcceptedImage p A) (b : AcceptedImage p B) → difference_call T A B ≡ done L
+  pub difference_list : {A B L : List ℕ} (a : AcceptedImage p A) (b : AcceptedImage p B)
+      → difference_call T A B ≡ done L
       → AcceptedList p L
   difference_list {L = L} a b e =
       let L-is : L ≡ list_bytes p (difference a.image b.image) = cc (difference_is a b) in

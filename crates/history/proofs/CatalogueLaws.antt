@@ -219,7 +219,8 @@ kinds_differ : (x y type : ℕ) → carried x type ≡ true → carried y type �
 kinds_differ x y type cx cy = (
   (λ n. apart (eqb x y) (eqb type 1) refl refl
       (sym (one_kind x y type cx cy)
-      ∙ refuted (same_kind (kind_of x type) (kind_of y type)) (λ q. n (same_kind_lem (kind_of x type) (kind_of y type) q)))),
+      ∙ refuted (same_kind (kind_of x type) (kind_of y type))
+      (λ q. n (same_kind_lem (kind_of x type) (kind_of y type) q)))),
   (λ d s. false≢true (sym (differ d.0 d.1) ∙ is_same_kind (kind_of x type) (kind_of y type) s)),
 )
   where
@@ -243,7 +244,8 @@ read_by_type T A i {t} rt re =
 
 -- a state of the object's type under any X, with data or without, is refused with 22 exactly
 -- where the type is 1 and the X is not the table's
-pub handed_across : (U B : List ℕ) (x j : ℕ) (e : Element) (position : ℕ) {u : Table} {b : Image} → table_call U ≡ done u
+pub handed_across : (U B : List ℕ) (x j : ℕ) (e : Element) (position : ℕ) {u : Table} {b : Image}
+    → table_call U ≡ done u
     → image_call U B ≡ done b → j < length u.objects
     → carried x (object u j).type ≡ true → kind_in e ≡ kind_of x (object u j).type
     → (write_state_call U B j e position ≡ refusal_at 22 j) ↔ (((object u j).type ≡ 1) × (x ≡ u.x → ⊥))

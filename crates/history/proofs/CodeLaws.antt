@@ -47,7 +47,8 @@ pub one_of_lem : (cs : List ℕ) (code : ℕ) → all cs ≡ true → one_of cs 
 one_of_lem [] code h e = absurd (let z : ◌≡◌ {A = ℕ} 0 1 = cc in omega arith)
 one_of_lem (c ∷ cs) code h e = go (eqb code c) refl (one_of_lem cs code (right (one_of codes c) _ h)) e
   where
-    go : (b : Bool) → eqb code c ≡ b → (one_of cs code ≡ true → IsCode code) → (b || one_of cs code) ≡ true → IsCode code
+    go : (b : Bool) → eqb code c ≡ b → (one_of cs code ≡ true → IsCode code) → (b || one_of cs code) ≡ true
+        → IsCode code
     go true q later e = ap (one_of codes) (eqb-true code c q) ∙ left (one_of codes c) _ h
     go false q later e = later e
 

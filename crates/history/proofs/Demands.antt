@@ -42,7 +42,8 @@ use Rattle.history.proofs.StateLaws.{states_at}
 
 -- ---- the forms: bytes are accepted exactly where they are something legal, written; they are then read as that
 
-pub table_exactly : (T : List ℕ) → Bytes T → (t : Table) → (table_call T ≡ done t) ↔ (LegalTable t × (T ≡ table_bytes t))
+pub table_exactly : (T : List ℕ) → Bytes T → (t : Table)
+    → (table_call T ≡ done t) ↔ (LegalTable t × (T ≡ table_bytes t))
 unfolding table_call
 table_exactly T h t = table_form T h t
 

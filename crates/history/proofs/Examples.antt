@@ -89,12 +89,13 @@ fixed_t = Element.ChangerSignal (record { current = true; aspect = ChangerAspect
 
 -- what examples compute with: where this unfolds, all of it does
 unfoldable pub computed : ℕ
-unfolding cells layouts dat_rule element_check state_of word_of bytes told settled form_bytes is_whole read_form version_good
-    catalogue_good label_limit carried kind_of label_good check_object read_table plan_of image_version_good element image_bytes
-    elements_from read_image list_version list_bytes read_number read_elements check_entry read_list difference applied join
-    turned read_plan table_call image_call list_call difference_under difference_call apply_under apply_call join_under join_call
-    turn_under turn_call read_state_under read_state_call check_state write_state_under write_state_call label_call zip_with fresh
-    counted receive_call front_form after_front forms_in backlog_under backlog_call
+unfolding cells layouts dat_rule element_check state_of word_of bytes told settled form_bytes is_whole read_form
+    version_good catalogue_good label_limit carried kind_of label_good check_object read_table plan_of
+    image_version_good element image_bytes elements_from read_image list_version list_bytes read_number read_elements
+    check_entry read_list difference applied join turned read_plan table_call image_call list_call difference_under
+    difference_call apply_under apply_call join_under join_call turn_under turn_call read_state_under read_state_call
+    check_state write_state_under write_state_call label_call zip_with fresh counted receive_call front_form after_front
+    forms_in backlog_under backlog_call
 computed = 0
 
 pub printed : (table_call T
@@ -305,7 +306,8 @@ unfolding computed
 limits = (refl, refl, refl, refl, refl, refl, refl, refl)
 
 -- "A join that drops an object also applies to images that refuse the steps": the join of AB and BC drops object 0
-pub trap : (join_call T AB BC ≡ done Ac) × (apply_call T X AB ≡ refused (naming 18 0 255)) × (apply_call T X Ac ≡ done Y)
+pub trap : (join_call T AB BC ≡ done Ac) × (apply_call T X AB ≡ refused (naming 18 0 255))
+    × (apply_call T X Ac ≡ done Y)
 unfolding computed
 trap = (refl, refl, refl)
 

@@ -49,7 +49,8 @@ unfolding read_form form_bytes
 form_is least good b {f} l h e =
     let p₁ = held (is_whole least b) _ _ e in
     let p₂ = held (good (get_or b 4 0)) _ _ p₁.1 in
-    let f-is : f ≡ record { version = get_or b 4 0; x = get_or b 5 0; y = get_or b 6 0; contents = drop 7 b } = cc p₂.1 in
+    let f-is : f ≡ record { version = get_or b 4 0; x = get_or b 5 0; y = get_or b 6 0; contents = drop 7 b } =
+    cc p₂.1 in
     let w = whole least b p₁.0 in
     let long : length b ≡ 4 + number (take 4 b) = w.length_is in
     let more : least ≤ number (take 4 b) = w.enough in

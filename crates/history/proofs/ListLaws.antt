@@ -53,7 +53,8 @@ record EntryIs (ks : List Kind) (low : ℕ) (b : List ℕ) (e : Entry) : Type 0 
 record EntryBytes (i : ℕ) (k : Kind) (b : List ℕ) : Type 0 where
   old : (entry_of i k b).old < 256 ^ width_of k
   new : (entry_of i k b).new < 256 ^ width_of k
-  whole : b ≡ bytes (width_of k) (entry_of i k b).old ++ (bytes (width_of k) (entry_of i k b).new ++ (entry_of i k b).rest)
+  whole : b ≡ bytes (width_of k) (entry_of i k b).old
+      ++ (bytes (width_of k) (entry_of i k b).new ++ (entry_of i k b).rest)
   after : Bytes (entry_of i k b).rest
 
 entry_bytes_lem : (i : ℕ) (k : Kind) (b : List ℕ) → Bytes b → width_of k + width_of k ≤ length b → EntryBytes i k b
@@ -247,7 +248,8 @@ listed_end ks low (x ∷ xs) h e = absurd (omega arith)
 
 listed_swap : (ks : List Kind) (i n x y : ℕ) (rest : List ℕ) (cs : List Change) → i < length ks
     → lawful (kind_at ks i) (swap x y) ≡ true → Listed ks (suc i) n rest cs
-    → Listed ks i (suc n) (bytes 2 i ++ (bytes (width_of (kind_at ks i)) x ++ (bytes (width_of (kind_at ks i)) y ++ rest)))
+    → Listed ks i (suc n)
+    (bytes 2 i ++ (bytes (width_of (kind_at ks i)) x ++ (bytes (width_of (kind_at ks i)) y ++ rest)))
     (swap x y ∷ cs)
 listed_swap ks i n x y rest cs h l r = record {
   good = rw (drop-cons ks i Kind.Signal h) (and l r.good);

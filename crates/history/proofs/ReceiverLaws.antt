@@ -110,7 +110,8 @@ module _ (T : List ℕ) where
           → apply_all r.image (cond u (c.list ∷ applied_lists (next r c) cs) (applied_lists (next r c) cs))
           ≡ done (run (next r c) cs).image
       go true e h =
-          ap (λ (v : Verdict (List ℕ)). then v (λ B. apply_all B (applied_lists (next r c) cs))) (next_applied r c e) ∙ h
+          ap (λ (v : Verdict (List ℕ)). then v (λ B. apply_all B (applied_lists (next r c) cs)))
+          (next_applied r c e) ∙ h
       go false e h = ap (λ (A : List ℕ). apply_all A (applied_lists (next r c) cs)) (sym (next_stays r c e)) ∙ h
 
   -- ---- the join of the applied lists

@@ -194,7 +194,8 @@ module _ (T : List ℕ) {p : Plan} (t : read_plan T ≡ done p) where
 
   -- other objects stay
   pub write_other : {A B : List ℕ} (a : AcceptedImage p A) (i : ℕ) (e : Element) (position : ℕ) → position < 2 ^ 32
-      → write_state_call T A i e position ≡ done B → (j : ℕ) → (j ≡ i → ⊥) → read_state_call T B j ≡ read_state_call T A j
+      → write_state_call T A i e position ≡ done B → (j : ℕ) → (j ≡ i → ⊥)
+      → read_state_call T B j ≡ read_state_call T A j
   write_other a i e position small q j n =
       let w = wrote a i e position q in
       read_any (written_image a i e position small w) j
@@ -274,7 +275,8 @@ module _ (T : List ℕ) {p : Plan} (t : read_plan T ≡ done p) where
       let l : i < length p.kinds = omega arith in
       let y = next_image a z i l position h.0 in
       rw (read_is a i l, write_word a z i position l)
-      (all_into {Z = image_bytes p (placed z.image i (get_or a.image.words i 0) position)} a y (suc i) ps h.1 (omega arith)
+      (all_into {Z = image_bytes p (placed z.image i (get_or a.image.words i 0) position)} a y (suc i) ps h.1
+      (omega arith)
       (next_word a z i l so))
 
   -- the states of all objects, written as an image, give the image's bytes

@@ -140,7 +140,8 @@ module _ (version x : ℕ) where
   pub record Tested (earlier : List Object) (b : List ℕ) (v : Verdict ObjectEntry) : Type 0 where
     pub legal : LegalObject version x (object_at b).object
     pub whole : b ≡ object_bytes (object_at b).object ++ (object_at b).rest
-    pub last : (refusal_at 7 (length earlier) unless not (repeats (object_at b).object earlier) ⨾ done (object_at b)) ≡ v
+    pub last : (refusal_at 7 (length earlier) unless not (repeats (object_at b).object earlier) ⨾
+        done (object_at b)) ≡ v
 
   pub tested : (earlier : List Object) (b : List ℕ) {v : Verdict ObjectEntry}
       → ((r : Refused) → (r.code ≡ 7 → ⊥) → refused r ≡ v → ⊥)

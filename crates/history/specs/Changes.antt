@@ -1,7 +1,8 @@
 -- "Change list: 4-byte from position, 4-byte to position, 2-byte entry count; per entry a 2-byte object number, the old
 -- element, the new element. Numbers ascend strictly; old differs from new." Its bytes, what it may hold, and the four
 -- operations.
-use Rattle.std.specs.Prelude.{ℕ, zero, suc, ◌+◌, ◌-◌, ◌^◌, ◌<◌, not, Bool, true, cond, ◌&&◌, ◌≡◌, eqb, leb, ltb, length, take, drop, replicate}
+use Rattle.std.specs.Prelude.{ℕ, zero, suc, ◌+◌, ◌-◌, ◌^◌, ◌<◌, not, Bool, true, cond, ◌&&◌, ◌≡◌, eqb, leb, ltb, length}
+use Rattle.std.specs.Prelude.{take, drop, replicate}
 use mathlib.Core.List.{List, [], ◌∷◌, ◌++◌, map, zip_with}
 use Rattle.kinds.specs.Kinds.{width_of}
 use Rattle.kinds.specs.declared.Kind.{Kind}

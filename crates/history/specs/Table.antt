@@ -1,7 +1,8 @@
 -- "Table: after X, Y a 2-byte object count (0 to 1,024), then per object its type (1 byte),
 -- label length (1 byte, 1 to 32) and label.
 -- Objects are numbered from 0. By section 6, no two objects share both type and label."
-use Rattle.std.specs.Prelude.{ℕ, zero, suc, ◌+◌, ◌≤◌, ◌<◌, Bool, true, false, cond, not, ◌&&◌, ◌||◌, List, [], ◌∷◌, ◌++◌, map, ◌≡◌, eqb, leb, ltb, length, take, drop, get_or}
+use Rattle.std.specs.Prelude.{ℕ, zero, suc, ◌+◌, ◌≤◌, ◌<◌, Bool, true, false, cond, not, ◌&&◌, ◌||◌, List, [], ◌∷◌}
+use Rattle.std.specs.Prelude.{◌++◌, map, ◌≡◌, eqb, leb, ltb, length, take, drop, get_or}
 use Rattle.elements.specs.Elements.{carried, kind_of}
 use Rattle.kinds.specs.declared.Kind.{Kind}
 use Rattle.octets.specs.Octets.{bytes, number, same_bytes}

@@ -53,7 +53,8 @@ module _ (input : List ℕ) where
           ∙ ap (λ (m : ℕ). drop (4 + m) input) n-is in
           let panel : read_panel input ≡ read_both (take (table_size input) input) (drop (table_size input) input) =
           rw (le-leb (length input) 65536 few, le-leb 4 (length input) four, long) in
-          ap₂ (λ (t a : List ℕ). text_of (read_both t a)) (ap (λ (m : ℕ). take m input) size) rest ∙ sym (ap text_of panel)
+          ap₂ (λ (t a : List ℕ). text_of (read_both t a)) (ap (λ (m : ℕ). take m input) size) rest
+          ∙ sym (ap text_of panel)
 
 -- ---- an output that every listing fits in
 
@@ -65,7 +66,8 @@ told_roomy (done text) out fits n =
     absurd (n (ap (λ (a : Answer). a.code) (succeeds out refl (fits text refl)).answer))
 
 -- there a refusal comes from the input, never from a short output
-pub refusal_is : (input out : List ℕ) → 65536 ≤ length out → {r : Answer} → r ≡ (settled (listing_call input) out).answer
+pub refusal_is : (input out : List ℕ) → 65536 ≤ length out → {r : Answer}
+    → r ≡ (settled (listing_call input) out).answer
     → (r.code ≡ 0 → ⊥) → r ≡ told (listing_call input)
 refusal_is input out room e n =
     let fits : (text : List ℕ) → listing_call input ≡ done text → length text ≤ length out =
@@ -155,7 +157,8 @@ module _ {input out₀ out : List ℕ} {r : ℕ} (h : 65536 ≤ length out₀) w
       }
 
 module _ (input out₀ : List ℕ) {m : List ℕ} (room : 65536 ≤ length out₀) {a : Answer}
-    (a-is : a ≡ (settled (listing_call input) out₀).answer) (m-is : m ≡ (settled (listing_call input) out₀).output) where
+    (a-is : a ≡ (settled (listing_call input) out₀).answer)
+    (m-is : m ≡ (settled (listing_call input) out₀).output) where
   pub text_printed : a.code ≡ 0 → ListedInto input out₀ m a.length
   unfolding listing_of printed
   text_printed z =

@@ -108,8 +108,10 @@ module _ (ns b : List ℕ) (h : length b ≡ image_head b + widths (kinds_of ns)
             omega (arith, own_width own o_is kind_is_lem w-is) in
             let long : length (take (image_head b) b) ≡ image_head b = length-take-le (image_head b) b inside in
             put_part b ws (place + o) (place + o + w) word (omega arith) put_inside q
-            ∙ ap₂ (λ (n : ℕ) (c : List ℕ). over (place + o) (bytes n word) c) n (sym (take-append-drop (image_head b) b))
-            ∙ over_past (take (image_head b) b) (bytes (width_of (kind_at (kinds_of ns) i)) word) (drop (image_head b) b)
+            ∙ ap₂ (λ (n : ℕ) (c : List ℕ). over (place + o) (bytes n word) c) n
+            (sym (take-append-drop (image_head b) b))
+            ∙ over_past (take (image_head b) b) (bytes (width_of (kind_at (kinds_of ns) i)) word)
+            (drop (image_head b) b)
             (place + o) (place_in (kinds_of ns) i) (omega (arith, long))
 
         pub put_head : image_head (put_mid (place + o) (place + o + w - (place + o)) b ws)
@@ -121,7 +123,8 @@ module _ (ns b : List ℕ) (h : length b ≡ image_head b + widths (kinds_of ns)
             (elements_in (put_mid (place + o) (place + o + w - (place + o)) b ws))
             → r ≡ image_with (kinds_of ns) to i word b
         unfolding image_with
-        put_done f = f ∙ ap (λ (m : List ℕ). with_elements m to (elements_in m)) with_element ∙ renewed_with b _ inside to
+        put_done f =
+            f ∙ ap (λ (m : List ℕ). with_elements m to (elements_in m)) with_element ∙ renewed_with b _ inside to
 
   -- ---- how long the changed images are
 
@@ -131,7 +134,8 @@ module _ (ns b : List ℕ) (h : length b ≡ image_head b + widths (kinds_of ns)
       with_long b _ to inside
       ∙ ap (λ (n : ℕ). image_head b + n) (length_renewal (kinds_of ns) 0 entries (elements_in b) elements_long) ∙ sym h
 
-  pub length_with : (to : ℕ) {i : ℕ} (word : ℕ) → i < length ns → length (image_with (kinds_of ns) to i word b) ≡ length b
+  pub length_with : (to : ℕ) {i : ℕ} (word : ℕ) → i < length ns
+      → length (image_with (kinds_of ns) to i word b) ≡ length b
   unfolding image_with
   length_with to {i} word l =
       let w : ℕ = width_of (kind_at (kinds_of ns) i) in

@@ -80,7 +80,8 @@ module _ (T A : List ℕ) (i : ℕ) (e : Element) (position : ℕ) {out : List �
 -- what was read, written at the image's position where there is room, gives the image's bytes
 pub write_after_read : (T A : List ℕ) (i : ℕ) (e : Element) (out : List ℕ) {r : Answer} {m : List ℕ} → Bytes A
     → Read T A i (Reading.State e) → length A ≤ length out
-    → Ran (write_state_call T A i e (position_in A)) out r m → (r ≡ unnamed 0 (length A)) × (m ≡ A ++ drop (length A) out)
+    → Ran (write_state_call T A i e (position_in A)) out r m
+    → (r ≡ unnamed 0 (length A)) × (m ≡ A ++ drop (length A) out)
 unfolding settled
 write_after_read T A i e out h q room w =
     let v = state_read_lem (read_state_call T A i) e q in

@@ -111,7 +111,8 @@ module _ (x y : ℕ) (ns A : List ℕ) (i : ℕ) {r : Answer} (r-is : r ≡ told
 
       module _ {kind : Kind} (kind_is_lem : kind ≡ kind_at (kinds_of ns) i) {es : List ℕ} (es-is : es ≡ elements_in A)
           {word : ℕ}
-          (word-is : word ≡ number (take (width_of (kind_at (kinds_of ns) i)) (drop (place_in (kinds_of ns) i) es))) where
+          (word-is : word
+          ≡ number (take (width_of (kind_at (kinds_of ns) i)) (drop (place_in (kinds_of ns) i) es))) where
         own_word : word ≡ get_or taken.image.words i 0
         own_word =
             word-is ∙ ap (λ (b : List ℕ). number

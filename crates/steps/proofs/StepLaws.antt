@@ -16,8 +16,8 @@ use Rattle.history.specs.declared.Change.{Change}
 use Rattle.history.specs.declared.Change.TheVariants.{Keep as keep, Swap as swap}
 use Rattle.history.specs.Changes.{entries, differ, meets, joined, back}
 use Rattle.steps.specs.declared.Walk.{Walk}
-use Rattle.steps.specs.Steps.{span, entry_bytes, names, count_if, size_if, said_if, change_at, is_swap, step_of, Stepped}
-use Rattle.steps.specs.Steps.{Silent, AllIdle, renewed}
+use Rattle.steps.specs.Steps.{span, entry_bytes, names, count_if, size_if, said_if, change_at, is_swap, step_of}
+use Rattle.steps.specs.Steps.{Stepped, Silent, AllIdle, renewed}
 
 -- ---- an entry at a cursor
 

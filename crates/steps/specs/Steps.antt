@@ -1,6 +1,7 @@
 -- One object's step over two forms, on any bytes. A device between the code and the meaning, which is in `history`:
 -- the laws of `walks` tie it to the meaning where the bytes are those of accepted forms.
-use Rattle.std.specs.Prelude.{ℕ, ◌+◌, ◌≤◌, ◌<◌, ◌≡◌, Bool, true, false, cond, ◌&&◌, List, [], ◌++◌, eqb, leb, length, take, drop}
+use Rattle.std.specs.Prelude.{ℕ, ◌+◌, ◌≤◌, ◌<◌, ◌≡◌, Bool, true, false, cond, ◌&&◌, List, [], ◌++◌, eqb, leb, length}
+use Rattle.std.specs.Prelude.{take, drop}
 use Rattle.octets.specs.Octets.{bytes, number}
 use Rattle.history.specs.declared.Change.{Change}
 use Rattle.history.specs.declared.Change.TheVariants.{Keep as keep, Swap as swap}

@@ -13,8 +13,8 @@ use lib.Seq.{drop-drop, get_or-drop}
 use borrow.Author.Tests.{le-leb, lt-leb, leb-true, leb-false, eq-eqb, ne_eqb, eqb-true, eqb-false}
 use Rattle.history.specs.Verdict.{Verdict, done, then, refusal, refusal_at, ◌unless◌⨾◌}
 use Rattle.elements.specs.Elements.{carried}
-use Rattle.history.specs.Table.{Object, ObjectEntry, object_at, label_limit, label_good, same_object, repeats, check_object}
-use Rattle.history.specs.Table.{read_objects}
+use Rattle.history.specs.Table.{Object, ObjectEntry, object_at, label_limit, label_good, same_object, repeats}
+use Rattle.history.specs.Table.{check_object, read_objects}
 use Rattle.heads.proofs.Places.{objects_place_lem}
 use Rattle.tables.specs.Places.{place_of, check_object_at}
 use Rattle.tables.proofs.AnswerLaws.{then_same}
@@ -23,7 +23,10 @@ use Rattle.tables.proofs.EntryLaws.{good_entry}
 -- object k, read at its place; the objects below k, in table order
 abbrev pub object_of : List ℕ → ℕ → Object
 object_of b k =
-    record { type = get_or b (place_of b k) 0; label = take (get_or b (place_of b k + 1) 0) (drop (place_of b k + 2) b) }
+    record {
+      type = get_or b (place_of b k) 0;
+      label = take (get_or b (place_of b k + 1) 0) (drop (place_of b k + 2) b);
+    }
 
 abbrev pub objects_below : List ℕ → ℕ → List Object
 objects_below b zero = []
@@ -119,7 +122,8 @@ entry_here : (b : List ℕ) (k : ℕ)
 unfolding place_of
 entry_here b k =
     let p : ℕ = place_of b k in
-    let zeroth : get_or (drop p b) 0 0 ≡ get_or b p 0 = get_or-drop p b 0 0 ∙ ap (λ (m : ℕ). get_or b m 0) (omega arith) in
+    let zeroth : get_or (drop p b) 0 0 ≡ get_or b p 0 =
+    get_or-drop p b 0 0 ∙ ap (λ (m : ℕ). get_or b m 0) (omega arith) in
     let first : get_or (drop p b) 1 0 ≡ get_or b (p + 1) 0 = get_or-drop p b 1 0 in
     let after : drop 2 (drop p b) ≡ drop (p + 2) b = drop-drop 2 p b in
     let end : p + 2 + get_or b (p + 1) 0 ≡ p + (2 + get_or b (p + 1) 0) = omega arith in
@@ -161,7 +165,8 @@ module _ (b : List ℕ) where
       let c : List ℕ = drop (place_of b k) b in
       let n : ℕ = get_or b (place_of b k + 1) 0 in
       ap (λ (e : ObjectEntry). then (check_object version catalogue (objects_below b k) c e) f) (entry_here b k)
-      ∙ split (leb 2 (length c)) (carried catalogue (get_or b (place_of b k) 0)) (leb 1 n && leb n (label_limit version))
+      ∙ split (leb 2 (length c)) (carried catalogue (get_or b (place_of b k) 0))
+      (leb 1 n && leb n (label_limit version))
       (leb (2 + n) (length c)) (label_good (object_of b k).label) (not (repeats (object_of b k) (objects_below b k)))
       (length (objects_below b k)) (here k) (place_of b k + (2 + n)) f
       ∙ rw (

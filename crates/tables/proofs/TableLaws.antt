@@ -63,7 +63,8 @@ module _ (b : List ℕ) where
         pub table_4 : 1024 < n → unnamed 4 0 ≡ told (table_call b)
         unfolding told
         table_4 h =
-            let l : leb (count_in b) 1024 ≡ false = lt-leb (count_in b) 1024 (omega arith) in rw (in_order_lem, w, v, c, l)
+            let l : leb (count_in b) 1024 ≡ false = lt-leb (count_in b) 1024 (omega arith) in
+            rw (in_order_lem, w, v, c, l)
 
         pub table_rest : n ≤ 1024 → (a : Answer) → a ≡ told (objects_in b n) → a ≡ told (table_call b)
         table_rest h a f =

@@ -154,7 +154,8 @@ none_renewed ns e part h = record {
   fill = begin _ part (h ∙ sym (length_renewal (kinds_of ns) 0 e part h));
 }
 
-renewal_next : (ns e part : List ℕ) (at p i w n : ℕ) (c : Change) → i < length ns → w ≡ width_of (kind_at (kinds_of ns) i)
+renewal_next : (ns e part : List ℕ) (at p i w n : ℕ) (c : Change) → i < length ns
+    → w ≡ width_of (kind_at (kinds_of ns) i)
     → c ≡ change_at i w (drop p e) → n ≡ span w c
     → renewal i (drop i (kinds_of ns)) (drop p e) (drop at part)
     ≡ renewed c (take w (drop at part))

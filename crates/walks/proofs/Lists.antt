@@ -19,8 +19,8 @@ use Rattle.history.specs.Changes.{entries_bytes, differ, meets, joined, back}
 use Rattle.tables.specs.Outlines.{kinds_of}
 use Rattle.forms.proofs.KindLaws.{kinds_next}
 use Rattle.steps.specs.declared.Walk.{Walk}
-use Rattle.steps.specs.Steps.{span, entry_bytes, names, count_if, size_if, said_if, change_at, is_swap, step_of, Stepped}
-use Rattle.steps.specs.Steps.{Silent, AllIdle}
+use Rattle.steps.specs.Steps.{span, entry_bytes, names, count_if, size_if, said_if, change_at, is_swap, step_of}
+use Rattle.steps.specs.Steps.{Stepped, Silent, AllIdle}
 use Rattle.steps.proofs.StepLaws.{difference_step, join_step, turn_step, differ_swap, names_inside, said_inside}
 use Rattle.steps.proofs.StepLaws.{idle_none, idle_turn}
 use Rattle.walks.specs.Walks.{walked, walk_bytes, ElementsLong, Asked, Surveyed}
@@ -115,7 +115,8 @@ module _ {ns f s : List ℕ} {p q i w : ℕ} {one other : Bool} (h : i < length 
 
     pub join_sized : t ≡ true → {kept : Bool}
         → kept ≡ is_swap (joined (said_if one w (drop p f)) (said_if other w (drop q s)))
-        → {m n k l : ℕ} → (m ≡ count_if kept) × (m ≤ 1) → (n ≡ size_if kept w) × (n ≤ 10) → (k ≡ size_if one w) × (k ≤ 10)
+        → {m n k l : ℕ} → (m ≡ count_if kept) × (m ≤ 1) → (n ≡ size_if kept w) × (n ≤ 10)
+        → (k ≡ size_if one w) × (k ≤ 10)
         → (l ≡ size_if other w) × (l ≤ 10)
         → {j : ℕ} → AllIdle Walk.Join (i + 1) j (length ns) (drop (p + k) f) (drop (q + l) s)
         → Sizing Walk.Join ns f s (count + m) (size + n) (p + k) (q + l) j
@@ -164,7 +165,8 @@ module _ {walk : Walk} (e : walk ≡ Walk.Turn) (ns f s : List ℕ) where
       → n ≡ length (walk_bytes Walk.Turn 0 (kinds_of ns) f [])
   room_alone l = room_as e ns f s l ∙ ap length (bytes_alone (kinds_of ns) f s [])
 
-  pub bytes_turned : {b : List ℕ} → b ≡ walk_bytes Walk.Turn 0 (kinds_of ns) f [] → b ≡ walk_bytes walk 0 (kinds_of ns) f s
+  pub bytes_turned : {b : List ℕ} → b ≡ walk_bytes Walk.Turn 0 (kinds_of ns) f []
+      → b ≡ walk_bytes walk 0 (kinds_of ns) f s
   bytes_turned p = bytes_as e ns f s (p ∙ bytes_alone (kinds_of ns) f [] s)
 
 pub said_fits : (l : List ℕ) (p i w : ℕ) {c : Change} {m : ℕ} → p ≤ length l → c ≡ change_at i w (drop p l)

@@ -8,4 +8,9 @@ pub returns : goal.returns
 returns c = let taken = c in
     let r = taken.backlog_received-advance.ensures in
     let s = taken.standing_in.ensures in
-    let tallies = taken.args.standing.now in record { answer_after = backlog_answer _ _ _ _ _ r.0 tallies s c.progress_slots.ensures; out_after = backlog_output_lem _ _ _ _ _ r.0 tallies s r.1; standing_after = backlog_tallies _ _ _ _ _ r.0 tallies s c.tallies_of.ensures }
+    let tallies = taken.args.standing.now in
+    record {
+      answer_after = backlog_answer _ _ _ _ _ r.0 tallies s c.progress_slots.ensures;
+      out_after = backlog_output_lem _ _ _ _ _ r.0 tallies s r.1;
+      standing_after = backlog_tallies _ _ _ _ _ r.0 tallies s c.tallies_of.ensures;
+    }

@@ -7,7 +7,8 @@ use Rattle.listing.proofs.InputLaws.{zeros_room, refusal_is, text_is, text_insid
 use Rattle.listing.proofs.list_into.Goals as goal
 
 pub returns-then-answer-ne0 : goal.returns-then-answer-ne0
-returns-then-answer-ne0 c = told_leaves _ _ (refusal_is _ _ zeros_room c.put_listing-answer.ensures.0 c.if-answer-ne0.true)
+returns-then-answer-ne0 c =
+    told_leaves _ _ (refusal_is _ _ zeros_room c.put_listing-answer.ensures.0 c.if-answer-ne0.true)
     c.if-answer-ne0.true
 
 pub slice_bounds-put_front-end : goal.slice_bounds-put_front-end

@@ -7,7 +7,8 @@ use lib.ListN.{length, take, drop}
 use Rattle.octets.proofs.copy.Given as goal
 
 abbrev pub invariant-loop-i : goal.invariant-loop-i
-invariant-loop-i l = (l.i ≤ length l.from) × (length l.part ≡ length l.initial.part) × (l.from ≡ take l.i l.part ++ drop l.i l.from)
+invariant-loop-i l =
+    (l.i ≤ length l.from) × (length l.part ≡ length l.initial.part) × (l.from ≡ take l.i l.part ++ drop l.i l.from)
 
 abbrev pub decreases-loop-i : goal.decreases-loop-i
 decreases-loop-i l = length l.from - l.i

@@ -10,7 +10,8 @@ returns-then-code-eq0 c = simp (eq-eqb _ _ c.if-code-eq0.true, c.one_more.ensure
 
 pub returns-then-code-eq16 : goal.returns-then-code-eq16
 unfolding counted
-returns-then-code-eq16 c = simp (ne_eqb _ _ c.if-code-eq0.false, eq-eqb _ _ c.if-code-eq16.true, c.one_more-then-code-eq16.ensures)
+returns-then-code-eq16 c =
+    simp (ne_eqb _ _ c.if-code-eq0.false, eq-eqb _ _ c.if-code-eq16.true, c.one_more-then-code-eq16.ensures)
 
 pub returns-then-code-eq17 : goal.returns-then-code-eq17
 unfolding counted

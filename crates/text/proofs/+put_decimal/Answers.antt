@@ -18,7 +18,8 @@ pub bounds-out-p : goal.bounds-out-p
 bounds-out-p t c = search last_room
 
 pub overflow_add-result-2 : goal.overflow_add-result-2
-overflow_add-result-2 t c = let below : c.put_decimal-p.result < length c.put_decimal-p.new.out = search last_room in omega arith
+overflow_add-result-2 t c =
+    let below : c.put_decimal-p.result < length c.put_decimal-p.new.out = search last_room in omega arith
 
 pub returns : goal.returns
 returns t c = search last_digit

@@ -8,7 +8,8 @@ use lib.Seq.{sets}
 use Rattle.text.proofs.put_bytes.Given as goal
 
 abbrev pub invariant-loop-i : goal.invariant-loop-i
-invariant-loop-i l = (l.i ≤ length l.src) × ((length l.out ≡ length l.initial.out) × (l.out ≡ sets l.initial.out l.at (take l.i l.src)))
+invariant-loop-i l =
+    (l.i ≤ length l.src) × ((length l.out ≡ length l.initial.out) × (l.out ≡ sets l.initial.out l.at (take l.i l.src)))
 
 abbrev pub decreases-loop-i : goal.decreases-loop-i
 decreases-loop-i l = length l.src - l.i

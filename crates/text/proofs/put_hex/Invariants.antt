@@ -9,7 +9,9 @@ use Rattle.text.specs.Wrote.{Wrote}
 use Rattle.text.proofs.put_hex.Given as goal
 
 abbrev pub invariant-loop-i : goal.invariant-loop-i
-invariant-loop-i l = (l.i ≤ length l.src) × ((length l.out ≡ length l.initial.out) × Wrote l.initial.out l.at (hexes (take l.i l.src)) l.out l.p)
+invariant-loop-i l =
+    (l.i ≤ length l.src)
+    × ((length l.out ≡ length l.initial.out) × Wrote l.initial.out l.at (hexes (take l.i l.src)) l.out l.p)
 
 abbrev pub decreases-loop-i : goal.decreases-loop-i
 decreases-loop-i l = length l.src - l.i

@@ -5,7 +5,8 @@ use Rattle.walks.proofs.Lists.{asked, room_as, bytes_as, room_alone, bytes_turne
 use Rattle.walks.proofs.put_changes.Goals as goal
 
 pub put_difference-requires : goal.put_difference-requires
-put_difference-requires c = record { kinds_len_bound = search rules; elements_long = search asked; part_len = search room_as }
+put_difference-requires c =
+    record { kinds_len_bound = search rules; elements_long = search asked; part_len = search room_as }
 
 pub put_joined-requires : goal.put_joined-requires
 put_joined-requires c = record { kinds_len_bound = search rules; part_len = search room_as }

@@ -20,10 +20,19 @@ pub elements_of-new-requires : goal.elements_of-new-requires
 elements_of-new-requires c = search image_inside
 
 pub measure_difference-size-requires : goal.measure_difference-size-requires
-measure_difference-size-requires c = record { kinds_len_bound = search rules; elements_long = record { first = search elements_sized; second = search elements_sized } }
+measure_difference-size-requires c =
+    record {
+      kinds_len_bound = search rules;
+      elements_long = record { first = search elements_sized; second = search elements_sized };
+    }
 
 pub write_list-requires : goal.write_list-requires
-write_list-requires c = record { kinds_len_bound = search rules; asked = record { first = search elements_sized; second = search elements_sized }; measured = search rules }
+write_list-requires c =
+    record {
+      kinds_len_bound = search rules;
+      asked = record { first = search elements_sized; second = search elements_sized };
+      measured = search rules;
+    }
 
 pub returns : goal.returns
 returns c = let wrote = c in
@@ -33,6 +42,7 @@ returns c = let wrote = c in
     let from = to in
     let known = from in
     leaves_as _
-    (difference_is _ _ _ known.requires.kinds_len_bound known.requires.accepted_image known.requires.accepted_image_2 from.position_of-from.ensures
+    (difference_is _ _ _ known.requires.kinds_len_bound known.requires.accepted_image known.requires.accepted_image_2
+    from.position_of-from.ensures
     to.position_of-to.ensures old.elements_of-old.ensures new.elements_of-new.ensures)
     wrote.write_list.ensures

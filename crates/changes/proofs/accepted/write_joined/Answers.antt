@@ -47,7 +47,8 @@ returns c = let wrote = c in
     let end = start in
     let known = end in
     leaves_as _
-    (join_is _ _ _ known.requires.kinds_len_bound known.requires.accepted_list known.requires.accepted_list_2 end.to_of-end.ensures start.from_of-start.ensures
+    (join_is _ _ _ known.requires.kinds_len_bound known.requires.accepted_list known.requires.accepted_list_2
+    end.to_of-end.ensures start.from_of-start.ensures
     tested.if-end-start.false first.entries_of-one.ensures second.entries_of-other.ensures
     sized.measure_join-known.ensures.found agreed.if-object-kinds.false from.from_of-from.ensures to.to_of-to.ensures)
     wrote.write_list.ensures

@@ -12,7 +12,8 @@ pub returns-then-other-ne0 : goal.returns-then-other-ne0
 returns-then-other-ne0 c = apply_second _ _ _ _ c.if-other-ne0.true (search image_accepted) (search)
 
 pub write_applied-requires : goal.write_applied-requires
-write_applied-requires c = record { kinds_len_bound = search; accepted_image = search image_accepted; accepted_list = search list_accepted }
+write_applied-requires c =
+    record { kinds_len_bound = search; accepted_image = search image_accepted; accepted_list = search list_accepted }
 
 pub returns : goal.returns
 returns c = c.write_applied.ensures

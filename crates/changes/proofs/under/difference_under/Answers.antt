@@ -12,7 +12,12 @@ pub returns-then-other-ne0 : goal.returns-then-other-ne0
 returns-then-other-ne0 c = difference_second _ _ _ _ c.if-other-ne0.true (search image_accepted) (search)
 
 pub write_difference-requires : goal.write_difference-requires
-write_difference-requires c = record { kinds_len_bound = search; accepted_image = search image_accepted; accepted_image_2 = search image_accepted }
+write_difference-requires c =
+    record {
+      kinds_len_bound = search;
+      accepted_image = search image_accepted;
+      accepted_image_2 = search image_accepted;
+    }
 
 pub returns : goal.returns
 returns c = c.write_difference.ensures

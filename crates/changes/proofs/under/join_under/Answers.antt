@@ -12,7 +12,8 @@ pub returns-then-other-ne0 : goal.returns-then-other-ne0
 returns-then-other-ne0 c = join_second _ _ _ _ c.if-other-ne0.true (search list_accepted) (search)
 
 pub write_joined-requires : goal.write_joined-requires
-write_joined-requires c = record { kinds_len_bound = search; accepted_list = search list_accepted; accepted_list_2 = search list_accepted }
+write_joined-requires c =
+    record { kinds_len_bound = search; accepted_list = search list_accepted; accepted_list_2 = search list_accepted }
 
 pub returns : goal.returns
 returns c = c.write_joined.ensures

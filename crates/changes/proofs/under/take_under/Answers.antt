@@ -8,4 +8,5 @@ pub returns-then-one-ne0 : goal.returns-then-one-ne0
 returns-then-one-ne0 c = take_first _ _ _ c.if-one-ne0.true (search) (search)
 
 pub take_applied-requires : goal.take_applied-requires
-take_applied-requires c = record { kinds_len_bound = search; accepted_image = search; accepted_list = search list_accepted }
+take_applied-requires c =
+    record { kinds_len_bound = search; accepted_image = search; accepted_list = search list_accepted }

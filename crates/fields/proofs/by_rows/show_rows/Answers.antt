@@ -11,8 +11,10 @@ loop-k-init c = showing _ _ _
 
 pub loop-k-preserved : goal.loop-k-preserved
 loop-k-preserved c = elim c.if-highest-ne0.branch [
-  | then-highest-ne0 w ↦ shows_on c.loop-k.invariant (omega arith) (omega arith) (omega arith) c.highest.ensures (λ x. x) (λ x. x) (inl (w.if-highest-ne0.true, w.fields-is, w.n-is))
-  | else-highest-ne0 w ↦ shows_on c.loop-k.invariant (omega arith) (omega arith) (omega arith) c.highest.ensures (λ x. x) (λ x. x) (inr (w.if-highest-ne0.false, w.fields-is, w.n-is))
+  | then-highest-ne0 w ↦ shows_on c.loop-k.invariant (omega arith) (omega arith) (omega arith) c.highest.ensures
+      (λ x. x) (λ x. x) (inl (w.if-highest-ne0.true, w.fields-is, w.n-is))
+  | else-highest-ne0 w ↦ shows_on c.loop-k.invariant (omega arith) (omega arith) (omega arith) c.highest.ensures
+      (λ x. x) (λ x. x) (inr (w.if-highest-ne0.false, w.fields-is, w.n-is))
 ]
 
 pub returns : goal.returns

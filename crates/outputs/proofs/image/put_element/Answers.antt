@@ -14,7 +14,8 @@ finish-requires c = let put = c in
     let place = kind in
     let head = place in
     let known = head in
-    put_head _ _ known.requires.image_len _ c.image_head-place.ensures.0 known.requires.object_in_bounds.0 known.requires.object_in_bounds.1 place.place_of.ensures.0
+    put_head _ _ known.requires.image_len _ c.image_head-place.ensures.0 known.requires.object_in_bounds.0
+    known.requires.object_in_bounds.1 place.place_of.ensures.0
     kind.kind_at.ensures width.width.ensures.0 0 _ put.put.ensures
 
 pub returns : goal.returns

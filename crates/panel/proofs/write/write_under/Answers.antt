@@ -18,7 +18,9 @@ write_element-requires c = let word = c in
     let checked = found in
     let known = checked in record {
       object_in_bounds = (state_object _ _ _ found.check_state-found.ensures (omega arith), omega arith);
-      image_len = image_sized _ _ _ _ _ _ 0 checked.check_image_under-answer.ensures known.shared_slice_known-2-1.given (omega arith)
+      image_len =
+          image_sized _ _ _ _ _ _ 0 checked.check_image_under-answer.ensures known.shared_slice_known-2-1.given
+          (omega arith)
           found.check_state-found.ensures;
     }
 

@@ -20,13 +20,15 @@ pub entry_place-at-requires : goal.entry_place-at-requires
 entry_place-at-requires c = search (rules, code_given)
 
 pub overflow_add-offset : goal.overflow_add-offset
-overflow_add-offset c = omega (arith, entry_at _ (search (rules, code_given)) _ _ c.entry_place-at.ensures (omega arith))
+overflow_add-offset c =
+    omega (arith, entry_at _ (search (rules, code_given)) _ _ c.entry_place-at.ensures (omega arith))
 
 pub overflow_add-at : goal.overflow_add-at
 overflow_add-at c = omega (arith, entry_at _ (search (rules, code_given)) _ _ c.entry_place-at.ensures (omega arith))
 
 pub byte_at-size-requires : goal.byte_at-size-requires
-byte_at-size-requires c = omega (arith, entry_at _ (search (rules, code_given)) _ _ c.entry_place-at.ensures (omega arith))
+byte_at-size-requires c =
+    omega (arith, entry_at _ (search (rules, code_given)) _ _ c.entry_place-at.ensures (omega arith))
 
 pub returns : goal.returns
 returns c = label_found _ _ (search (rules, code_given)) (omega arith) _ (search rules) _ (search rules) _

@@ -59,7 +59,8 @@ pub bytes-preserved : goal.bytes-preserved
 bytes-preserved c = (omega arith, search, search agree_more)
 
 pub entries-preserved : goal.entries-preserved
-entries-preserved c = let inv = c.earlier.invariant in (walk_next inv c.earlier-test.false, chained_next inv (omega arith))
+entries-preserved c =
+    let inv = c.earlier.invariant in (walk_next inv c.earlier-test.false, chained_next inv (omega arith))
 
 -- the loop was left at a repeat
 pub returns-then-k-count : goal.returns-then-k-count

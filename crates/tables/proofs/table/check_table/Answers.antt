@@ -15,7 +15,8 @@ pub bounds-table-4 : goal.bounds-table-4
 bounds-table-4 c = search (long_enough, rules)
 
 pub returns-then-not-is_table_version : goal.returns-then-not-is_table_version
-returns-then-not-is_table_version c = c.refused-then-not-is_table_version.ensures ∙ table_2 _ (search (rules, yes)) (search (rules, no))
+returns-then-not-is_table_version c =
+    c.refused-then-not-is_table_version.ensures ∙ table_2 _ (search (rules, yes)) (search (rules, no))
 
 pub bounds-table-5 : goal.bounds-table-5
 bounds-table-5 c = search (long_enough, rules)
@@ -24,7 +25,8 @@ pub bounds-table-6 : goal.bounds-table-6
 bounds-table-6 c = search (long_enough, rules)
 
 pub returns-then-not-is_catalogue : goal.returns-then-not-is_catalogue
-returns-then-not-is_catalogue c = c.refused-then-not-is_catalogue.ensures ∙ table_3 _ (search (rules, yes)) (search (rules, yes)) (search (rules, no))
+returns-then-not-is_catalogue c =
+    c.refused-then-not-is_catalogue.ensures ∙ table_3 _ (search (rules, yes)) (search (rules, yes)) (search (rules, no))
 
 pub object_count-count-requires : goal.object_count-count-requires
 object_count-count-requires c = search (table_room, rules)
