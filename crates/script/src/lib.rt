@@ -4,21 +4,20 @@
 #![tactic(auto)]
 
 ghost use Rattle.std.specs.Prelude.{◌≤◌, length};
-ghost use Rattle.io.specs.Counts.{IsPrefixLen};
+ghost use Rattle.script.specs.Counts.{IsPrefixLen};
 
 use history::Answer;
-use libc::STDOUT_FILENO;
+use std::io;
+use std::io::Write;
 
 // The first place of a byte from a place on; the text's end if there is none.
 pub fn find(text: &[u8], from: usize, byte: u8) -> usize
     ensures { (result ≤ length text.now) × (from ≤ length text.now → from ≤ result) }
 {
-    let mut i = from;
-    while i < text.len() {
+    for i in from..text.len() {
         if text[i] == byte {
             return i;
         }
-        i += 1;
     }
     text.len()
 }
@@ -32,13 +31,11 @@ pub fn begins(line: &[u8], word: &[u8]) -> bool {
 pub fn value_of(line: &[u8], name: &[u8]) -> usize
     ensures { result ≤ length line.now }
 {
-    let mut i = 0;
-    while i < line.len() {
+    for i in 0..line.len() {
         let place = behind(line, i, name);
         if 0 < place {
             return place;
         }
-        i += 1;
     }
     line.len()
 }
@@ -47,22 +44,11 @@ pub fn value_of(line: &[u8], name: &[u8]) -> usize
 fn behind(line: &[u8], at: usize, word: &[u8]) -> usize
     ensures { result ≤ length line.now }
 {
-    let mut place = at;
-    let mut i = 0;
-    while i < word.len() {
-        if line.len() <= place {
-            return 0;
-        }
-        if line[place] != word[i] {
-            return 0;
-        }
-        place += 1;
-        i += 1;
+    if at <= line.len() && line[at..].starts_with(word) {
+        at + word.len()
+    } else {
+        0
     }
-    if line.len() < place {
-        return 0;
-    }
-    place
 }
 
 // Decodes the bytes that a line names, in hex, as many as there is room for; returns how many.
@@ -81,19 +67,11 @@ pub fn number_of(line: &[u8], name: &[u8]) -> u32 {
 fn digit(byte: u8) -> u8
     ensures { result ≤ 16 }
 {
-    if byte < 48 {
-        return 16;
+    match byte {
+        b'0'..=b'9' => byte - b'0',
+        b'a'..=b'f' => byte - b'a' + 10,
+        _ => 16,
     }
-    if byte < 58 {
-        return byte - 48;
-    }
-    if byte < 97 {
-        return 16;
-    }
-    if byte < 103 {
-        return byte - 87;
-    }
-    16
 }
 
 // Decodes the bytes in hex from a place on, as many as there are and as there is room for; returns how many.
@@ -101,122 +79,103 @@ fn decode(text: &[u8], from: usize, out: &mut [u8]) -> usize
     ensures { IsPrefixLen result out.new }
 {
     let mut i = from;
-    let mut n = 0;
-    while n < out.len() {
-        if text.len() <= i {
-            return n;
-        }
-        if text.len() - i < 2 {
+    for n in 0..out.len() {
+        if text.len() <= i || text.len() - i < 2 {
             return n;
         }
         let high = digit(text[i]);
         let low = digit(text[i + 1]);
-        if 15 < high {
-            return n;
-        }
-        if 15 < low {
+        if 15 < high || 15 < low {
             return n;
         }
         out[n] = high * 16 + low;
         i += 2;
-        n += 1;
     }
-    n
+    out.len()
 }
 
 // The decimal number from a place on, modulo 2^32; 0 if there are no digits.
 pub fn decimal(text: &[u8], from: usize) -> u32 {
-    let mut value: u64 = 0;
-    let mut i = from;
-    while i < text.len() {
+    let mut value: u32 = 0;
+    for i in from..text.len() {
         let byte = text[i];
-        if byte < 48 {
-            return (value % 4294967296) as u32;
+        if !byte.is_ascii_digit() {
+            return value;
         }
-        if 57 < byte {
-            return (value % 4294967296) as u32;
-        }
-        value = (value * 10 + (byte - 48) as u64) % 4294967296;
-        i += 1;
+        value = value.wrapping_mul(10).wrapping_add((byte - b'0') as u32);
     }
-    (value % 4294967296) as u32
+    value
 }
 
 // Numbers with commas between. Places after the last hold whatever reading on gives.
 pub fn numbers(text: &[u8], from: usize) -> [u32; 32] {
     let mut values = [0u32; 32];
     let mut at = from;
-    let mut k: usize = 0;
-    while k < 32 {
-        values[k] = decimal(text, at);
+    for value in values.iter_mut() {
+        *value = decimal(text, at);
         at = find(text, at, b',') + 1;
-        k += 1;
     }
     values
 }
 
 // Prints the four numbers of an answer, with spaces between.
-pub fn print_answer(answer: Answer) {
+pub fn print_answer<W: Write>(to: &mut W, answer: Answer) -> io::Result<()> {
     print_four(
+        to,
         answer.code as u32,
         answer.object as u32,
         answer.bit as u32,
         answer.length,
-    );
+    )
 }
 
-pub fn print_four(code: u32, object: u32, bit: u32, length: u32) {
-    print_number(code);
-    print(b" ");
-    print_number(object);
-    print(b" ");
-    print_number(bit);
-    print(b" ");
-    print_number(length);
+pub fn print_four<W: Write>(
+    to: &mut W,
+    code: u32,
+    object: u32,
+    bit: u32,
+    length: u32,
+) -> io::Result<()> {
+    write!(to, "{code} {object} {bit} {length}")
 }
 
 // Prints bytes in hex, `-` if there are none.
-pub fn print_hex(bytes: &[u8]) {
-    if bytes.len() == 0 {
-        print(b"-");
+pub fn print_hex<W: Write>(to: &mut W, bytes: &[u8]) -> io::Result<()> {
+    if bytes.is_empty() {
+        return print(to, b"-");
     }
-    let mut i = 0;
-    while i < bytes.len() {
-        print_byte(bytes[i]);
-        i += 1;
+    for byte in bytes {
+        print_byte(to, *byte)?;
     }
+    Ok(())
 }
 
-fn print_byte(byte: u8) {
-    io::print_hex(STDOUT_FILENO, byte as u64, 2);
+fn print_byte<W: Write>(to: &mut W, byte: u8) -> io::Result<()> {
+    write!(to, "{byte:02x}")
 }
 
 // Prints the first `count` numbers, with commas between.
-pub fn print_numbers(values: [u32; 32], count: usize) {
-    let mut k: usize = 0;
-    while k < 32 {
-        if count <= k {
-            return;
-        }
+pub fn print_numbers<W: Write>(to: &mut W, values: [u32; 32], count: usize) -> io::Result<()> {
+    for k in 0..count.min(32) {
         if 0 < k {
-            print(b",");
+            print(to, b",")?;
         }
-        print_number(values[k]);
-        k += 1;
+        print_number(to, values[k])?;
     }
+    Ok(())
 }
 
 // Prints a number in decimal.
-pub fn print_number(number: u32) {
-    io::print_decimal(STDOUT_FILENO, number as u64);
+pub fn print_number<W: Write>(to: &mut W, number: u32) -> io::Result<()> {
+    write!(to, "{number}")
 }
 
 // Prints a count in decimal.
-pub fn print_count(count: usize) {
-    io::print_decimal(STDOUT_FILENO, count as u64);
+pub fn print_count<W: Write>(to: &mut W, count: usize) -> io::Result<()> {
+    write!(to, "{count}")
 }
 
 // Prints text.
-pub fn print(text: &[u8]) {
-    io::write_all(STDOUT_FILENO, text);
+pub fn print<W: Write>(to: &mut W, text: &[u8]) -> io::Result<()> {
+    to.write_all(text)
 }
