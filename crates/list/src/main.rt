@@ -1,8 +1,8 @@
 // Reads a table followed by its image from standard input, and lists them on standard output.
 #![tactic(auto)]
 
-use libc::{STDIN_FILENO, STDOUT_FILENO};
+use std::io;
 
-fn main() {
-    shell::list_between(STDIN_FILENO, STDOUT_FILENO);
+fn main(rt: HostRuntime) -> io::Result<()> {
+    shell::list_between(&mut rt.stdin(), &mut rt.stdout())
 }

@@ -1,60 +1,55 @@
 // Prints the name and then the listing of each file of data/ on standard output.
 #![tactic(auto)]
 
-use libc::STDOUT_FILENO;
+use std::rt::Files;
+use std::{fs, io};
 
-fn main() {
-    accepted();
-    split();
-    codes();
+fn main(rt: HostRuntime) -> io::Result<()> {
+    accepted(&rt)?;
+    split(&rt)?;
+    codes(&rt)
 }
 
 // Panels that are listed.
-fn accepted() {
-    case(b"paper");
-    case(b"empty_table");
-    case(b"every_type");
-    case(b"largest");
+fn accepted(rt: &(impl Files + Print)) -> io::Result<()> {
+    case(rt, "paper")?;
+    case(rt, "empty_table")?;
+    case(rt, "every_type")?;
+    case(rt, "largest")
 }
 
 // Inputs that cannot be split or are too long, and inputs close to these.
-fn split() {
-    case(b"no_bytes");
-    case(b"three_bytes");
-    case(b"cut_table");
-    case(b"table_alone");
-    case(b"bad_table_alone");
-    case(b"bytes_65536");
-    case(b"bytes_65537");
-    case(b"image_longer");
-    case(b"length_under_least");
+fn split(rt: &(impl Files + Print)) -> io::Result<()> {
+    case(rt, "no_bytes")?;
+    case(rt, "three_bytes")?;
+    case(rt, "cut_table")?;
+    case(rt, "table_alone")?;
+    case(rt, "bad_table_alone")?;
+    case(rt, "bytes_65536")?;
+    case(rt, "bytes_65537")?;
+    case(rt, "image_longer")?;
+    case(rt, "length_under_least")
 }
 
 // An input for each code of a table or an image.
-fn codes() {
-    case(b"code_2");
-    case(b"code_2_image");
-    case(b"code_3");
-    case(b"code_4");
-    case(b"code_5");
-    case(b"code_6");
-    case(b"code_7");
-    case(b"code_8");
-    case(b"code_8_image");
-    case(b"code_9");
-    case(b"code_10");
-    case(b"code_11");
-    case(b"code_12");
+fn codes(rt: &(impl Files + Print)) -> io::Result<()> {
+    case(rt, "code_2")?;
+    case(rt, "code_2_image")?;
+    case(rt, "code_3")?;
+    case(rt, "code_4")?;
+    case(rt, "code_5")?;
+    case(rt, "code_6")?;
+    case(rt, "code_7")?;
+    case(rt, "code_8")?;
+    case(rt, "code_8_image")?;
+    case(rt, "code_9")?;
+    case(rt, "code_10")?;
+    case(rt, "code_11")?;
+    case(rt, "code_12")
 }
 
-fn case(name: &[u8]) {
-    io::write_all(STDOUT_FILENO, name);
-    io::write_all(STDOUT_FILENO, b"\n");
-    let file = os::open_read(name);
-    if file < 0 {
-        os::fail(name);
-        return;
-    }
-    shell::list_between(file, STDOUT_FILENO);
-    libc::close(file);
+fn case(rt: &(impl Files + Print), name: &str) -> io::Result<()> {
+    println!(rt; "{name}")?;
+    let mut file = fs::open(rt, name)?;
+    shell::list_between(&mut file, &mut io::writer(rt))
 }

@@ -15,95 +15,66 @@ mod operations;
 mod under_table;
 mod without_table;
 
-ghost use Rattle.std.specs.Prelude.{◌≤◌, length};
-
-use libc::STDIN_FILENO;
 use script::{begins, bytes_of, print};
+use std::alloc::Global;
+use std::io;
+use std::io::{BufRead, BufReader, BufWriter, Write};
 use under_table::ask;
 use without_table::{check_element, list};
 
-// The bytes of text that are held at a time; every line has to be shorter.
-const TEXT: usize = 200000;
-// How often text is read: over 12 megabytes in all.
-const TURNS: usize = 64;
 // Room for a table.
 const TABLE: usize = 52000;
 // Room for an image, a list or a backlog.
 const FORM: usize = 12000;
 
-fn main() {
-    let mut text = [0u8; TEXT];
-    let mut held: usize = 0;
-    let mut turn: usize = 0;
-    while turn < TURNS {
-        held = take_text(&mut text, held);
-        turn += 1;
-    }
+fn main(rt: HostRuntime) -> io::Result<()> {
+    let mut input = BufReader::new(rt.alloc(), rt.reader())?;
+    let mut output = BufWriter::new(rt.alloc(), io::writer(&rt))?;
+    answer_lines(rt.alloc(), &mut input, &mut output)?;
+    output.flush()
 }
 
-// Reads on after what is held and answers each complete line. The rest is held at the front; returns its length.
-fn take_text(text: &mut [u8], held: usize) -> usize {
-    if text.len() < held {
-        return 0;
-    }
-    let n = io::read_full(STDIN_FILENO, &mut text[held..]);
-    let end = held + n;
-    let done = answer_lines(&text[0..end]);
-    keep_rest(text, done, end)
-}
-
-// Answers each complete line; returns where the rest begins.
-fn answer_lines(text: &[u8]) -> usize
-    ensures { result ≤ length text.now }
-{
-    let mut at = 0;
-    while at < text.len() {
-        let end = script::find(text, at, b'\n');
-        if text.len() <= end {
-            return at;
+// Answers each complete line. What follows the last newline is no request.
+fn answer_lines<R: BufRead, W: Write>(
+    alloc: Global,
+    input: &mut R,
+    output: &mut W,
+) -> io::Result<()> {
+    let mut line = Vec::new(alloc);
+    for _ in 0..u64::MAX {
+        line.clear();
+        input.read_until(b'\n', &mut line)?;
+        match line.strip_suffix(b"\n") {
+            Some(request) => {
+                answer(output, request)?;
+                print(output, b"\n")?;
+            }
+            None => return Ok(()),
         }
-        answer(&text[at..end]);
-        print(b"\n");
-        at = end + 1;
     }
-    at
+    Ok(())
 }
 
-// Copies what is between two places to the front; returns its length.
-fn keep_rest(text: &mut [u8], from: usize, to: usize) -> usize {
-    let mut n = 0;
-    let mut i = from;
-    while i < to {
-        if text.len() <= i {
-            return n;
-        }
-        text[n] = text[i];
-        n += 1;
-        i += 1;
-    }
-    n
-}
-
-fn answer(line: &[u8]) {
+fn answer<W: Write>(to: &mut W, line: &[u8]) -> io::Result<()> {
     if begins(line, b"#") {
-        print(line);
+        print(to, line)
     } else if begins(line, b"check_element ") {
-        check_element(line);
+        check_element(to, line)
     } else if begins(line, b"listing ") {
-        list(line);
+        list(to, line)
     } else if begins(line, b"difference ") {
-        ask_with(line, b" a=", b" b=");
+        ask_with(to, line, b" a=", b" b=")
     } else if begins(line, b"join ") {
-        ask_with(line, b" first=", b" second=");
+        ask_with(to, line, b" first=", b" second=")
     } else if begins(line, b"backlog ") {
-        ask_with(line, b" image=", b" lists=");
+        ask_with(to, line, b" image=", b" lists=")
     } else {
-        ask_with(line, b" image=", b" list=");
+        ask_with(to, line, b" image=", b" list=")
     }
 }
 
 // Asks with the table, two forms and the output that the line names; what it doesn't name is empty.
-fn ask_with(line: &[u8], first: &[u8], second: &[u8]) {
+fn ask_with<W: Write>(to: &mut W, line: &[u8], first: &[u8], second: &[u8]) -> io::Result<()> {
     let mut table = [0u8; TABLE];
     let mut one = [0u8; FORM];
     let mut two = [0u8; FORM];
@@ -112,5 +83,5 @@ fn ask_with(line: &[u8], first: &[u8], second: &[u8]) {
     let m = bytes_of(line, first, &mut one);
     let k = bytes_of(line, second, &mut two);
     let o = bytes_of(line, b" out=", &mut out);
-    ask(line, &table[..n], &one[..m], &two[..k], &mut out[..o]);
+    ask(to, line, &table[..n], &one[..m], &two[..k], &mut out[..o])
 }

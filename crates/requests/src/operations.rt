@@ -1,46 +1,73 @@
 // The calls that make a list or an image from other forms: the operations, and a list or a backlog received.
 use history::{Answer, Standing};
 use script::{begins, print, print_answer, print_hex};
+use std::io;
+use std::io::Write;
 
-pub fn operate(line: &[u8], table: &[u8], one: &[u8], two: &[u8], out: &mut [u8]) {
+pub fn operate<W: Write>(
+    to: &mut W,
+    line: &[u8],
+    table: &[u8],
+    one: &[u8],
+    two: &[u8],
+    out: &mut [u8],
+) -> io::Result<()> {
     if begins(line, b"difference ") {
-        print_written(changes::difference(table, one, two, out), out);
+        let answer = changes::difference(table, one, two, out);
+        print_written(to, answer, out)
     } else if begins(line, b"apply ") {
-        print_written(changes::apply(table, one, two, out), out);
+        let answer = changes::apply(table, one, two, out);
+        print_written(to, answer, out)
     } else if begins(line, b"join ") {
-        print_written(changes::join(table, one, two, out), out);
+        let answer = changes::join(table, one, two, out);
+        print_written(to, answer, out)
     } else if begins(line, b"turn_back ") {
-        print_written(changes::turn_back(table, two, out), out);
+        let answer = changes::turn_back(table, two, out);
+        print_written(to, answer, out)
     } else if begins(line, b"receive ") {
-        receive(line, table, one, two, out);
+        receive(to, line, table, one, two, out)
     } else if begins(line, b"backlog ") {
-        receive_backlog(line, table, one, two, out);
+        receive_backlog(to, line, table, one, two, out)
     } else {
-        print(b"no such call");
+        print(to, b"no such call")
     }
 }
 
 // Prints the answer's numbers, and the whole output as it is after the call.
-pub fn print_written(answer: Answer, out: &[u8]) {
-    print_answer(answer);
-    print(b" out=");
-    print_hex(out);
+pub fn print_written<W: Write>(to: &mut W, answer: Answer, out: &[u8]) -> io::Result<()> {
+    print_answer(to, answer)?;
+    print(to, b" out=")?;
+    print_hex(to, out)
 }
 
-fn receive(line: &[u8], table: &[u8], image: &[u8], list: &[u8], out: &mut [u8]) {
+fn receive<W: Write>(
+    to: &mut W,
+    line: &[u8],
+    table: &[u8],
+    image: &[u8],
+    list: &[u8],
+    out: &mut [u8],
+) -> io::Result<()> {
     let taken = receiver::received(table, image, list, out, standing_of(line));
-    print_written(taken.answer, out);
-    print_standing(taken.standing);
+    print_written(to, taken.answer, out)?;
+    print_standing(to, taken.standing)
 }
 
-fn receive_backlog(line: &[u8], table: &[u8], image: &[u8], lists: &[u8], out: &mut [u8]) {
+fn receive_backlog<W: Write>(
+    to: &mut W,
+    line: &[u8],
+    table: &[u8],
+    image: &[u8],
+    lists: &[u8],
+    out: &mut [u8],
+) -> io::Result<()> {
     let advance = receiver::backlog_received(table, image, lists, out, standing_of(line));
-    print_answer(advance.progress.answer);
-    print(b" taken=");
-    script::print_count(advance.progress.taken);
-    print(b" out=");
-    print_hex(out);
-    print_standing(advance.standing);
+    print_answer(to, advance.progress.answer)?;
+    print(to, b" taken=")?;
+    script::print_count(to, advance.progress.taken)?;
+    print(to, b" out=")?;
+    print_hex(to, out)?;
+    print_standing(to, advance.standing)
 }
 
 fn standing_of(line: &[u8]) -> Standing {
@@ -53,12 +80,12 @@ fn standing_of(line: &[u8]) -> Standing {
     }
 }
 
-fn print_standing(standing: Standing) {
+fn print_standing<W: Write>(to: &mut W, standing: Standing) -> io::Result<()> {
     let mut tallies = [0u32; 32];
     tallies[0] = standing.applied;
     tallies[1] = standing.late;
     tallies[2] = standing.gap;
     tallies[3] = standing.other;
-    print(b" standing=");
-    script::print_numbers(tallies, 4);
+    print(to, b" standing=")?;
+    script::print_numbers(to, tallies, 4)
 }

@@ -1,5 +1,7 @@
 // The calls that take no table by itself: an element, and a listing, whose input is a table and an image together.
-use script::{bytes_of, number_of, print, print_four, print_hex, value_of};
+use script::{bytes_of, number_of, print, print_answer, print_four, print_hex, value_of};
+use std::io;
+use std::io::Write;
 
 // Room for an element.
 const ELEMENT: usize = 8;
@@ -9,7 +11,7 @@ const DATA: usize = 65537;
 const LISTED: usize = 65536;
 
 // Uses the call for C, the only one that takes a catalogue.
-pub fn check_element(line: &[u8]) {
+pub fn check_element<W: Write>(to: &mut W, line: &[u8]) -> io::Result<()> {
     let mut element = [0u8; ELEMENT];
     let n = bytes_of(line, b" word=", &mut element);
     let at = value_of(line, b" catalogue=");
@@ -20,26 +22,26 @@ pub fn check_element(line: &[u8]) {
         y = (script::decimal(line, script::find(line, at, b'.') + 1) % 256) as u8;
     }
     let ty = (number_of(line, b" type=") % 256) as u8;
-    check_under(x, y, ty, &element[..n]);
+    check_under(to, x, y, ty, &element[..n])
 }
 
-fn check_under(x: u8, y: u8, ty: u8, element: &[u8]) {
+fn check_under<W: Write>(to: &mut W, x: u8, y: u8, ty: u8, element: &[u8]) -> io::Result<()> {
     let mut answer = [0u32; 8];
     gateway::shefumbari_check_element(x, y, ty, element, &mut answer);
-    print_four(answer[0], answer[1], answer[2], answer[3]);
+    print_four(to, answer[0], answer[1], answer[2], answer[3])
 }
 
 // Prints the answer of the call, and the text that the program `list` prints.
-pub fn list(line: &[u8]) {
+pub fn list<W: Write>(to: &mut W, line: &[u8]) -> io::Result<()> {
     let mut data = [0u8; DATA];
     let n = bytes_of(line, b" data=", &mut data);
-    print_listing(&data[..n]);
+    print_listing(to, &data[..n])
 }
 
-fn print_listing(data: &[u8]) {
+fn print_listing<W: Write>(to: &mut W, data: &[u8]) -> io::Result<()> {
     let mut text = [0u8; LISTED];
-    script::print_answer(listing::list_into(data, &mut text));
+    print_answer(to, listing::list_into(data, &mut text))?;
     let n = listing::print_into(data, &mut text);
-    print(b" text=");
-    print_hex(&text[0..n]);
+    print(to, b" text=")?;
+    print_hex(to, &text[0..n])
 }

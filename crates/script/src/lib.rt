@@ -1,73 +1,74 @@
 // Requests and answers as text, for the program that runs stored requests: reads a line's values by their names, as
-// bytes in hex or decimal numbers, and prints an answer's numbers and bytes. It is proved safe and no more; it knows no
-// call of the product.
+// bytes in hex or decimal numbers, and prints an answer's numbers and bytes. It is proved what is printed, and that
+// bytes that are read stand in the line in hex; of a number read that it is safe. It knows no call of the product.
 #![tactic(auto)]
 
-ghost use Rattle.std.specs.Prelude.{◌≤◌, length};
-ghost use Rattle.io.specs.Counts.{IsPrefixLen};
+ghost use Rattle.std.specs.Prelude.{◌≡◌, ◌≢◌, ◌↔◌, IsTrue, ℕ, ◌+◌, ◌<◌, ◌≤◌, length, take, drop, slice_index, OnOk};
+ghost use Rattle.std.specs.Io.KnownBytes.{Appends};
+ghost use Rattle.std.specs.Fmt.{decimal};
+ghost use Rattle.script.specs.Counts.{IsPrefixLen};
+ghost use Rattle.script.specs.Placed.{IsAt, IsValuePlace, IsHexAt};
+ghost use Rattle.script.specs.Printed.{hex_digit, four_text, hex_byte, hex_text, item_text, numbers_text};
 
 use history::Answer;
-use libc::STDOUT_FILENO;
+use std::io;
+use std::io::Write;
 
 // The first place of a byte from a place on; the text's end if there is none.
 pub fn find(text: &[u8], from: usize, byte: u8) -> usize
-    ensures { (result ≤ length text.now) × (from ≤ length text.now → from ≤ result) }
+    ensures within { (result ≤ length text.now) × (from ≤ length text.now → from ≤ result) }
+    ensures before { (k : ℕ) → from ≤ k → k < result → slice_index text.now k ≢ byte }
+    ensures found { result < length text.now → slice_index text.now result ≡ byte }
 {
-    let mut i = from;
-    while i < text.len() {
+    for i in from..text.len() {
         if text[i] == byte {
             return i;
         }
-        i += 1;
     }
     text.len()
 }
 
 // Whether a line begins with a word of at least one byte.
-pub fn begins(line: &[u8], word: &[u8]) -> bool {
+pub fn begins(line: &[u8], word: &[u8]) -> bool
+    ensures { IsTrue result ↔ (0 < length word.now) × IsAt line.now 0 word.now }
+{
     0 < behind(line, 0, word)
 }
 
 // Where a value begins, after ` name=`; the line's end if the line doesn't name it.
 pub fn value_of(line: &[u8], name: &[u8]) -> usize
-    ensures { result ≤ length line.now }
+    ensures within { result ≤ length line.now }
+    ensures place { IsValuePlace line.now name.now result }
 {
-    let mut i = 0;
-    while i < line.len() {
+    for i in 0..line.len() {
         let place = behind(line, i, name);
         if 0 < place {
             return place;
         }
-        i += 1;
     }
     line.len()
 }
 
 // The place after a word that is at a place of a line; 0 if it isn't there.
 fn behind(line: &[u8], at: usize, word: &[u8]) -> usize
-    ensures { result ≤ length line.now }
+    ensures within { result ≤ length line.now }
+    ensures found { 0 < result → (result ≡ at + length word.now) × IsAt line.now at word.now }
+    ensures none { result ≡ 0 → IsAt line.now at word.now → at + length word.now ≡ 0 }
 {
-    let mut place = at;
-    let mut i = 0;
-    while i < word.len() {
-        if line.len() <= place {
-            return 0;
-        }
-        if line[place] != word[i] {
-            return 0;
-        }
-        place += 1;
-        i += 1;
-    }
-    if line.len() < place {
+    if line.len() < at {
         return 0;
     }
-    place
+    if line[at..].starts_with(word) {
+        at + word.len()
+    } else {
+        0
+    }
 }
 
 // Decodes the bytes that a line names, in hex, as many as there is room for; returns how many.
 pub fn bytes_of(line: &[u8], name: &[u8], out: &mut [u8]) -> usize
-    ensures { IsPrefixLen result out.new }
+    ensures within { IsPrefixLen result out.new }
+    ensures hex { (from : ℕ) × IsValuePlace line.now name.now from × IsHexAt line.now from (take result out.new) }
 {
     decode(line, value_of(line, name), out)
 }
@@ -79,144 +80,147 @@ pub fn number_of(line: &[u8], name: &[u8]) -> u32 {
 
 // The value of a hex digit in lower case; 16 for any other byte.
 fn digit(byte: u8) -> u8
-    ensures { result ≤ 16 }
+    ensures bound { result ≤ 16 }
+    ensures value { result < 16 → hex_digit result ≡ byte }
+    ensures other { (d : ℕ) → d < 16 → hex_digit d ≡ byte → result ≡ d }
 {
-    if byte < 48 {
-        return 16;
+    match byte {
+        b'0'..=b'9' => byte - b'0',
+        b'a'..=b'f' => byte - b'a' + 10,
+        _ => 16,
     }
-    if byte < 58 {
-        return byte - 48;
-    }
-    if byte < 97 {
-        return 16;
-    }
-    if byte < 103 {
-        return byte - 87;
-    }
-    16
 }
 
 // Decodes the bytes in hex from a place on, as many as there are and as there is room for; returns how many.
 fn decode(text: &[u8], from: usize, out: &mut [u8]) -> usize
-    ensures { IsPrefixLen result out.new }
+    ensures within { IsPrefixLen result out.new }
+    ensures hex { IsHexAt text.now from (take result out.new) }
 {
     let mut i = from;
-    let mut n = 0;
-    while n < out.len() {
-        if text.len() <= i {
-            return n;
-        }
-        if text.len() - i < 2 {
+    for n in 0..out.len() {
+        if text.len() <= i || text.len() - i < 2 {
             return n;
         }
         let high = digit(text[i]);
         let low = digit(text[i + 1]);
-        if 15 < high {
-            return n;
-        }
-        if 15 < low {
+        if 15 < high || 15 < low {
             return n;
         }
         out[n] = high * 16 + low;
         i += 2;
-        n += 1;
     }
-    n
+    out.len()
 }
 
 // The decimal number from a place on, modulo 2^32; 0 if there are no digits.
 pub fn decimal(text: &[u8], from: usize) -> u32 {
-    let mut value: u64 = 0;
-    let mut i = from;
-    while i < text.len() {
+    let mut value: u32 = 0;
+    for i in from..text.len() {
         let byte = text[i];
-        if byte < 48 {
-            return (value % 4294967296) as u32;
+        if !byte.is_ascii_digit() {
+            return value;
         }
-        if 57 < byte {
-            return (value % 4294967296) as u32;
-        }
-        value = (value * 10 + (byte - 48) as u64) % 4294967296;
-        i += 1;
+        value = value.wrapping_mul(10).wrapping_add((byte - b'0') as u32);
     }
-    (value % 4294967296) as u32
+    value
 }
 
 // Numbers with commas between. Places after the last hold whatever reading on gives.
 pub fn numbers(text: &[u8], from: usize) -> [u32; 32] {
     let mut values = [0u32; 32];
     let mut at = from;
-    let mut k: usize = 0;
-    while k < 32 {
-        values[k] = decimal(text, at);
+    for value in values.iter_mut() {
+        *value = decimal(text, at);
         at = find(text, at, b',') + 1;
-        k += 1;
     }
     values
 }
 
 // Prints the four numbers of an answer, with spaces between.
-pub fn print_answer(answer: Answer) {
+pub fn print_answer<W: Write>(to: &mut W, answer: Answer) -> io::Result<()>
+    ensures { OnOk result
+        (Appends (W.contents to.old) (W.contents to.new)
+        (four_text answer.code answer.object answer.bit answer.length)) }
+{
     print_four(
+        to,
         answer.code as u32,
         answer.object as u32,
         answer.bit as u32,
         answer.length,
-    );
+    )
 }
 
-pub fn print_four(code: u32, object: u32, bit: u32, length: u32) {
-    print_number(code);
-    print(b" ");
-    print_number(object);
-    print(b" ");
-    print_number(bit);
-    print(b" ");
-    print_number(length);
+pub fn print_four<W: Write>(
+    to: &mut W,
+    code: u32,
+    object: u32,
+    bit: u32,
+    length: u32,
+) -> io::Result<()>
+    ensures { OnOk result (Appends (W.contents to.old) (W.contents to.new) (four_text code object bit length)) }
+{
+    write!(to, "{code} {object} {bit} {length}")
 }
 
 // Prints bytes in hex, `-` if there are none.
-pub fn print_hex(bytes: &[u8]) {
-    if bytes.len() == 0 {
-        print(b"-");
+pub fn print_hex<W: Write>(to: &mut W, bytes: &[u8]) -> io::Result<()>
+    ensures { OnOk result (Appends (W.contents to.old) (W.contents to.new) (hex_text bytes.now)) }
+{
+    if bytes.is_empty() {
+        return print(to, b"-");
     }
-    let mut i = 0;
-    while i < bytes.len() {
-        print_byte(bytes[i]);
-        i += 1;
+    for byte in bytes {
+        print_byte(to, *byte)?;
     }
+    Ok(())
 }
 
-fn print_byte(byte: u8) {
-    io::print_hex(STDOUT_FILENO, byte as u64, 2);
+#[tactic(auto, using(std::proofs::lemmas::Fmt::hex_byte))]
+fn print_byte<W: Write>(to: &mut W, byte: u8) -> io::Result<()>
+    ensures { OnOk result (Appends (W.contents to.old) (W.contents to.new) (hex_byte byte)) }
+{
+    write!(to, "{byte:02x}")
 }
 
 // Prints the first `count` numbers, with commas between.
-pub fn print_numbers(values: [u32; 32], count: usize) {
-    let mut k: usize = 0;
-    while k < 32 {
-        if count <= k {
-            return;
-        }
-        if 0 < k {
-            print(b",");
-        }
-        print_number(values[k]);
-        k += 1;
+pub fn print_numbers<W: Write>(to: &mut W, values: [u32; 32], count: usize) -> io::Result<()>
+    ensures { OnOk result (Appends (W.contents to.old) (W.contents to.new) (numbers_text (take count values))) }
+{
+    for k in 0..count.min(32) {
+        print_item(to, k, values[k])?;
     }
+    Ok(())
+}
+
+// Prints a number that `before` others are in front of.
+fn print_item<W: Write>(to: &mut W, before: usize, number: u32) -> io::Result<()>
+    ensures { OnOk result (Appends (W.contents to.old) (W.contents to.new) (item_text before number)) }
+{
+    if before == 0 {
+        return print_number(to, number);
+    }
+    print(to, b",")?;
+    print_number(to, number)
 }
 
 // Prints a number in decimal.
-pub fn print_number(number: u32) {
-    io::print_decimal(STDOUT_FILENO, number as u64);
+pub fn print_number<W: Write>(to: &mut W, number: u32) -> io::Result<()>
+    ensures { OnOk result (Appends (W.contents to.old) (W.contents to.new) (decimal number)) }
+{
+    write!(to, "{number}")
 }
 
 // Prints a count in decimal.
-pub fn print_count(count: usize) {
-    io::print_decimal(STDOUT_FILENO, count as u64);
+pub fn print_count<W: Write>(to: &mut W, count: usize) -> io::Result<()>
+    ensures { OnOk result (Appends (W.contents to.old) (W.contents to.new) (decimal count)) }
+{
+    write!(to, "{count}")
 }
 
 // Prints text.
-pub fn print(text: &[u8]) {
-    io::write_all(STDOUT_FILENO, text);
+pub fn print<W: Write>(to: &mut W, text: &[u8]) -> io::Result<()>
+    ensures { OnOk result (Appends (W.contents to.old) (W.contents to.new) text.now) }
+{
+    to.write_all(text)
 }

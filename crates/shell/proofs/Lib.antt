@@ -1,0 +1,2 @@
+pub mod FilledFront
+pub mod WholeInput
