@@ -15,44 +15,83 @@ mod operations;
 mod under_table;
 mod without_table;
 
+ghost use Rattle.std.specs.Prelude.{◌≤◌, length, IfOk};
+
 use script::{begins, bytes_of, print};
-use std::alloc::Global;
+use shell::read_full;
 use std::io;
-use std::io::{BufRead, BufReader, BufWriter, Write};
+use std::io::{Read, Write};
 use under_table::ask;
 use without_table::{check_element, list};
 
+// The bytes of text that are held at a time; every line has to be shorter.
+const TEXT: usize = 200000;
+// How often text is read: over 12 megabytes in all.
+const TURNS: usize = 64;
 // Room for a table.
 const TABLE: usize = 52000;
 // Room for an image, a list or a backlog.
 const FORM: usize = 12000;
 
 fn main(rt: HostRuntime) -> io::Result<()> {
-    let mut input = BufReader::new(rt.alloc(), rt.reader())?;
-    let mut output = BufWriter::new(rt.alloc(), io::writer(&rt))?;
-    answer_lines(rt.alloc(), &mut input, &mut output)?;
-    output.flush()
+    let mut text = [0u8; TEXT];
+    take_turns(&mut rt.stdin(), &mut io::writer(&rt), &mut text)
 }
 
-// Answers each complete line. What follows the last newline is no request.
-fn answer_lines<R: BufRead, W: Write>(
-    alloc: Global,
-    input: &mut R,
-    output: &mut W,
-) -> io::Result<()> {
-    let mut line = Vec::new(alloc);
-    for _ in 0..u64::MAX {
-        line.clear();
-        input.read_until(b'\n', &mut line)?;
-        match line.strip_suffix(b"\n") {
-            Some(request) => {
-                answer(output, request)?;
-                print(output, b"\n")?;
-            }
-            None => return Ok(()),
-        }
+fn take_turns<R: Read, W: Write>(input: &mut R, output: &mut W, text: &mut [u8]) -> io::Result<()> {
+    let mut held = 0;
+    for _ in 0..TURNS {
+        held = take_text(input, output, text, held)?;
     }
     Ok(())
+}
+
+// Reads on after what is held and answers each complete line. The rest is held at the front; returns its length.
+fn take_text<R: Read, W: Write>(
+    input: &mut R,
+    output: &mut W,
+    text: &mut [u8],
+    held: usize,
+) -> io::Result<usize> {
+    if text.len() < held {
+        return Ok(0);
+    }
+    let n = read_full(input, &mut text[held..])?;
+    let end = held + n;
+    let done = answer_lines(output, &text[..end])?;
+    Ok(keep_rest(text, done, end))
+}
+
+// Answers each complete line; returns where the rest begins.
+fn answer_lines<W: Write>(to: &mut W, text: &[u8]) -> io::Result<usize>
+    ensures { IfOk result (λ r. r ≤ length text.now) }
+{
+    let mut at = 0;
+    while at < text.len() {
+        let end = script::find(text, at, b'\n');
+        if text.len() <= end {
+            return Ok(at);
+        }
+        answer(to, &text[at..end])?;
+        print(to, b"\n")?;
+        at = end + 1;
+    }
+    Ok(at)
+}
+
+// Copies what is between two places to the front; returns its length.
+fn keep_rest(text: &mut [u8], from: usize, to: usize) -> usize {
+    let mut n = 0;
+    let mut i = from;
+    while i < to {
+        if text.len() <= i {
+            return n;
+        }
+        text[n] = text[i];
+        n += 1;
+        i += 1;
+    }
+    n
 }
 
 fn answer<W: Write>(to: &mut W, line: &[u8]) -> io::Result<()> {

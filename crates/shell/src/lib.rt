@@ -38,7 +38,7 @@ fn list_through<R: Read, W: Write>(
 }
 
 // Reads until the buffer is full or the input ends; returns how many bytes were read.
-fn read_full<R: Read>(input: &mut R, buffer: &mut [u8]) -> io::Result<usize>
+pub fn read_full<R: Read>(input: &mut R, buffer: &mut [u8]) -> io::Result<usize>
     ensures bound { ReadsAtMost result buffer.new }
     ensures bytes { IfOk result (λ n. IfSome (R.remaining input.old)
         (λ all. take n buffer.new ≡ take (length buffer.old) all)) }
