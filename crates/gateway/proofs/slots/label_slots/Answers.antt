@@ -8,10 +8,10 @@ use Rattle.gateway.proofs.CallLaws.{offset_few, size_few}
 use Rattle.gateway.proofs.slots.label_slots.Goals as goal
 
 pub overflow_cast-found : goal.overflow_cast-found
-overflow_cast-found c = omega (arith, offset_few)
+overflow_cast-found c = omega (arith, offset_few, size_few)
 
 pub overflow_cast-found-2 : goal.overflow_cast-found-2
-overflow_cast-found-2 c = omega (arith, size_few)
+overflow_cast-found-2 c = omega (arith, offset_few, size_few)
 
 pub returns : goal.returns
 unfolding label_slots

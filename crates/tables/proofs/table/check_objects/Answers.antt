@@ -37,7 +37,8 @@ pub earlier-init : goal.earlier-init
 earlier-init c = search search_begins
 
 pub earlier-preserved-then-table-was : goal.earlier-preserved-then-table-was
-earlier-preserved-then-table-was c = search goes_by_type
+earlier-preserved-then-table-was c =
+    goes_by_type c.earlier.invariant c.earlier-test.true (λ z. omega (arith, c.if-table-was.true))
 
 pub earlier-preserved-then-entry_size-size : goal.earlier-preserved-then-entry_size-size
 earlier-preserved-then-entry_size-size c = let turn = c in
@@ -53,7 +54,9 @@ bytes-init c = let turn = c in (
 )
 
 pub earlier-preserved : goal.earlier-preserved
-earlier-preserved c = search goes_by_byte
+earlier-preserved c =
+    goes_by_byte c.earlier.invariant c.earlier-test.true c.bytes.i (omega arith) (omega arith)
+    (λ z. omega (arith, c.if-table-was-2.true))
 
 pub bytes-preserved : goal.bytes-preserved
 bytes-preserved c = (omega arith, search, search agree_more)
