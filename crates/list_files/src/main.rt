@@ -11,7 +11,7 @@ fn main(rt: HostRuntime) -> io::Result<()> {
 }
 
 // Panels that are listed.
-fn accepted(rt: &(impl Files + Print)) -> io::Result<()> {
+fn accepted(rt: &(impl Files + Print + Eprint)) -> io::Result<()> {
     case(rt, "paper")?;
     case(rt, "empty_table")?;
     case(rt, "every_type")?;
@@ -19,7 +19,7 @@ fn accepted(rt: &(impl Files + Print)) -> io::Result<()> {
 }
 
 // Inputs that cannot be split or are too long, and inputs close to these.
-fn split(rt: &(impl Files + Print)) -> io::Result<()> {
+fn split(rt: &(impl Files + Print + Eprint)) -> io::Result<()> {
     case(rt, "no_bytes")?;
     case(rt, "three_bytes")?;
     case(rt, "cut_table")?;
@@ -32,7 +32,7 @@ fn split(rt: &(impl Files + Print)) -> io::Result<()> {
 }
 
 // An input for each code of a table or an image.
-fn codes(rt: &(impl Files + Print)) -> io::Result<()> {
+fn codes(rt: &(impl Files + Print + Eprint)) -> io::Result<()> {
     case(rt, "code_2")?;
     case(rt, "code_2_image")?;
     case(rt, "code_3")?;
@@ -48,8 +48,11 @@ fn codes(rt: &(impl Files + Print)) -> io::Result<()> {
     case(rt, "code_12")
 }
 
-fn case(rt: &(impl Files + Print), name: &str) -> io::Result<()> {
+// A file that can't be opened is named on standard error, with why, and the run goes on.
+fn case(rt: &(impl Files + Print + Eprint), name: &str) -> io::Result<()> {
     println!(rt; "{name}")?;
-    let mut file = fs::open(rt, name)?;
-    shell::list_between(&mut file, &mut io::writer(rt))
+    match fs::open(rt, name) {
+        Ok(mut file) => shell::list_between(&mut file, &mut io::writer(rt)),
+        Err(error) => eprintln!(rt; "{name}: {error}"),
+    }
 }
