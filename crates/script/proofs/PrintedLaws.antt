@@ -1,20 +1,16 @@
 -- Text printed part by part.
-use Rattle.std.proofs.Common.{◌≡◌, ℕ, zero, suc, ◌+◌, ◌<◌, ◌==◌, List, [], ◌∷◌, ◌++◌, None, Some, false, arith, sym, ap}
-use Rattle.std.proofs.Common.{subst, ◌∙◌, length, take, get_or, append_assoc, append-nil}
+use Rattle.std.proofs.Common.{◌≡◌, ℕ, zero, suc, ◌+◌, ◌/◌, ◌%◌, ◌^◌, ◌<◌, ◌≤◌, ◌==◌, List, [], ◌∷◌, ◌++◌, arith}
+use Rattle.std.proofs.Common.{false, sym, ap, subst, ◌∙◌, length, take, set, get_or}
+use Rattle.std.proofs.Common.{length-append, append_assoc, append-nil}
 use Rattle.std.proofs.lemmas.Bool.{ne_eqb}
-use Rattle.std.proofs.lemmas.List.{flat_map_more, take_more}
+use Rattle.std.proofs.lemmas.List.{flat_map_more, take_more, take_more_set}
+use Rattle.std.proofs.lemmas.Fmt.{decimal_digit, decimal_step}
 use Rattle.std.specs.declared.option.Option.{Option}
 use Rattle.std.specs.Io.KnownBytes.{Appends}
 use Rattle.std.specs.Fmt.{decimal}
 use Rattle.std.specs.List.{flat_map}
+use Rattle.shell.proofs.Grown.{both}
 use Rattle.script.specs.Printed.{hex_byte, item_text, next_text, numbers_text}
-
--- one text and then another
-pub both : (a b c : Option (List ℕ)) (xs ys : List ℕ) → Appends a b xs → Appends b c ys → Appends a c (xs ++ ys)
-both None b c xs ys p q = tt
-both (Some x) None c xs ys p q = absurd p
-both (Some x) (Some y) None xs ys p q = absurd q
-both (Some x) (Some y) (Some z) xs ys p q = q ∙ ap (λ l. l ++ ys) p ∙ append_assoc x xs ys
 
 -- one more byte in hex
 pub more_hex : (a b c : Option (List ℕ)) (bytes : List ℕ) (i : ℕ) → i < length bytes
@@ -48,3 +44,20 @@ pub more_numbers : (a b c : Option (List ℕ)) (values : List ℕ) (k : ℕ) →
     → Appends a b (numbers_text (take k values)) → Appends b c (item_text k (get_or values k 0))
     → Appends a c (numbers_text (take (k + 1) values))
 more_numbers a b c values k inside p q = subst (Appends a c) (item values k inside) (both a b c _ _ p q)
+
+-- the digits of a number of one digit, in a buffer's front
+pub one_digit : (out : List ℕ) (n : ℕ) → n < 10 → 0 < length out → take 1 (set out 0 (48 + n)) ≡ decimal n
+one_digit out n few room = take_more_set out 0 (48 + n) room ∙ sym (decimal_digit n few)
+
+-- one more digit behind those of a tenth
+pub more_digits : (out : List ℕ) (n k : ℕ) → 10 ≤ n → n < 2 ^ 64 → k < length out → take k out ≡ decimal (n / 10)
+    → take (k + 1) (set out k (48 + n % 10)) ≡ decimal n
+more_digits out n k many small room front =
+    take_more_set out k (48 + n % 10) room
+    ∙ ap (λ l. l ++ (48 + n % 10) ∷ []) front
+    ∙ sym (decimal_step n many small)
+
+-- it is one longer than a tenth's
+pub tenth_length : (n : ℕ) → 10 ≤ n → n < 2 ^ 64 → length (decimal n) ≡ length (decimal (n / 10)) + 1
+tenth_length n many small =
+    ap length (decimal_step n many small) ∙ length-append (decimal (n / 10)) ((48 + n % 10) ∷ [])

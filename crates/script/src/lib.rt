@@ -1,11 +1,14 @@
 // Requests and answers as text, for the program that runs stored requests: reads a line's values by their names, as
-// bytes in hex or decimal numbers, and prints an answer's numbers and bytes. It is proved what is printed, and that
-// bytes that are read stand in the line in hex; of a number read that it is safe. It knows no call of the product.
+// bytes in hex or decimal numbers, and prints an answer's numbers and bytes. It is proved what is printed, that what
+// the writer held stays in front if a write fails, and that bytes that are read stand in the line in hex; of a number
+// read that it is safe. It knows no call of the product.
 #![tactic(auto)]
 
-ghost use Rattle.std.specs.Prelude.{◌≡◌, ◌≢◌, ◌↔◌, IsTrue, ℕ, ◌+◌, ◌<◌, ◌≤◌, length, take, drop, slice_index, OnOk};
+ghost use Rattle.std.specs.Prelude.{◌≡◌, ◌≢◌, ◌↔◌, IsTrue, ℕ, ◌∷◌, ◌+◌, ◌<◌, ◌≤◌, length, take, drop, slice_index};
+ghost use Rattle.std.specs.Prelude.{OnOk, OnErr};
 ghost use Rattle.std.specs.Io.KnownBytes.{Appends};
 ghost use Rattle.std.specs.Fmt.{decimal};
+ghost use Rattle.shell.specs.Partly.{Extends};
 ghost use Rattle.script.specs.Counts.{IsPrefixLen};
 ghost use Rattle.script.specs.Placed.{IsAt, IsValuePlace, IsHexAt};
 ghost use Rattle.script.specs.Printed.{hex_digit, four_text, hex_byte, hex_text, item_text, numbers_text};
@@ -138,9 +141,10 @@ pub fn numbers(text: &[u8], from: usize) -> [u32; 32] {
 
 // Prints the four numbers of an answer, with spaces between.
 pub fn print_answer<W: Write>(to: &mut W, answer: Answer) -> io::Result<()>
-    ensures { OnOk result
+    ensures ok { OnOk result
         (Appends (W.contents to.old) (W.contents to.new)
         (four_text answer.code answer.object answer.bit answer.length)) }
+    ensures err { OnErr result (Extends (W.contents to.old) (W.contents to.new)) }
 {
     print_four(
         to,
@@ -158,14 +162,19 @@ pub fn print_four<W: Write>(
     bit: u32,
     length: u32,
 ) -> io::Result<()>
-    ensures { OnOk result (Appends (W.contents to.old) (W.contents to.new) (four_text code object bit length)) }
+    ensures ok { OnOk result (Appends (W.contents to.old) (W.contents to.new) (four_text code object bit length)) }
+    ensures err { OnErr result (Extends (W.contents to.old) (W.contents to.new)) }
 {
-    write!(to, "{code} {object} {bit} {length}")
+    print_number(to, code)?;
+    print_next(to, b' ', object)?;
+    print_next(to, b' ', bit)?;
+    print_next(to, b' ', length)
 }
 
 // Prints bytes in hex, `-` if there are none.
 pub fn print_hex<W: Write>(to: &mut W, bytes: &[u8]) -> io::Result<()>
-    ensures { OnOk result (Appends (W.contents to.old) (W.contents to.new) (hex_text bytes.now)) }
+    ensures ok { OnOk result (Appends (W.contents to.old) (W.contents to.new) (hex_text bytes.now)) }
+    ensures err { OnErr result (Extends (W.contents to.old) (W.contents to.new)) }
 {
     if bytes.is_empty() {
         return print(to, b"-");
@@ -176,16 +185,24 @@ pub fn print_hex<W: Write>(to: &mut W, bytes: &[u8]) -> io::Result<()>
     Ok(())
 }
 
-#[tactic(auto, using(std::proofs::lemmas::Fmt::hex_byte))]
 fn print_byte<W: Write>(to: &mut W, byte: u8) -> io::Result<()>
-    ensures { OnOk result (Appends (W.contents to.old) (W.contents to.new) (hex_byte byte)) }
+    ensures ok { OnOk result (Appends (W.contents to.old) (W.contents to.new) (hex_byte byte)) }
+    ensures err { OnErr result (Extends (W.contents to.old) (W.contents to.new)) }
 {
-    write!(to, "{byte:02x}")
+    print(to, &[hex_digit(byte / 16), hex_digit(byte % 16)])
+}
+
+fn hex_digit(d: u8) -> u8
+    requires { d < 16 }
+    ensures { result ≡ hex_digit d }
+{
+    if d < 10 { b'0' + d } else { b'a' - 10 + d }
 }
 
 // Prints the first `count` numbers, with commas between.
 pub fn print_numbers<W: Write>(to: &mut W, values: [u32; 32], count: usize) -> io::Result<()>
-    ensures { OnOk result (Appends (W.contents to.old) (W.contents to.new) (numbers_text (take count values))) }
+    ensures ok { OnOk result (Appends (W.contents to.old) (W.contents to.new) (numbers_text (take count values))) }
+    ensures err { OnErr result (Extends (W.contents to.old) (W.contents to.new)) }
 {
     for k in 0..count.min(32) {
         print_item(to, k, values[k])?;
@@ -195,32 +212,69 @@ pub fn print_numbers<W: Write>(to: &mut W, values: [u32; 32], count: usize) -> i
 
 // Prints a number that `before` others are in front of.
 fn print_item<W: Write>(to: &mut W, before: usize, number: u32) -> io::Result<()>
-    ensures { OnOk result (Appends (W.contents to.old) (W.contents to.new) (item_text before number)) }
+    ensures ok { OnOk result (Appends (W.contents to.old) (W.contents to.new) (item_text before number)) }
+    ensures err { OnErr result (Extends (W.contents to.old) (W.contents to.new)) }
 {
     if before == 0 {
         return print_number(to, number);
     }
-    print(to, b",")?;
+    print_next(to, b',', number)
+}
+
+// Prints a mark and a number behind it.
+fn print_next<W: Write>(to: &mut W, mark: u8, number: u32) -> io::Result<()>
+    ensures ok { OnOk result (Appends (W.contents to.old) (W.contents to.new) (mark ∷ decimal number)) }
+    ensures err { OnErr result (Extends (W.contents to.old) (W.contents to.new)) }
+{
+    print(to, &[mark])?;
     print_number(to, number)
 }
 
 // Prints a number in decimal.
 pub fn print_number<W: Write>(to: &mut W, number: u32) -> io::Result<()>
-    ensures { OnOk result (Appends (W.contents to.old) (W.contents to.new) (decimal number)) }
+    ensures ok { OnOk result (Appends (W.contents to.old) (W.contents to.new) (decimal number)) }
+    ensures err { OnErr result (Extends (W.contents to.old) (W.contents to.new)) }
 {
-    write!(to, "{number}")
+    print_decimal(to, number as u64)
 }
 
 // Prints a count in decimal.
 pub fn print_count<W: Write>(to: &mut W, count: usize) -> io::Result<()>
-    ensures { OnOk result (Appends (W.contents to.old) (W.contents to.new) (decimal count)) }
+    ensures ok { OnOk result (Appends (W.contents to.old) (W.contents to.new) (decimal count)) }
+    ensures err { OnErr result (Extends (W.contents to.old) (W.contents to.new)) }
 {
-    write!(to, "{count}")
+    print_decimal(to, count as u64)
+}
+
+// The digits are put into a buffer first: of `write!` it isn't known what an error leaves.
+fn print_decimal<W: Write>(to: &mut W, number: u64) -> io::Result<()>
+    ensures ok { OnOk result (Appends (W.contents to.old) (W.contents to.new) (decimal number)) }
+    ensures err { OnErr result (Extends (W.contents to.old) (W.contents to.new)) }
+{
+    let mut digits = [0u8; 20];
+    let n = put_digits(&mut digits, number);
+    print(to, &digits[..n])
+}
+
+// Puts the digits of a number into the buffer's front, highest first; returns how many.
+fn put_digits(out: &mut [u8], number: u64) -> usize
+    requires { length (decimal number) ≤ length out.old }
+    ensures size { result ≡ length (decimal number) }
+    ensures digits { take result out.new ≡ decimal number }
+{
+    if number < 10 {
+        out[0] = b'0' + number as u8;
+        return 1;
+    }
+    let n = put_digits(out, number / 10);
+    out[n] = b'0' + (number % 10) as u8;
+    n + 1
 }
 
 // Prints text.
 pub fn print<W: Write>(to: &mut W, text: &[u8]) -> io::Result<()>
-    ensures { OnOk result (Appends (W.contents to.old) (W.contents to.new) text.now) }
+    ensures ok { OnOk result (Appends (W.contents to.old) (W.contents to.new) text.now) }
+    ensures err { OnErr result (Extends (W.contents to.old) (W.contents to.new)) }
 {
-    to.write_all(text)
+    shell::write_whole(to, text)
 }

@@ -1,2 +1,3 @@
 pub mod FilledFront
+pub mod Grown
 pub mod WholeInput

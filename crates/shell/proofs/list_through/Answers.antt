@@ -2,7 +2,7 @@
 use Rattle.shell.proofs.WholeInput.{whole_listed}
 use Rattle.shell.proofs.list_through.Goals as goal
 
-pub returns : goal.returns
-returns g c =
-    whole_listed c.write_all.result _ _ _ c.args.given.now _ _ _ _ c.requires.input_room c.requires.text_room
-    c.print_into-m.ensures.size c.print_into-m.ensures.output c.in_ok-n.ensures.bytes c.write_all.ensures.bytes
+pub returns-clause-ok : goal.returns-clause-ok
+returns-clause-ok g c =
+    whole_listed c.write_whole.result _ _ _ c.args.given.now _ _ _ _ c.requires.input_room c.requires.text_room
+    c.print_into-m.ensures.size c.print_into-m.ensures.output c.in_ok-n.ensures.bytes c.write_whole.ensures.ok
