@@ -1,5 +1,6 @@
-// The gateway: the calls as C sees them. Each exported function wraps one call, which checks its input, and fills eight
-// numbers: code, object, bit, length, a place kept for a value, then what the call adds, then zeros. It keeps nothing.
+// The gateway: the calls as C sees them; `gateway_c` exports them. Each wraps one call, which checks its input, and
+// fills eight numbers: code, object, bit, length, a place kept for a value, then what the call adds, then zeros. It
+// keeps nothing.
 #![tactic(auto)]
 
 mod calls;

@@ -4,13 +4,13 @@
 // read that it is safe. It knows no call of the product.
 #![tactic(auto)]
 
-ghost use Rattle.std.specs.Prelude.{◌≡◌, ◌≢◌, ◌↔◌, IsTrue, ℕ, ◌∷◌, ◌+◌, ◌<◌, ◌≤◌, length, take, drop, slice_index};
+ghost use Rattle.std.specs.Prelude.{◌≡◌, ◌≢◌, ◌↔◌, IsTrue, ℕ, ◌∷◌, ◌+◌, ◌*◌, ◌<◌, ◌≤◌, length, take, drop, slice_index};
 ghost use Rattle.std.specs.Prelude.{OnOk, OnErr};
 ghost use Rattle.std.specs.Io.KnownBytes.{Appends};
 ghost use Rattle.std.specs.Fmt.{decimal};
 ghost use Rattle.shell.specs.Partly.{Extends};
 ghost use Rattle.script.specs.Counts.{IsPrefixLen};
-ghost use Rattle.script.specs.Placed.{IsAt, IsValuePlace, IsHexAt};
+ghost use Rattle.script.specs.Placed.{IsAt, IsValuePlace, IsFirst, IsHexAt, HasHex};
 ghost use Rattle.script.specs.Printed.{hex_digit, four_text, hex_byte, hex_text, item_text, numbers_text};
 
 use history::Answer;
@@ -42,6 +42,7 @@ pub fn begins(line: &[u8], word: &[u8]) -> bool
 pub fn value_of(line: &[u8], name: &[u8]) -> usize
     ensures within { result ≤ length line.now }
     ensures place { IsValuePlace line.now name.now result }
+    ensures first { IsFirst line.now name.now result }
 {
     for i in 0..line.len() {
         let place = behind(line, i, name);
@@ -71,7 +72,9 @@ fn behind(line: &[u8], at: usize, word: &[u8]) -> usize
 // Decodes the bytes that a line names, in hex, as many as there is room for; returns how many.
 pub fn bytes_of(line: &[u8], name: &[u8], out: &mut [u8]) -> usize
     ensures within { IsPrefixLen result out.new }
-    ensures hex { (from : ℕ) × IsValuePlace line.now name.now from × IsHexAt line.now from (take result out.new) }
+    ensures hex { (from : ℕ) × IsValuePlace line.now name.now from × IsFirst line.now name.now from
+        × IsHexAt line.now from (take result out.new)
+        × (result < length out.new → HasHex line.now (from + 2 * result) → ⊥) }
 {
     decode(line, value_of(line, name), out)
 }
@@ -98,6 +101,7 @@ fn digit(byte: u8) -> u8
 fn decode(text: &[u8], from: usize, out: &mut [u8]) -> usize
     ensures within { IsPrefixLen result out.new }
     ensures hex { IsHexAt text.now from (take result out.new) }
+    ensures stops { result < length out.new → HasHex text.now (from + 2 * result) → ⊥ }
 {
     let mut i = from;
     for n in 0..out.len() {

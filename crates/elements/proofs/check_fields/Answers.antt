@@ -9,9 +9,8 @@ use Rattle.elements.proofs.Bearing.{bearing_rows}
 use Rattle.elements.proofs.check_fields.Goals as goal
 
 pub returns : goal.returns
-returns c = let laid = c in
-    let a = laid.args in
+returns c = let a = c.args in
     c.check_rows.ensures
     ∙ ap (λ (l : Layout). check_rows a.word (bearing l.number l.first (row_total - l.first)))
-    laid.layout-layout.ensures
+    c.layout-layout.ensures
     ∙ ap (check_rows a.word) (bearing_rows a.kind)

@@ -5,10 +5,9 @@ use Rattle.gateway.proofs.CallLaws.{backlog_answer, backlog_output_lem, backlog_
 use Rattle.gateway.proofs.shefumbari_receive_backlog.Goals as goal
 
 pub returns : goal.returns
-returns c = let taken = c in
-    let r = taken.backlog_received-advance.ensures in
-    let s = taken.standing_in.ensures in
-    let tallies = taken.args.standing.now in
+returns c = let r = c.backlog_received-advance.ensures in
+    let s = c.standing_in.ensures in
+    let tallies = c.args.standing.now in
     record {
       answer_after = backlog_answer _ _ _ _ _ r.0 tallies s c.progress_slots.ensures;
       out_after = backlog_output_lem _ _ _ _ _ r.0 tallies s r.1;

@@ -12,17 +12,10 @@ returns-then-answer-ne0 c =
     c.if-answer-ne0.true
 
 pub slice_bounds-put_front-end : goal.slice_bounds-put_front-end
-slice_bounds-put_front-end c = let good = c in
-    let listed = good in
-    text_inside _ _ listed.put_listing-answer.ensures (omega arith)
+slice_bounds-put_front-end c = text_inside _ _ c.put_listing-answer.ensures (omega arith)
 
 pub put_front-requires : goal.put_front-requires
-put_front-requires c = let good = c in
-    let listed = good in
-    text_small _ _ listed.put_listing-answer.ensures (omega arith)
+put_front-requires c = text_small _ _ c.put_listing-answer.ensures (omega arith)
 
 pub returns : goal.returns
-returns c = let copied = c in
-    let good = copied in
-    let listed = good in
-    leaves_as _ (text_is _ _ listed.put_listing-answer.ensures (omega arith)) copied.put_front.ensures
+returns c = leaves_as _ (text_is _ _ c.put_listing-answer.ensures (omega arith)) c.put_front.ensures

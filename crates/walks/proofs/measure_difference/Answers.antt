@@ -20,16 +20,11 @@ pub overflow_add-at : goal.overflow_add-at
 overflow_add-at c = search place_fits
 
 pub loop-i-preserved : goal.loop-i-preserved
-loop-i-preserved c = let counted = c in
-    let new = counted in
-    let old = new in
-    let wide = old in
-    let turn = wide in
-    let inv = turn.loop-i.invariant in
-    let h = turn.loop-i-test.true in
-    let ew = wide.width_at-width.ensures.0 in (
-      difference_sized inv.1 h ew old.get_at-before.ensures.0 new.get_at-after.ensures.0 inv.0
-          counted.count_if-count.ensures c.size_if-bytes.ensures,
+loop-i-preserved c = let inv = c.loop-i.invariant in
+    let h = c.loop-i-test.true in
+    let ew = c.width_at-width.ensures.0 in (
+      difference_sized inv.1 h ew c.get_at-before.ensures.0 c.get_at-after.ensures.0 inv.0
+          c.count_if-count.ensures c.size_if-bytes.ensures,
       one_compared inv.1 h ew,
     )
 

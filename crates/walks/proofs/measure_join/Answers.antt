@@ -15,63 +15,37 @@ pub meet_at-requires : goal.meet_at-requires
 meet_at-requires c = (search names_inside, search names_inside, search rules)
 
 pub returns-then-not-meet_at : goal.returns-then-not-meet_at
-returns-then-not-meet_at c = let met = c in
-    let other = met in
-    let one = other in
-    let wide = one in
-    let turn = wide in
-    join_until turn.loop-i-test.true wide.width_at-width.ensures.0 one.names-one.ensures other.names-other.ensures
-    turn.loop-i.invariant met.meet_at.ensures c.if-not-meet_at.true
+returns-then-not-meet_at c =
+    join_until c.loop-i-test.true c.width_at-width.ensures.0 c.names-one.ensures c.names-other.ensures
+    c.loop-i.invariant c.meet_at.ensures c.if-not-meet_at.true
 
 pub join_names-kept-requires : goal.join_names-kept-requires
 join_names-kept-requires c = (search names_inside, search names_inside, search rules)
 
 pub overflow_add-near : goal.overflow_add-near
-overflow_add-near c = let met = c in
-    let one = met in
-    let turn = one in
-    record {
-      fits = cursor_fits _ _ _ _ turn.loop-i.invariant.seek.near one.names-one.ensures
-          c.size_if-near.ensures (omega (arith, turn));
-    }
+overflow_add-near c = record {
+  fits = cursor_fits _ _ _ _ c.loop-i.invariant.seek.near c.names-one.ensures
+      c.size_if-near.ensures (omega (arith, c));
+}
 
 pub overflow_add-far : goal.overflow_add-far
-overflow_add-far c = let met = c in
-    let other = met in
-    let turn = other in
-    record {
-      fits = cursor_fits _ _ _ _ turn.loop-i.invariant.seek.far other.names-other.ensures
-          c.size_if-far.ensures (omega (arith, turn));
-    }
+overflow_add-far c = record {
+  fits = cursor_fits _ _ _ _ c.loop-i.invariant.seek.far c.names-other.ensures
+      c.size_if-far.ensures (omega (arith, c));
+}
 
 pub next-i-requires : goal.next-i-requires
-next-i-requires c = let near = c in
-    let met = near in
-    let other = met in
-    let one = other in
-    let turn = one in
-    let inv = turn.loop-i.invariant in (
-      cursor_inside _ _ _ _ inv.seek.near one.names-one.ensures near.size_if-near.ensures,
-      cursor_inside _ _ _ _ inv.seek.far other.names-other.ensures c.size_if-far.ensures,
-      omega (arith, turn),
-    )
+next-i-requires c = let inv = c.loop-i.invariant in (
+  cursor_inside _ _ _ _ inv.seek.near c.names-one.ensures c.size_if-near.ensures,
+  cursor_inside _ _ _ _ inv.seek.far c.names-other.ensures c.size_if-far.ensures,
+  omega (arith, c),
+)
 
 pub loop-i-preserved : goal.loop-i-preserved
-loop-i-preserved c = let far = c in
-    let near = far in
-    let sized = near in
-    let counted = sized in
-    let kept = counted in
-    let agreed = kept in
-    let met = agreed in
-    let other = met in
-    let one = other in
-    let wide = one in
-    let turn = wide in
-    join_sized turn.loop-i-test.true wide.width_at-width.ensures.0 one.names-one.ensures other.names-other.ensures
-    turn.loop-i.invariant met.meet_at.ensures agreed.if-not-meet_at.false
-    kept.join_names-kept.ensures counted.count_if-count.ensures sized.size_if-bytes.ensures near.size_if-near.ensures
-    far.size_if-far.ensures c.next-i.ensures
+loop-i-preserved c = join_sized c.loop-i-test.true c.width_at-width.ensures.0 c.names-one.ensures c.names-other.ensures
+    c.loop-i.invariant c.meet_at.ensures c.if-not-meet_at.false
+    c.join_names-kept.ensures c.count_if-count.ensures c.size_if-bytes.ensures c.size_if-near.ensures
+    c.size_if-far.ensures c.next-i.ensures
 
 pub returns : goal.returns
 returns c = search all_sized

@@ -23,34 +23,21 @@ pub slice_bounds-put_change-end : goal.slice_bounds-put_change-end
 slice_bounds-put_change-end c = search difference_inside
 
 pub put_change-requires : goal.put_change-requires
-put_change-requires c = let spanned = c in
-    let made = spanned in
-    let new = made in
-    let old = new in
-    let wide = old in
-    let turn = wide in
-    let inv = turn.loop-i.invariant in (
-      difference_long inv.1 turn.loop-i-test.true wide.width_at-width.ensures.0 old.get_at-before.ensures.0
-          new.get_at-after.ensures.0 made.differ-change.ensures inv.0 spanned.span.ensures.0,
-      wide.width_at-width.ensures.1,
-    )
+put_change-requires c = let inv = c.loop-i.invariant in (
+  difference_long inv.1 c.loop-i-test.true c.width_at-width.ensures.0 c.get_at-before.ensures.0
+      c.get_at-after.ensures.0 c.differ-change.ensures inv.0 c.span.ensures.0,
+  c.width_at-width.ensures.1,
+)
 
 pub overflow_add-place : goal.overflow_add-place
 overflow_add-place c = search place_fits
 
 pub loop-i-preserved : goal.loop-i-preserved
-loop-i-preserved c = let put = c in
-    let spanned = put in
-    let made = spanned in
-    let new = made in
-    let old = new in
-    let wide = old in
-    let turn = wide in
-    let inv = turn.loop-i.invariant in
-    let h = turn.loop-i-test.true in
-    let ew = wide.width_at-width.ensures.0 in (
-      difference_put inv.1 h ew old.get_at-before.ensures.0 new.get_at-after.ensures.0 made.differ-change.ensures inv.0
-          spanned.span.ensures.0 put.put_change.ensures,
+loop-i-preserved c = let inv = c.loop-i.invariant in
+    let h = c.loop-i-test.true in
+    let ew = c.width_at-width.ensures.0 in (
+      difference_put inv.1 h ew c.get_at-before.ensures.0 c.get_at-after.ensures.0 c.differ-change.ensures inv.0
+          c.span.ensures.0 c.put_change.ensures,
       one_compared inv.1 h ew,
     )
 

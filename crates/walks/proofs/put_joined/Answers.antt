@@ -15,82 +15,47 @@ pub join_change-change-requires : goal.join_change-change-requires
 join_change-change-requires c = (search names_inside, search names_inside, search rules)
 
 pub overflow_add-end : goal.overflow_add-end
-overflow_add-end c = let made = c in
-    let other = made in
-    let one = other in
-    let wide = one in
-    let turn = wide in
-    record {
-      fits = join_fits turn.loop-i-test.true wide.width_at-width.ensures.0 one.names-one.ensures
-          other.names-other.ensures turn.loop-i.invariant made.join_change-change.ensures c.span.ensures.0
-          (omega (arith, turn));
-    }
+overflow_add-end c = record {
+  fits = join_fits c.loop-i-test.true c.width_at-width.ensures.0 c.names-one.ensures
+      c.names-other.ensures c.loop-i.invariant c.join_change-change.ensures c.span.ensures.0
+      (omega (arith, c));
+}
 
 pub slice_bounds-put_change-end : goal.slice_bounds-put_change-end
-slice_bounds-put_change-end c = let made = c in
-    let other = made in
-    let one = other in
-    let wide = one in
-    let turn = wide in
-    join_inside turn.loop-i-test.true wide.width_at-width.ensures.0 one.names-one.ensures other.names-other.ensures
-    turn.loop-i.invariant made.join_change-change.ensures c.span.ensures.0
+slice_bounds-put_change-end c =
+    join_inside c.loop-i-test.true c.width_at-width.ensures.0 c.names-one.ensures c.names-other.ensures
+    c.loop-i.invariant c.join_change-change.ensures c.span.ensures.0
 
 pub put_change-requires : goal.put_change-requires
-put_change-requires c = let spanned = c in
-    let made = spanned in
-    let other = made in
-    let one = other in
-    let wide = one in
-    let turn = wide in (
-      join_long turn.loop-i-test.true wide.width_at-width.ensures.0 one.names-one.ensures other.names-other.ensures
-          turn.loop-i.invariant made.join_change-change.ensures spanned.span.ensures.0,
-      wide.width_at-width.ensures.1,
-    )
+put_change-requires c = (
+  join_long c.loop-i-test.true c.width_at-width.ensures.0 c.names-one.ensures c.names-other.ensures
+      c.loop-i.invariant c.join_change-change.ensures c.span.ensures.0,
+  c.width_at-width.ensures.1,
+)
 
 pub overflow_add-near : goal.overflow_add-near
-overflow_add-near c = let put = c in
-    let other = put in
-    let one = other in
-    let turn = one in
-    record {
-      fits = cursor_fits _ _ _ _ turn.loop-i.invariant.near one.names-one.ensures c.size_if-near.ensures
-          (omega (arith, turn));
-    }
+overflow_add-near c = record {
+  fits = cursor_fits _ _ _ _ c.loop-i.invariant.near c.names-one.ensures c.size_if-near.ensures
+      (omega (arith, c));
+}
 
 pub overflow_add-far : goal.overflow_add-far
-overflow_add-far c = let put = c in
-    let other = put in
-    let turn = other in
-    record {
-      fits = cursor_fits _ _ _ _ turn.loop-i.invariant.far other.names-other.ensures c.size_if-far.ensures
-          (omega (arith, turn));
-    }
+overflow_add-far c = record {
+  fits = cursor_fits _ _ _ _ c.loop-i.invariant.far c.names-other.ensures c.size_if-far.ensures
+      (omega (arith, c));
+}
 
 pub next-i-requires : goal.next-i-requires
-next-i-requires c = let near = c in
-    let put = near in
-    let other = put in
-    let one = other in
-    let turn = one in
-    let inv = turn.loop-i.invariant in (
-      cursor_inside _ _ _ _ inv.near one.names-one.ensures near.size_if-near.ensures,
-      cursor_inside _ _ _ _ inv.far other.names-other.ensures c.size_if-far.ensures,
-      omega (arith, turn),
-    )
+next-i-requires c = let inv = c.loop-i.invariant in (
+  cursor_inside _ _ _ _ inv.near c.names-one.ensures c.size_if-near.ensures,
+  cursor_inside _ _ _ _ inv.far c.names-other.ensures c.size_if-far.ensures,
+  omega (arith, c),
+)
 
 pub loop-i-preserved : goal.loop-i-preserved
-loop-i-preserved c = let far = c in
-    let near = far in
-    let put = near in
-    let spanned = put in
-    let made = spanned in
-    let other = made in
-    let one = other in
-    let wide = one in
-    let turn = wide in
-    join_put turn.loop-i-test.true wide.width_at-width.ensures.0 one.names-one.ensures other.names-other.ensures
-    turn.loop-i.invariant made.join_change-change.ensures spanned.span.ensures.0
-    put.put_change.ensures near.size_if-near.ensures far.size_if-far.ensures c.next-i.ensures
+loop-i-preserved c = join_put c.loop-i-test.true c.width_at-width.ensures.0 c.names-one.ensures c.names-other.ensures
+    c.loop-i.invariant c.join_change-change.ensures c.span.ensures.0
+    c.put_change.ensures c.size_if-near.ensures c.size_if-far.ensures c.next-i.ensures
 
 pub shape_of-part : goal.shape_of-part
 shape_of-part c = search put_keeps

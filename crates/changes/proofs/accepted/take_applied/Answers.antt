@@ -6,9 +6,9 @@ use Rattle.changes.proofs.Outcomes.{stays, image_sized, apply_takes}
 use Rattle.changes.proofs.accepted.take_applied.Goals as goal
 
 pub returns-then-answer-ne0 : goal.returns-then-answer-ne0
-returns-then-answer-ne0 c = let checked = c in (
-  checked.check_applies-answer.ensures,
-  stays (apply_under _ _ _) _ checked.check_applies-answer.ensures c.if-answer-ne0.true,
+returns-then-answer-ne0 c = (
+  c.check_applies-answer.ensures,
+  stays (apply_under _ _ _) _ c.check_applies-answer.ensures c.if-answer-ne0.true,
 )
 
 pub to_of-requires : goal.to_of-requires

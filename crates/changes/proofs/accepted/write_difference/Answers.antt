@@ -35,14 +35,8 @@ write_list-requires c =
     }
 
 pub returns : goal.returns
-returns c = let wrote = c in
-    let new = wrote in
-    let old = new in
-    let to = old in
-    let from = to in
-    let known = from in
-    leaves_as _
-    (difference_is _ _ _ known.requires.kinds_len_bound known.requires.accepted_image known.requires.accepted_image_2
-    from.position_of-from.ensures
-    to.position_of-to.ensures old.elements_of-old.ensures new.elements_of-new.ensures)
-    wrote.write_list.ensures
+returns c = leaves_as _
+    (difference_is _ _ _ c.requires.kinds_len_bound c.requires.accepted_image c.requires.accepted_image_2
+    c.position_of-from.ensures
+    c.position_of-to.ensures c.elements_of-old.ensures c.elements_of-new.ensures)
+    c.write_list.ensures

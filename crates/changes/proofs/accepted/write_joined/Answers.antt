@@ -35,20 +35,9 @@ pub write_list-requires : goal.write_list-requires
 write_list-requires c = record { kinds_len_bound = search rules; asked = tt {0}; measured = search join_size }
 
 pub returns : goal.returns
-returns c = let wrote = c in
-    let to = wrote in
-    let from = to in
-    let agreed = from in
-    let sized = agreed in
-    let second = sized in
-    let first = second in
-    let tested = first in
-    let start = tested in
-    let end = start in
-    let known = end in
-    leaves_as _
-    (join_is _ _ _ known.requires.kinds_len_bound known.requires.accepted_list known.requires.accepted_list_2
-    end.to_of-end.ensures start.from_of-start.ensures
-    tested.if-end-start.false first.entries_of-one.ensures second.entries_of-other.ensures
-    sized.measure_join-known.ensures.found agreed.if-object-kinds.false from.from_of-from.ensures to.to_of-to.ensures)
-    wrote.write_list.ensures
+returns c = leaves_as _
+    (join_is _ _ _ c.requires.kinds_len_bound c.requires.accepted_list c.requires.accepted_list_2
+    c.to_of-end.ensures c.from_of-start.ensures
+    c.if-end-start.false c.entries_of-one.ensures c.entries_of-other.ensures
+    c.measure_join-known.ensures.found c.if-object-kinds.false c.from_of-from.ensures c.to_of-to.ensures)
+    c.write_list.ensures

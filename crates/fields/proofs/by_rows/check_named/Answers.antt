@@ -11,8 +11,7 @@ pub returns-then-highest-values : goal.returns-then-highest-values
 returns-then-highest-values c = search stops
 
 pub loop-k-preserved : goal.loop-k-preserved
-loop-k-preserved c = let tested = c in
-    goes_on tested.loop-k.invariant (omega arith) (omega arith) (omega arith) c.highest.ensures
+loop-k-preserved c = goes_on c.loop-k.invariant (omega arith) (omega arith) (omega arith) c.highest.ensures
     (omega arith)
 
 pub returns : goal.returns

@@ -28,10 +28,9 @@ pub bounds-image-4-2 : goal.bounds-image-4-2
 bounds-image-4-2 c = search (long_enough, rules)
 
 pub returns-then-image-elements_place : goal.returns-then-image-elements_place
-returns-then-image-elements_place c = let measured = c in
-    c.refused-then-image-elements_place.ensures
-    ∙ other_size _ _ _ _ (search yes) (search yes) (search yes) _ measured.elements_place.ensures.0 _
-    measured.widths_of.ensures.0 (λ e. omega arith)
+returns-then-image-elements_place c = c.refused-then-image-elements_place.ensures
+    ∙ other_size _ _ _ _ (search yes) (search yes) (search yes) _ c.elements_place.ensures.0 _
+    c.widths_of.ensures.0 (λ e. omega arith)
 
 pub elements_of-requires : goal.elements_of-requires
 elements_of-requires c = head_inside _ _ c.elements_place.ensures.0 (omega arith)
@@ -43,17 +42,12 @@ check_words-requires c = (
 )
 
 pub returns : goal.returns
-returns c = let sized = c in
-    let placed = sized in
-    let under = placed in
-    let version = under in
-    let whole = version in
-    c.check_words.ensures
+returns c = c.check_words.ensures
     ∙ by_words _ _ _ _
-    (sym whole.is_whole.ensures ∙ whole.if-not-is_whole.false)
-    (sym version.is_image_version.ensures ∙ version.if-not-is_image_version.false)
-    (sym under.is_under.ensures ∙ under.if-not-is_under.false)
-    _ placed.elements_place.ensures.0
-    _ sized.widths_of.ensures.0
+    (sym c.is_whole.ensures ∙ c.if-not-is_whole.false)
+    (sym c.is_image_version.ensures ∙ c.if-not-is_image_version.false)
+    (sym c.is_under.ensures ∙ c.if-not-is_under.false)
+    _ c.elements_place.ensures.0
+    _ c.widths_of.ensures.0
     (omega arith)
     _ c.elements_of.ensures

@@ -4,5 +4,4 @@ use Rattle.forms.proofs.ElementPlaces.{place_sum}
 use Rattle.forms.proofs.objects.place_of.Goals as goal
 
 pub returns : goal.returns
-returns c = let s = c in
-    (place_sum s.args.kinds.now s.args.object _ c.widths_of.ensures.0, c.widths_of.ensures.1)
+returns c = (place_sum c.args.kinds.now c.args.object _ c.widths_of.ensures.0, c.widths_of.ensures.1)

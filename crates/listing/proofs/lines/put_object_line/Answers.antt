@@ -8,11 +8,5 @@ pub put_byte-requires : goal.put_byte-requires
 put_byte-requires c = omega (arith, after_hexes)
 
 pub returns : goal.returns
-returns c = let newline = c in
-    let element = newline in
-    let space = element in
-    let label = space in
-    let type = label in
-    let number = type in
-    object_line_lem _ number.put_number-typed.ensures type.put_number-named.ensures label.put_bytes-spaced.ensures
-    space.put_byte-state.ensures element.put_hex-end.ensures newline.put_byte.ensures
+returns c = object_line_lem _ c.put_number-typed.ensures c.put_number-named.ensures c.put_bytes-spaced.ensures
+    c.put_byte-state.ensures c.put_hex-end.ensures c.put_byte.ensures

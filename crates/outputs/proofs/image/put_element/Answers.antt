@@ -8,15 +8,9 @@ pub slice_bounds-put-end : goal.slice_bounds-put-end
 slice_bounds-put-end c = search put_inside
 
 pub finish-requires : goal.finish-requires
-finish-requires c = let put = c in
-    let width = put in
-    let kind = width in
-    let place = kind in
-    let head = place in
-    let known = head in
-    put_head _ _ known.requires.image_len _ c.image_head-place.ensures.0 known.requires.object_in_bounds.0
-    known.requires.object_in_bounds.1 place.place_of.ensures.0
-    kind.kind_at.ensures width.width.ensures.0 0 _ put.put.ensures
+finish-requires c = put_head _ _ c.requires.image_len _ c.image_head-place.ensures.0 c.requires.object_in_bounds.0
+    c.requires.object_in_bounds.1 c.place_of.ensures.0
+    c.kind_at.ensures c.width.ensures.0 0 _ c.put.ensures
 
 pub returns : goal.returns
 returns c = search put_done

@@ -20,7 +20,5 @@ pub overflow_cast-size-2 : goal.overflow_cast-size-2
 overflow_cast-size-2 c = search few_bytes
 
 pub returns : goal.returns
-returns c = let changed = c in
-    let copied = changed in
-    copied_leaves _ _ (omega arith) copied.copy.ensures (image_with _ _ _ _) (search length_with)
-    c.written.ensures changed.put_element.ensures
+returns c = copied_leaves _ _ (omega arith) c.copy.ensures (image_with _ _ _ _) (search length_with)
+    c.written.ensures c.put_element.ensures

@@ -13,23 +13,15 @@ pub returns-then-found-ne0 : goal.returns-then-found-ne0
 returns-then-found-ne0 c = told_leaves _ _ (search state_writes) c.if-found-ne0.true
 
 pub write_element-requires : goal.write_element-requires
-write_element-requires c = let word = c in
-    let found = word in
-    let checked = found in
-    let known = checked in record {
-      object_in_bounds = (state_object _ _ _ found.check_state-found.ensures (omega arith), omega arith);
-      image_len =
-          image_sized _ _ _ _ _ _ 0 checked.check_image_under-answer.ensures known.shared_slice_known-2-1.given
-          (omega arith)
-          found.check_state-found.ensures;
-    }
+write_element-requires c = record {
+  object_in_bounds = (state_object _ _ _ c.check_state-found.ensures (omega arith), omega arith);
+  image_len =
+      image_sized _ _ _ _ _ _ 0 c.check_image_under-answer.ensures c.shared_slice_known-2-1.given
+      (omega arith)
+      c.check_state-found.ensures;
+}
 
 pub returns : goal.returns
-returns c = let put = c in
-    let word = put in
-    let found = word in
-    let checked = found in
-    let known = checked in
-    leaves_as _ (write_is _ _ _ _ _ _ _ checked.check_image_under-answer.ensures known.shared_slice_known-2-1.given
-    (omega arith) found.check_state-found.ensures (omega arith) word.word_of-word.ensures)
-    put.write_element.ensures
+returns c = leaves_as _ (write_is _ _ _ _ _ _ _ c.check_image_under-answer.ensures c.shared_slice_known-2-1.given
+    (omega arith) c.check_state-found.ensures (omega arith) c.word_of-word.ensures)
+    c.write_element.ensures

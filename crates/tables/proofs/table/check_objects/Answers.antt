@@ -41,14 +41,13 @@ earlier-preserved-then-table-was c =
     goes_by_type c.earlier.invariant c.earlier-test.true (λ z. omega (arith, c.if-table-was.true))
 
 pub earlier-preserved-then-entry_size-size : goal.earlier-preserved-then-entry_size-size
-earlier-preserved-then-entry_size-size c = let turn = c in
-    goes_by_size turn.earlier.invariant turn.earlier-test.true _ c.entry_size.ensures.0
+earlier-preserved-then-entry_size-size c = goes_by_size c.earlier.invariant c.earlier-test.true _ c.entry_size.ensures.0
     (λ z. omega (arith, c.if-entry_size-size.true))
 
 pub bytes-init : goal.bytes-init
-bytes-init c = let turn = c in (
+bytes-init c = (
   omega arith,
-  was_fits turn.earlier.invariant turn.earlier-test.true _ c.entry_size.ensures.0
+  was_fits c.earlier.invariant c.earlier-test.true _ c.entry_size.ensures.0
       (omega arith),
   agree_none (omega arith),
 )
