@@ -460,7 +460,7 @@ use rows::{{Layout, Marks}};
 use states::{{{names(sorted(STRUCTS))}}};
 
 // The kinds of element that are carried.
-#[derive(Clone, Copy)]
+#[derive(Clone, Copy, PartialEq, Eq)]
 pub enum Kind {{
 {''.join(f"    {s},{chr(10)}" for s in STRUCTS)}}}
 
@@ -468,13 +468,6 @@ pub enum Kind {{
 #[derive(Clone, Copy)]
 pub enum Element {{
 {''.join(f"    {s}({s}),{chr(10)}" for s in STRUCTS)}}}
-
-// What a number stands for: a kind that is carried, or none.
-#[derive(Clone, Copy)]
-pub enum OptionalKind {{
-    Some(Kind),
-    None,
-}}
 
 // What a glance at an element gives: its number, and whether each field is shown to have a listed value.
 #[derive(Clone, Copy)]
@@ -529,11 +522,11 @@ fn glance_by(s: &[u8], at: usize, kind: Kind, width: usize) -> Glance
 
 // The kind whose layout has this number, if there is one.
 #[tactic(auto, unfolding(rows::specs::Rows::layouts))]
-pub fn find_by_number(number: u8) -> OptionalKind
+pub fn find_by_number(number: u8) -> Option<Kind>
     ensures { result ≡ find_by_number number }
 {
     match number {
-''' + ''.join(f'        {l.number} => return OptionalKind::Some(Kind::{l.struct}),\n' for l in LAYOUTS) + '''        _ => return OptionalKind::None,
+''' + ''.join(f'        {l.number} => return Some(Kind::{l.struct}),\n' for l in LAYOUTS) + '''        _ => return None,
     }
 }
 
@@ -559,7 +552,7 @@ def kinds_specs():
     kinds = ' ∷ '.join(f'Kind.{s}' for s in STRUCTS)
     text = '''-- The kinds of element, one for each layout; the layout of each; the state of any kind, from its fields' values and back.
 -- Written by catalogue/write.py.
-use Rattle.std.specs.Prelude.{cond, List, [], ◌∷◌, map, ℕ, eqb}
+use Rattle.std.specs.Prelude.{cond, List, [], ◌∷◌, map, ℕ, eqb, Option, Some, None}
 use Rattle.rows.specs.Rows.{Row, layout_at}
 use Rattle.rows.specs.Covering.{layout_rows}
 use Rattle.rows.specs.declared.Layout.{Layout}
@@ -567,7 +560,6 @@ use Rattle.rows.specs.declared.Layout.{Layout}
     text += f'use Rattle.states.specs.States.{{{by_layout("_of", "_values")}}}\n'
     text += f'''use Rattle.kinds.specs.declared.Kind.{{Kind}}
 use Rattle.kinds.specs.declared.Element.{{Element}}
-use Rattle.kinds.specs.declared.OptionalKind.{{OptionalKind}}
 
 abbrev pub kinds : List Kind
 kinds = {kinds} ∷ []
@@ -596,15 +588,15 @@ abbrev pub kind_line : ℕ → Kind → KindLine
 kind_line number kind = record {{ number = number; kind = kind }}
 
 -- the kind that a number stands for, by the first line that has it
-abbrev pub find_in : ℕ → List KindLine → OptionalKind
-find_in n [] = OptionalKind.None
-find_in n (l ∷ ls) = cond (eqb n l.number) (OptionalKind.Some l.kind) (find_in n ls)
+abbrev pub find_in : ℕ → List KindLine → Option Kind
+find_in n [] = None
+find_in n (l ∷ ls) = cond (eqb n l.number) (Some l.kind) (find_in n ls)
 
 -- a line for each kind, with the number of its layout
 abbrev pub kind_lines : List KindLine
 kind_lines = map (λ (k : Kind). kind_line (layout_no k) k) kinds
 
-abbrev pub find_by_number : ℕ → OptionalKind
+abbrev pub find_by_number : ℕ → Option Kind
 find_by_number n = find_in n kind_lines
 
 abbrev pub element_of : Kind → List ℕ → Element
@@ -634,48 +626,38 @@ pub record Glanced (k : Kind) (b : List ℕ) (at : ℕ) (r : Glance) : Type 0 wh
 
 
 def lookup_law():
-    return '''-- Looking up a number among lines: if no line has it, nothing is found; what a test says of every line holds of the line found.
+    return '''-- Looking up a number among lines: what a test says of every line holds of the line found.
 -- Written by catalogue/write.py. Assumes nothing.
-use mathlib.Core.Path.{◌≡◌, ◌∙◌, refl, sym, ap, subst, subst⁻¹}
+use mathlib.Core.Path.{◌≡◌, refl, subst, subst⁻¹}
 use mathlib.Core.Bool.{Bool, true, false, cond, ◌&&◌}
 use mathlib.Core.List.{List, [], ◌∷◌}
 use Prim.Native.Nat.{ℕ}
 use native.Mathlib.Omega.{arith}
 use lib.Dec.{T, eqb}
-use borrow.Author.Tests.{ne_eqb, eqb-true}
+use borrow.Author.Tests.{eqb-true}
+use Rattle.std.proofs.Common.{Some}
 use Rattle.rows.proofs.Tests.{both_left, both_right}
 use Rattle.kinds.specs.Kinds.{KindLine, find_in}
 use Rattle.kinds.specs.declared.Kind.{Kind}
-use Rattle.kinds.specs.declared.OptionalKind.{OptionalKind}
-
-abbrev pub Apart : ℕ → List KindLine → Type 0
-Apart n [] = Unit
-Apart n (l ∷ ls) = (n ≡ l.number → ⊥) × Apart n ls
-
-pub not_found : (n : ℕ) (ls : List KindLine) → Apart n ls → OptionalKind.None ≡ find_in n ls
-not_found n [] a = refl
-not_found n (l ∷ ls) a =
-    not_found n ls a.1
-    ∙ sym (ap (λ (b : Bool). cond b (OptionalKind.Some l.kind) (find_in n ls)) (ne_eqb n l.number a.0))
 
 abbrev pub all_lines : (ℕ → Kind → Bool) → List KindLine → Bool
 all_lines test [] = true
 all_lines test (l ∷ ls) = test l.number l.kind && all_lines test ls
 
 pub every_line : (test : ℕ → Kind → Bool) (n : ℕ) (ls : List KindLine) → T (all_lines test ls) → {k : Kind}
-    → find_in n ls ≡ OptionalKind.Some k → T (test n k)
+    → find_in n ls ≡ Some k → T (test n k)
 every_line test n [] t e = absurd (let z : ◌≡◌ {A = ℕ} 0 1 = cc in omega arith)
 every_line test n (l ∷ ls) t {k} e =
     at (eqb n l.number) refl (every_line test n ls (both_right (test l.number l.kind) (all_lines test ls) t)) e
   where
-    here : (j : Kind) → T (test l.number j) → OptionalKind.Some j ≡ OptionalKind.Some k → n ≡ l.number
+    here : (j : Kind) → T (test l.number j) → Some j ≡ Some k → n ≡ l.number
         → T (test n k)
     here j h e q =
         subst⁻¹ (λ (m : ℕ). T (test m k)) q
         (let same : j ≡ k = cc in subst (λ (j : Kind). T (test l.number j)) same h)
 
-    at : (b : Bool) → eqb n l.number ≡ b → (find_in n ls ≡ OptionalKind.Some k → T (test n k))
-        → cond b (OptionalKind.Some l.kind) (find_in n ls) ≡ OptionalKind.Some k → T (test n k)
+    at : (b : Bool) → eqb n l.number ≡ b → (find_in n ls ≡ Some k → T (test n k))
+        → cond b (Some l.kind) (find_in n ls) ≡ Some k → T (test n k)
     at true q rest e =
         here l.kind (both_left (test l.number l.kind) (all_lines test ls) t) e (eqb-true n l.number q)
     at false q rest e = rest e
@@ -691,6 +673,7 @@ use mathlib.Core.List.{List, [], map}
 use Prim.Native.Nat.{ℕ, ◌<◌}
 use lib.Dec.{lit<}
 use lib.ListN.{length, get_or}
+use Rattle.std.proofs.Common.{Some}
 use Rattle.rows.specs.Rows.{cells, layouts}
 use Rattle.rows.specs.Values.{padded, values_of}
 use Rattle.rows.proofs.Listed.{listed_from}
@@ -699,7 +682,6 @@ use Rattle.rows.proofs.Listed.{listed_from}
     text += f'''use Rattle.kinds.specs.Kinds.{{kinds, place, layout_no, rows_of, find_by_number, element_of, element_values, kind_in}}
 use Rattle.kinds.specs.declared.Kind.{{Kind}}
 use Rattle.kinds.specs.declared.Element.{{Element}}
-use Rattle.kinds.specs.declared.OptionalKind.{{OptionalKind}}
 
 -- two functions that agree on the list of all kinds agree on each, so a table with a line for each kind is one computation
 pub every_kind : {{A : Type 0}} (f g : Kind → A) → map f kinds ≡ map g kinds → (k : Kind) → f k ≡ g k
@@ -707,7 +689,7 @@ pub every_kind : {{A : Type 0}} (f g : Kind → A) → map f kinds ≡ map g kin
 pub placed : (k : Kind) → place k < length layouts
 unfolding layouts
 {''.join(f"placed Kind.{s} = lit< tt{chr(10)}" for s in STRUCTS)}
-pub kind_found : (k : Kind) → find_by_number (layout_no k) ≡ OptionalKind.Some k
+pub kind_found : (k : Kind) → find_by_number (layout_no k) ≡ Some k
 unfolding layouts
 {''.join(f"kind_found Kind.{s} = refl{chr(10)}" for s in STRUCTS)}
 pub element_listed : (k : Kind) (vs : List ℕ) → element_values (element_of k vs) ≡ listed_from 0 (rows_of k) vs
@@ -756,24 +738,24 @@ ghost use Rattle.std.specs.Prelude.{{◌≡◌}};
 ghost use Rattle.kinds.specs.Kinds.{{find_in}};
 ghost use Rattle.elements.specs.Types.{{{names([f"types_under{x}" for x in CATALOGUES] + ["find_by_type"])}}};
 
-use kinds::{{Kind, OptionalKind}};
+use kinds::Kind;
 
 // The kind of a type under a catalogue's X, if it is carried.
-pub fn find_by_type(x: u8, ty: u8) -> OptionalKind
+pub fn find_by_type(x: u8, ty: u8) -> Option<Kind>
     ensures {{ result ≡ find_by_type x ty }}
 {{
     match x {{
-{''.join(f"        {x} => return under_{x}(ty),{chr(10)}" for x in CATALOGUES)}        _ => return OptionalKind::None,
+{''.join(f"        {x} => return under_{x}(ty),{chr(10)}" for x in CATALOGUES)}        _ => return None,
     }}
 }}
 '''
     for x, types in CATALOGUES.items():
         text += f'''
-fn under_{x}(ty: u8) -> OptionalKind
+fn under_{x}(ty: u8) -> Option<Kind>
     ensures {{ result ≡ find_in ty types_under{x} }}
 {{
     match ty {{
-{''.join(f"        {t} => return OptionalKind::Some(Kind::{l.struct}),{chr(10)}" for t, l in types.items())}        _ => return OptionalKind::None,
+{''.join(f"        {t} => return Some(Kind::{l.struct}),{chr(10)}" for t, l in types.items())}        _ => return None,
     }}
 }}
 '''
@@ -783,10 +765,9 @@ fn under_{x}(ty: u8) -> OptionalKind
 def types_specs():
     text = '''-- Which types are carried under each catalogue's X, and as which kind. No others are.
 -- Written by catalogue/write.py.
-use Rattle.std.specs.Prelude.{cond, List, [], ◌∷◌, ℕ, eqb}
+use Rattle.std.specs.Prelude.{cond, List, [], ◌∷◌, ℕ, eqb, Option, None}
 use Rattle.kinds.specs.Kinds.{KindLine, kind_line, find_in}
 use Rattle.kinds.specs.declared.Kind.{Kind}
-use Rattle.kinds.specs.declared.OptionalKind.{OptionalKind}
 '''
     for x, types in CATALOGUES.items():
         text += f'\n-- the types carried under X = {x}, each with its kind\nabbrev pub types_under{x} : List KindLine\ntypes_under{x} =\n'
@@ -804,11 +785,11 @@ abbrev pub catalogues : List Catalogue
 catalogues = {' ∷ '.join(f"catalogue {x} types_under{x}" for x in CATALOGUES)} ∷ []
 
 -- the kind of a type under an X
-abbrev pub find_under : ℕ → ℕ → List Catalogue → OptionalKind
-find_under x type [] = OptionalKind.None
+abbrev pub find_under : ℕ → ℕ → List Catalogue → Option Kind
+find_under x type [] = None
 find_under x type (c ∷ cs) = cond (eqb x c.x) (find_in type c.types) (find_under x type cs)
 
-abbrev pub find_by_type : ℕ → ℕ → OptionalKind
+abbrev pub find_by_type : ℕ → ℕ → Option Kind
 find_by_type x type = find_under x type catalogues
 '''
     return text

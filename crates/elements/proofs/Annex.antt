@@ -21,9 +21,9 @@ use Rattle.states.proofs.Annex.{signal_v3_bits}
 use Rattle.kinds.specs.Kinds.{KindLine, find_in, kind_in, kinds, layout_no, rows_of}
 use Rattle.kinds.specs.declared.Kind.{Kind}
 use Rattle.kinds.specs.declared.Element.{Element}
-use Rattle.kinds.specs.declared.OptionalKind.{OptionalKind}
+use Rattle.std.proofs.Common.{Option, Some, is_some}
 use Rattle.elements.specs.Types.{Catalogue, catalogues, find_under, find_by_type}
-use Rattle.elements.specs.Elements.{is_carried, carried, kind_of, same_kind, state_of}
+use Rattle.elements.specs.Elements.{carried, kind_of, same_kind, state_of}
 use Rattle.elements.proofs.TypeLaws.{all_types, every_carried}
 
 -- ---- which types are carried
@@ -43,18 +43,18 @@ numbers ls = map (λ (l : KindLine). l.number) ls
 abbrev numbers_in : List Catalogue → List (ℕ × List ℕ)
 numbers_in cs = map (λ (c : Catalogue). (c.x, numbers c.types)) cs
 
-either : (b : Bool) (s t : OptionalKind) {p q : Bool} → is_carried s ≡ p → is_carried t ≡ q
-    → is_carried (cond b s t) ≡ cond b p q
+either : (b : Bool) (s t : Option Kind) {p q : Bool} → is_some s ≡ p → is_some t ≡ q
+    → is_some (cond b s t) ≡ cond b p q
 either true s t e f = e
 either false s t e f = f
 
-carried_in : (type : ℕ) (ls : List KindLine) → is_carried (find_in type ls) ≡ one_of (numbers ls) type
+carried_in : (type : ℕ) (ls : List KindLine) → is_some (find_in type ls) ≡ one_of (numbers ls) type
 carried_in type [] = refl
 carried_in type (l ∷ ls) =
-    either (eqb type l.number) (OptionalKind.Some l.kind) (find_in type ls) refl (carried_in type ls)
+    either (eqb type l.number) (Some l.kind) (find_in type ls) refl (carried_in type ls)
 
 carried_under : (x type : ℕ) (cs : List Catalogue)
-    → is_carried (find_under x type cs) ≡ carried_by (numbers_in cs) x type
+    → is_some (find_under x type cs) ≡ carried_by (numbers_in cs) x type
 carried_under x type [] = refl
 carried_under x type (c ∷ cs) =
     either (eqb x c.x) (find_in type c.types) (find_under x type cs) (carried_in type c.types)
@@ -71,7 +71,7 @@ carried_exactly x type = carried_under x type catalogues
 
 -- under X the type is carried as the state's kind, and the word is read as the state
 abbrev pub Reads : ℕ → ℕ → ℕ → Element → Type 0
-Reads x type w e = (find_by_type x type ≡ OptionalKind.Some (kind_in e)) × (state_of (kind_in e) w ≡ e)
+Reads x type w e = (find_by_type x type ≡ Some (kind_in e)) × (state_of (kind_in e) w ≡ e)
 
 pub by_type : (w : ℕ) →
     Reads 1 1 w (Element.Signal (signal_in w))  -- 1 Señal luminosa SIG

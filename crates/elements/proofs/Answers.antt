@@ -8,10 +8,10 @@ use borrow.Author.Tests.{ne_eqb}
 use lib.ListN.{take, drop}
 use Rattle.octets.specs.Octets.{number}
 use Rattle.rows.specs.Rows.{row_total, rows_from}
-use Rattle.rows.specs.Values.{code_at, check_rows, compose_of, padded, on_finding, values_read}
+use Rattle.rows.specs.Values.{Finding, code_at, check_rows, compose_of, padded, on_finding, values_read}
 use Rattle.rows.specs.Marks.{Shows}
 use Rattle.rows.specs.declared.Refusal.{Refusal}
-use Rattle.rows.specs.declared.Finding.{Finding}
+use Rattle.std.proofs.Common.{Ok, Err}
 use Rattle.rows.specs.declared.Layout.{Layout}
 use Rattle.kinds.specs.Kinds.{layout_of, width_of, rows_of, element_of, element_values, kind_in}
 use Rattle.kinds.specs.Glances.{Glanced}
@@ -25,31 +25,31 @@ use Rattle.elements.proofs.Laws.{word_small, compose_padded}
 
 -- the rule of DAT, test by test
 module _ (k : Kind) (w : ℕ) where
-  pub current : w % 2 ≡ 1 → dat_rule k w ≡ Finding.Accepted
+  pub current : w % 2 ≡ 1 → dat_rule k w ≡ Ok tt
   current h = not_stale k w (λ s. s.silent h)
 
-  pub without_data : w ≡ 0 → dat_rule k w ≡ Finding.Accepted
+  pub without_data : w ≡ 0 → dat_rule k w ≡ Ok tt
   without_data z = not_stale k w (λ s. s.other z)
 
   pub by_layout : {l : Layout} → l ≡ layout_of k → (w % 2 ≡ 1 → ⊥) → (w ≡ 0 → ⊥)
-      → dat_rule k w ≡ cond l.dat (Finding.Refused (code_at 12 0)) Finding.Accepted
+      → dat_rule k w ≡ cond l.dat (Err (code_at 12 0)) (Ok tt)
   unfolding dat_rule
   by_layout e h z = rw (ne_eqb _ _ h, ne_eqb _ _ z, e)
 
 -- from what is found of the fields
 module _ (k : Kind) (w : ℕ) (f : Finding) (e : f ≡ check_rows w (rows_of k)) where
-  pub check_refused : (x : Refusal) → f ≡ Finding.Refused x → f ≡ element_check k w
+  pub check_refused : (x : Refusal) → f ≡ Err x → Err x ≡ element_check k w
   unfolding element_check
-  check_refused x t = t ∙ ap (λ (f : Finding). on_finding f (dat_rule k w) Finding.Refused) (sym t ∙ e)
+  check_refused x t = ap (λ (f : Finding). on_finding f (dat_rule k w) Err) (sym t ∙ e)
 
-  pub check_rest : f ≡ Finding.Accepted → dat_rule k w ≡ element_check k w
+  pub check_rest : f ≡ Ok tt → dat_rule k w ≡ element_check k w
   unfolding element_check
-  check_rest t = ap (λ (f : Finding). on_finding f (dat_rule k w) Finding.Refused) (sym t ∙ e)
+  check_rest t = ap (λ (f : Finding). on_finding f (dat_rule k w) Err) (sym t ∙ e)
 
 -- from what a glance shows, and the rule of DAT
 pub shown : (k : Kind) {w : ℕ} {listed stale : Bool} → Shows (rows_of k) w listed → listed ≡ true
-    → dat_rule k w ≡ cond stale (Finding.Refused (code_at 12 0)) Finding.Accepted → stale ≡ false
-    → Finding.Accepted ≡ element_check k w
+    → dat_rule k w ≡ cond stale (Err (code_at 12 0)) (Ok tt) → stale ≡ false
+    → Ok tt ≡ element_check k w
 unfolding element_check
 shown k s on e off = rw (s.accepted on, e, off)
 

@@ -10,7 +10,7 @@ use borrow.Author.Tests.{eqb-true, eqb-false}
 use Rattle.rows.specs.Rows.{Row}
 use Rattle.rows.specs.Values.{code_at, check_rows}
 use Rattle.rows.specs.declared.Refusal.{Refusal}
-use Rattle.rows.specs.declared.Finding.{Finding}
+use Rattle.std.proofs.Common.{Ok, Err}
 use Rattle.rows.proofs.Listed.{FirstUnlisted, zero_accepted}
 use Rattle.kinds.specs.Kinds.{layout_of, rows_of}
 use Rattle.kinds.specs.declared.Kind.{Kind}
@@ -30,7 +30,7 @@ pub data Refuses (k : Kind) : (code bit : ℕ) → Type 0 where
   unlisted : {r : Row} → RowOf k r → (r.top ≡ 0 → ⊥) → Refuses k 11 r.low
   silent : (layout_of k).dat ≡ true → Refuses k 12 0
 
-pub element_refuses : (k : Kind) (w : ℕ) {x : Refusal} → element_check k w ≡ Finding.Refused x
+pub element_refuses : (k : Kind) (w : ℕ) {x : Refusal} → element_check k w ≡ Err x
     → Refuses k x.code x.bit
 element_refuses k w {x} e = go (element_names k w e)
   where
@@ -39,7 +39,7 @@ element_refuses k w {x} e = go (element_names k w e)
     field r m false q = unlisted m (eqb-false _ _ q)
 
     go : FirstUnlisted w (rows_of k) x
-        ⊎ ((check_rows w (rows_of k) ≡ Finding.Accepted) × Stale k w × (x ≡ code_at 12 0))
+        ⊎ ((check_rows w (rows_of k) ≡ Ok tt) × Stale k w × (x ≡ code_at 12 0))
         → Refuses k x.code x.bit
     go (inl q) =
         rw q.told
@@ -48,6 +48,6 @@ element_refuses k w {x} e = go (element_names k w e)
     go (inr q) = rw q.2 (silent q.1.dat)
 
 -- the number 0 is an accepted element of every kind
-pub zero_found : (k : Kind) → element_check k 0 ≡ Finding.Accepted
+pub zero_found : (k : Kind) → element_check k 0 ≡ Ok tt
 unfolding element_check
 zero_found k = rw (zero_accepted (rows_of k)) (not_stale k 0 (λ s. s.other refl))

@@ -8,7 +8,7 @@ use mathlib.Core.List.{List, [], ◌∷◌, map}
 use Rattle.octets.specs.Octets.{number}
 use Rattle.rows.specs.Rows.{cells, layouts}
 use Rattle.rows.specs.Values.{code_at}
-use Rattle.rows.specs.declared.Finding.{Finding}
+use Rattle.std.proofs.Common.{Ok, Err}
 use Rattle.kinds.specs.Kinds.{layout_of, kinds}
 use Rattle.cases.specs.declared.ChangerAspect.{ChangerAspect}
 use Rattle.cases.specs.declared.SignalKind.{SignalKind}
@@ -59,11 +59,11 @@ pub all_known : (findings known ≡ said known)
 unfolding cells layouts kind_of dat_rule element_check state_of
 all_known = (refl, refl, refl, refl)
 
-pub two_faults : (element_check Kind.ChangerSignal 0x81 ≡ Finding.Refused (code_at 10 3))
-    × (element_check Kind.VirtualBoard 0x06 ≡ Finding.Refused (code_at 11 1))
-    × (element_check Kind.VirtualBoard 0x17 ≡ Finding.Refused (code_at 11 1))
-    × (element_check Kind.LineTrackCircuit 0x14C1 ≡ Finding.Refused (code_at 11 6))
-    × (element_check Kind.PointsTrackCircuit 0x0024 ≡ Finding.Refused (code_at 10 2))
+pub two_faults : (element_check Kind.ChangerSignal 0x81 ≡ Err (code_at 10 3))
+    × (element_check Kind.VirtualBoard 0x06 ≡ Err (code_at 11 1))
+    × (element_check Kind.VirtualBoard 0x17 ≡ Err (code_at 11 1))
+    × (element_check Kind.LineTrackCircuit 0x14C1 ≡ Err (code_at 11 6))
+    × (element_check Kind.PointsTrackCircuit 0x0024 ≡ Err (code_at 10 2))
 unfolding cells layouts dat_rule element_check
 two_faults = (refl, refl, refl, refl, refl)
 
@@ -72,10 +72,10 @@ two_faults = (refl, refl, refl, refl, refl)
 -- 1.0's signal refuses two of these words: TIPO 4 and the reserved bit 31
 pub new_signal : (map (element_check (kind_of 3 1))
     (0x00000009 ∷ 0x00000007 ∷ 0x80000001 ∷ 0xBFFFFFCF ∷ 0x00000000 ∷ 0x000000D1 ∷ 0xC0000001 ∷ 0x00000008 ∷ []) ≡
-    Finding.Accepted ∷ Finding.Accepted ∷ Finding.Accepted ∷ Finding.Accepted ∷ Finding.Accepted ∷
-    Finding.Refused (code_at 11 4) ∷ Finding.Refused (code_at 11 30) ∷ Finding.Refused (code_at 12 0) ∷ [])
+    Ok tt ∷ Ok tt ∷ Ok tt ∷ Ok tt ∷ Ok tt ∷
+    Err (code_at 11 4) ∷ Err (code_at 11 30) ∷ Err (code_at 12 0) ∷ [])
     × (map (element_check (kind_of 1 1)) (0x00000009 ∷ 0x80000001 ∷ [])
-    ≡ Finding.Refused (code_at 11 1) ∷ Finding.Refused (code_at 10 31) ∷ [])
+    ≡ Err (code_at 11 1) ∷ Err (code_at 10 31) ∷ [])
 unfolding cells layouts kind_of dat_rule element_check
 new_signal = (refl, refl)
 

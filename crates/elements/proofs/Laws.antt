@@ -8,8 +8,8 @@ use native.Mathlib.Omega.{arith}
 use native.Mathlib.Nat.{lt_of_lt_of_le}
 use lib.ListN.{length, replicate}
 use lib.Pow.{pow_mono, pow_pos}
-use Rattle.rows.specs.Values.{check_rows, values_of, compose_of, padded, on_finding}
-use Rattle.rows.specs.declared.Finding.{Finding}
+use Rattle.rows.specs.Values.{Finding, check_rows, values_of, compose_of, padded, on_finding}
+use Rattle.std.proofs.Common.{Ok, Err}
 use Rattle.rows.specs.declared.Refusal.{Refusal}
 use Rattle.rows.proofs.Words.{Within, compose_values, compose_bound, values_compose}
 use Rattle.rows.proofs.Listed.{listed_within, listed_from_lem, accepted_within, within_accepted, zero_accepted}
@@ -60,7 +60,7 @@ unfolding state_of
 state_word_state e = ap (λ (vs : List ℕ). element_of (kind_in e) (padded vs)) (own_values e) ∙ element_back e
 
 -- number, state, number: the same number, if the fields are accepted
-fields_word : (k : Kind) (w : ℕ) → w < 2 ^ (8 * width_of k) → check_rows w (rows_of k) ≡ Finding.Accepted
+fields_word : (k : Kind) (w : ℕ) → w < 2 ^ (8 * width_of k) → check_rows w (rows_of k) ≡ Ok tt
     → word_of (state_of k w) ≡ w
 unfolding word_of state_of
 fields_word k w h ok =
@@ -71,33 +71,33 @@ fields_word k w h ok =
     (listed_from_lem (rows_of k) [] vs (replicate (24 - length vs) 0) (accepted_within w (rows_of k) ok))
     ∙ compose_values (rows_of k) (8 * width_of k) w (cover k).tiling h
 
-pub accepted_fields : (k : Kind) (w : ℕ) → element_check k w ≡ Finding.Accepted
-    → check_rows w (rows_of k) ≡ Finding.Accepted
+pub accepted_fields : (k : Kind) (w : ℕ) → element_check k w ≡ Ok tt
+    → check_rows w (rows_of k) ≡ Ok tt
 unfolding element_check
 accepted_fields k w = go (check_rows w (rows_of k))
   where
-    go : (f : Finding) → on_finding f (dat_rule k w) Finding.Refused ≡ Finding.Accepted → f ≡ Finding.Accepted
-    go Finding.Accepted e = refl
-    go (Finding.Refused r) e = let z : ◌≡◌ {A = ℕ} 0 1 = cc in absurd (omega arith)
+    go : (f : Finding) → on_finding f (dat_rule k w) Err ≡ Ok tt → f ≡ Ok tt
+    go (Ok tt) e = refl
+    go (Err r) e = let z : ◌≡◌ {A = ℕ} 0 1 = cc in absurd (omega arith)
 
-pub word_state_word : (k : Kind) (w : ℕ) → w < 2 ^ (8 * width_of k) → element_check k w ≡ Finding.Accepted
+pub word_state_word : (k : Kind) (w : ℕ) → w < 2 ^ (8 * width_of k) → element_check k w ≡ Ok tt
     → word_of (state_of k w) ≡ w
 word_state_word k w h ok = fields_word k w h (accepted_fields k w ok)
 
 -- the fields of an accepted number are read as its state
-pub accepted_state : (k : Kind) (w : ℕ) → element_check k w ≡ Finding.Accepted → state_read k w ≡ state_of k w
+pub accepted_state : (k : Kind) (w : ℕ) → element_check k w ≡ Ok tt → state_read k w ≡ state_of k w
 unfolding state_read state_of
 accepted_state k w ok =
     ap (λ (f : Finding). element_of k (on_finding f (padded (values_of w (rows_of k))) (λ r. replicate 24 0)))
     (accepted_fields k w ok)
 
 -- .. so a legal state that is written and read is the same state
-pub read_written : (e : Element) → element_check (kind_in e) (word_of e) ≡ Finding.Accepted
+pub read_written : (e : Element) → element_check (kind_in e) (word_of e) ≡ Ok tt
     → state_read (kind_in e) (word_of e) ≡ e
 read_written e ok = accepted_state (kind_in e) (word_of e) ok ∙ state_word_state e
 
 -- .. and those of a number with a refused field are read as zeros
-pub refused_state : (k : Kind) (w : ℕ) {r : Refusal} → check_rows w (rows_of k) ≡ Finding.Refused r
+pub refused_state : (k : Kind) (w : ℕ) {r : Refusal} → check_rows w (rows_of k) ≡ Err r
     → state_read k w ≡ element_of k (replicate 24 0)
 unfolding state_read
 refused_state k w bad =
@@ -110,7 +110,7 @@ pub state_check : (e : Element) → element_check (kind_in e) (word_of e) ≡ da
 unfolding element_check
 state_check e =
     let k = kind_in e in
-    ap (λ (f : Finding). on_finding f (dat_rule k (word_of e)) Finding.Refused)
+    ap (λ (f : Finding). on_finding f (dat_rule k (word_of e)) Err)
     (within_accepted (word_of e) (rows_of k) (subst (Within (rows_of k)) (sym (own_values e)) (state_within e)))
 
 -- the number 0 is that of the state whose fields are all 0

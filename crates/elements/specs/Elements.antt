@@ -1,27 +1,21 @@
 -- Which types are carried, the check of an element (fields from bit 0 up, then 12), and a state as a number and back.
-use Rattle.std.specs.Prelude.{Bool, true, false, cond, ℕ, ◌%◌, eqb}
-use Rattle.rows.specs.Values.{code_at, check_rows, values_of, compose_of, padded, on_finding, values_read}
-use Rattle.rows.specs.declared.Finding.{Finding}
+use Rattle.std.specs.Prelude.{Bool, cond, ℕ, ◌%◌, eqb, Option, is_some, Ok, Err}
+use Rattle.std.specs.Option.{unwrap_or}
+use Rattle.rows.specs.Values.{Finding, code_at, check_rows, values_of, compose_of, padded, on_finding, values_read}
 use Rattle.kinds.specs.Kinds.{layout_of, layout_no, rows_of, find_by_number, element_of, element_values, kind_in}
 use Rattle.kinds.specs.declared.Kind.{Kind}
 use Rattle.kinds.specs.declared.Element.{Element}
-use Rattle.kinds.specs.declared.OptionalKind.{OptionalKind}
 use Rattle.elements.specs.Types.{find_by_type}
 
 -- ---- what is carried
 
-abbrev pub is_carried : OptionalKind → Bool
-is_carried (OptionalKind.Some k) = true
-is_carried OptionalKind.None = false
-
 -- the kind; of what is not carried, one that means nothing
-abbrev pub carried_kind : OptionalKind → Kind
-carried_kind (OptionalKind.Some k) = k
-carried_kind OptionalKind.None = Kind.Signal
+abbrev pub carried_kind : Option Kind → Kind
+carried_kind s = unwrap_or s Kind.Signal
 
 -- whether a type is carried under a catalogue's X, and its kind
 unfoldable pub carried : ℕ → ℕ → Bool
-carried x type = is_carried (find_by_type x type)
+carried x type = is_some (find_by_type x type)
 
 unfoldable pub kind_of : ℕ → ℕ → Kind
 kind_of x type = carried_kind (find_by_type x type)
@@ -39,12 +33,12 @@ same_kind j k = eqb (layout_no j) (layout_no k)
 unfoldable pub dat_rule : Kind → ℕ → Finding
 dat_rule k w =
     cond (layout_of k).dat
-    (cond (eqb (w % 2) 1) Finding.Accepted (cond (eqb w 0) Finding.Accepted (Finding.Refused (code_at 12 0))))
-    Finding.Accepted
+    (cond (eqb (w % 2) 1) (Ok tt) (cond (eqb w 0) (Ok tt) (Err (code_at 12 0))))
+    (Ok tt)
 
 -- fields from bit 0 up, then 12
 unfoldable pub element_check : Kind → ℕ → Finding
-element_check k w = on_finding (check_rows w (rows_of k)) (dat_rule k w) Finding.Refused
+element_check k w = on_finding (check_rows w (rows_of k)) (dat_rule k w) Err
 
 -- ---- states
 

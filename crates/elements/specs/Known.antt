@@ -1,8 +1,8 @@
 -- Known elements: those that the paper marks P, each with its type, its bytes and what is found.
 use Rattle.std.specs.Prelude.{List, [], ◌∷◌, map, ℕ, length}
 use Rattle.octets.specs.Octets.{number}
-use Rattle.rows.specs.Values.{code_at}
-use Rattle.rows.specs.declared.Finding.{Finding}
+use Rattle.rows.specs.Values.{Finding, code_at}
+use Rattle.std.specs.Prelude.{Ok, Err}
 use Rattle.kinds.specs.Kinds.{width_of}
 use Rattle.kinds.specs.declared.Kind.{Kind}
 use Rattle.elements.specs.Elements.{kind_of, element_check}
@@ -13,10 +13,10 @@ pub record Known : Type 0 where
   pub finding : Finding
 
 abbrev accepted : ℕ → List ℕ → Known
-accepted type element = record { type = type; element = element; finding = Finding.Accepted }
+accepted type element = record { type = type; element = element; finding = (Ok tt) }
 
 abbrev refused : ℕ → List ℕ → ℕ → ℕ → Known
-refused type element code bit = record { type = type; element = element; finding = Finding.Refused (code_at code bit) }
+refused type element code bit = record { type = type; element = element; finding = Err (code_at code bit) }
 
 -- 1 is SIG, 2 IC, 3 PV, 4 CV, 22 AVG, 23 FRA
 abbrev pub known : List Known

@@ -1,9 +1,8 @@
 -- Which types are carried under each catalogue's X, and as which kind. No others are.
 -- Written by catalogue/write.py.
-use Rattle.std.specs.Prelude.{cond, List, [], ◌∷◌, ℕ, eqb}
+use Rattle.std.specs.Prelude.{cond, List, [], ◌∷◌, ℕ, eqb, Option, None}
 use Rattle.kinds.specs.Kinds.{KindLine, kind_line, find_in}
 use Rattle.kinds.specs.declared.Kind.{Kind}
-use Rattle.kinds.specs.declared.OptionalKind.{OptionalKind}
 
 -- the types carried under X = 1, each with its kind
 abbrev pub types_under1 : List KindLine
@@ -45,9 +44,9 @@ abbrev pub catalogues : List Catalogue
 catalogues = catalogue 1 types_under1 ∷ catalogue 3 types_under3 ∷ []
 
 -- the kind of a type under an X
-abbrev pub find_under : ℕ → ℕ → List Catalogue → OptionalKind
-find_under x type [] = OptionalKind.None
+abbrev pub find_under : ℕ → ℕ → List Catalogue → Option Kind
+find_under x type [] = None
 find_under x type (c ∷ cs) = cond (eqb x c.x) (find_in type c.types) (find_under x type cs)
 
-abbrev pub find_by_type : ℕ → ℕ → OptionalKind
+abbrev pub find_by_type : ℕ → ℕ → Option Kind
 find_by_type x type = find_under x type catalogues

@@ -6,37 +6,36 @@
 
 mod types;
 
-ghost use Rattle.std.specs.Prelude.{◌≡◌, cond, ◌+◌, ◌≤◌, length, take, drop};
+ghost use Rattle.std.specs.Prelude.{◌≡◌, cond, ◌+◌, ◌≤◌, length, take, drop, Ok, Err};
 ghost use Rattle.octets.specs.Octets.{number};
-ghost use Rattle.rows.specs.declared.Finding.{Finding};
 ghost use Rattle.rows.specs.Values.{code_at, check_rows, values_read};
 ghost use Rattle.kinds.specs.Kinds.{layout_no, width_of, rows_of};
 ghost use Rattle.elements.specs.Elements.{carried, kind_of, kind_numbered, same_kind, dat_rule, element_check};
 ghost use Rattle.elements.specs.Elements.{state_read, word_of};
 
-use kinds::{Element, Kind, OptionalKind};
-use rows::{Finding, Refusal};
+use kinds::{Element, Kind};
+use rows::Refusal;
 use types::find_by_type;
 
 // Checks an element's number: the fields from bit 0 up, then the rule of DAT. Its rows are read only if a glance
 // doesn't show that it is accepted.
-pub fn check_element(word: u32, kind: Kind) -> Finding
+pub fn check_element(word: u32, kind: Kind) -> Result<(), Refusal>
     ensures { result ≡ element_check kind word }
 {
     if kinds::shows_listed(word, kind) && !is_stale(word, kind) {
-        return Finding::Accepted;
+        return Ok(());
     }
     check_by_rows(word, kind)
 }
 
 // Checks the element whose bytes begin at a place.
-pub fn check_at(s: &[u8], at: usize, kind: Kind) -> Finding
+pub fn check_at(s: &[u8], at: usize, kind: Kind) -> Result<(), Refusal>
     requires { at + width_of kind ≤ length s.now }
     ensures { result ≡ element_check kind (number (take (width_of kind) (drop at s.now))) }
 {
     let glance = kinds::glance_at(s, at, kind);
     if glance.listed && !is_stale(glance.word, kind) {
-        return Finding::Accepted;
+        return Ok(());
     }
     check_by_rows(glance.word, kind)
 }
@@ -61,26 +60,19 @@ pub fn word_of(element: Element) -> u32
 }
 
 // Whether a type is carried under a catalogue's X.
+#[tactic(auto, unfolding(crate::specs::Elements::carried))]
 pub fn is_carried(x: u8, ty: u8) -> bool
     ensures { result ≡ carried x ty }
 {
-    let found = find_by_type(x, ty);
-    if let OptionalKind::Some(_) = found {
-        true
-    } else {
-        false
-    }
+    find_by_type(x, ty).is_some()
 }
 
 // The kind of a type under a catalogue's X; if it is not carried, a kind that means nothing.
+#[tactic(auto, unfolding(crate::specs::Elements::kind_of))]
 pub fn kind_of(x: u8, ty: u8) -> Kind
     ensures { result ≡ kind_of x ty }
 {
-    let found = find_by_type(x, ty);
-    let OptionalKind::Some(kind) = found else {
-        return Kind::Signal;
-    };
-    kind
+    find_by_type(x, ty).unwrap_or(Kind::Signal)
 }
 
 // A kind as its layout's number.
@@ -91,21 +83,18 @@ pub fn layout_number(kind: Kind) -> u8
 }
 
 // The kind whose layout has this number; if none has, a kind that means nothing.
+#[tactic(auto, unfolding(crate::specs::Elements::kind_numbered))]
 pub fn kind_numbered(number: u8) -> Kind
     ensures { result ≡ kind_numbered number }
 {
-    let found = kinds::find_by_number(number);
-    let OptionalKind::Some(kind) = found else {
-        return Kind::Signal;
-    };
-    kind
+    kinds::find_by_number(number).unwrap_or(Kind::Signal)
 }
 
-// Whether two kinds are the same, by their layouts' numbers.
+// Whether two kinds are the same.
 pub fn same_kind(one: Kind, other: Kind) -> bool
     ensures { result ≡ same_kind one other }
 {
-    layout_number(one) == layout_number(other)
+    one == other
 }
 
 // A kind's width in bytes.
@@ -116,18 +105,15 @@ pub fn width(kind: Kind) -> usize
 }
 
 // Checks an element's number by its rows, which say which field is refused.
-fn check_by_rows(word: u32, kind: Kind) -> Finding
+fn check_by_rows(word: u32, kind: Kind) -> Result<(), Refusal>
     ensures { result ≡ element_check kind word }
 {
-    let finding = check_fields(word, kind);
-    let Finding::Accepted = finding else {
-        return finding;
-    };
+    check_fields(word, kind)?;
     dat_rule(word, kind)
 }
 
 // What its rows find of an element's number.
-fn check_fields(word: u32, kind: Kind) -> Finding
+fn check_fields(word: u32, kind: Kind) -> Result<(), Refusal>
     ensures { result ≡ check_rows word (rows_of kind) }
 {
     let layout = kinds::layout(kind);
@@ -145,18 +131,18 @@ fn read_values(word: u32, kind: Kind) -> [u32; 24]
 }
 
 // The rule of DAT: where bit 0 is DAT and is 0, all other bits must be 0.
-fn dat_rule(word: u32, kind: Kind) -> Finding
+fn dat_rule(word: u32, kind: Kind) -> Result<(), Refusal>
     ensures { result ≡ dat_rule kind word }
 {
     if is_stale(word, kind) {
-        return Finding::Refused(Refusal { code: 12, bit: 0 });
+        return Err(Refusal { code: 12, bit: 0 });
     }
-    Finding::Accepted
+    Ok(())
 }
 
 // Whether that rule is broken.
 fn is_stale(word: u32, kind: Kind) -> bool
-    ensures { dat_rule kind word ≡ cond result (Finding.Refused (code_at 12 0)) Finding.Accepted }
+    ensures { dat_rule kind word ≡ cond result (Err (code_at 12 0)) (Ok tt) }
 {
     if word % 2 == 1 {
         return false;

@@ -17,7 +17,8 @@ use Rattle.octets.specs.Octets.{bytes, number, Bytes}
 use Rattle.history.specs.Verdict.{done}
 use Rattle.history.specs.Form.{Form, form_bytes, read_form}
 use Rattle.history.specs.Table.{Plan, kind_at, same_catalogue}
-use Rattle.history.specs.Image.{element, is_accepted, Every, nil, and}
+use Rattle.std.proofs.Common.{is_ok}
+use Rattle.history.specs.Image.{element, Every, nil, and}
 use Rattle.history.specs.declared.Change.{Change}
 use Rattle.history.specs.declared.Change.TheVariants.{Keep as keep, Swap as swap}
 use Rattle.history.specs.Changes.{Changes, list_version, entries_bytes, entries, list_bytes, Entry, entry_of}
@@ -26,7 +27,7 @@ use Rattle.octets.proofs.NumberLaws.{length_bytes, read_bytes, drop_bytes, drop_
 use Rattle.history.proofs.VerdictLaws.{all, held, used}
 use Rattle.history.proofs.ChangeLaws.{lawful_swap}
 use Rattle.history.proofs.FormLaws.{Formed, form_is, form_reads}
-use Rattle.history.proofs.ElementLaws.{was_accepted, is_accepted_lem, admits_fits, admits_accepted, width_few}
+use Rattle.history.proofs.ElementLaws.{was_accepted, accepted_goes_on, admits_fits, admits_accepted, width_few}
 use Rattle.history.proofs.ImageLaws.{same_catalogue_lem, own_catalogue, Fair}
 
 -- ---- an entry
@@ -86,8 +87,8 @@ was_numbered ks b {i} q =
 
 -- .. and accepted elements
 pub record Fine (e : Entry) : Type 0 where
-  pub old : is_accepted (element e.kind e.old) ≡ true
-  pub new : is_accepted (element e.kind e.new) ≡ true
+  pub old : is_ok (element e.kind e.old) ≡ true
+  pub new : is_ok (element e.kind e.new) ≡ true
 
 pub were_elements : (i : ℕ) (k : Kind) (b : List ℕ) {e : Entry} → read_elements i k b ≡ done e
     → (entry_of i k b ≡ e) × (width_of k + width_of k ≤ length b) × Fine (entry_of i k b)
@@ -103,8 +104,8 @@ are_elements : (i : ℕ) (k : Kind) (b : List ℕ) → width_of k + width_of k �
 unfolding read_elements
 are_elements i k b room f =
     rw (le-leb (width_of k + width_of k) (length b) room)
-    (is_accepted_lem (element k (entry_of i k b).old) _ _ f.old
-    ∙ is_accepted_lem (element k (entry_of i k b).new) _ _ f.new)
+    (accepted_goes_on (element k (entry_of i k b).old) _ _ f.old
+    ∙ accepted_goes_on (element k (entry_of i k b).new) _ _ f.new)
 
 -- what an entry's checks tell together
 pub record Checked (ks : List Kind) (low : ℕ) (b : List ℕ) (e : Entry) : Type 0 where

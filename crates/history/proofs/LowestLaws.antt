@@ -12,7 +12,8 @@ use lib.Dec.{eqb}
 use lib.ListN.{length, take, drop}
 use lib.Seq.{drop-drop}
 use borrow.Author.Tests.{eq-eqb}
-use Rattle.rows.specs.declared.Finding.{Finding}
+use Rattle.rows.specs.Values.{Finding}
+use Rattle.std.proofs.Common.{Ok, Err}
 use Rattle.rows.specs.declared.Refusal.{Refusal}
 use Rattle.kinds.specs.Kinds.{width_of}
 use Rattle.kinds.specs.declared.Kind.{Kind}
@@ -31,8 +32,8 @@ finding_at ks b j = element (kind_at ks j) (number (take (width_of (kind_at ks j
 -- object k's element is refused, and each lower object's is accepted
 pub record FirstRefused (ks : List Kind) (b : List ℕ) (k : ℕ) (x : Refusal) : Type 0 where
   pub few : k < length ks
-  pub here : finding_at ks b k ≡ Finding.Refused x
-  pub lower : (j : ℕ) → j < k → finding_at ks b j ≡ Finding.Accepted
+  pub here : finding_at ks b k ≡ Err x
+  pub lower : (j : ℕ) → j < k → finding_at ks b j ≡ Ok tt
 
 -- the elements after the first object's are those of the other objects
 finding_next : (k : Kind) (ks : List Kind) (b : List ℕ) (j : ℕ)
@@ -42,12 +43,12 @@ finding_next k ks b j =
     (sym (drop-drop (widths (take j ks)) (width_of k) b))
 
 first_next : {k : Kind} {ks : List Kind} {b : List ℕ} {n : ℕ} {x : Refusal}
-    → element k (number (take (width_of k) b)) ≡ Finding.Accepted → FirstRefused ks (drop (width_of k) b) n x
+    → element k (number (take (width_of k) b)) ≡ Ok tt → FirstRefused ks (drop (width_of k) b) n x
     → FirstRefused (k ∷ ks) b (suc n) x
 first_next {k} {ks} {b} {n} {x} e f =
     record { few = omega (arith, f.few); here = finding_next k ks b n ∙ f.here; lower = go }
   where
-    go : (j : ℕ) → j < suc n → finding_at (k ∷ ks) b j ≡ Finding.Accepted
+    go : (j : ℕ) → j < suc n → finding_at (k ∷ ks) b j ≡ Ok tt
     go zero h = e
     go (suc j) h = finding_next k ks b j ∙ f.lower j (omega arith)
 
@@ -78,14 +79,14 @@ words_first i (k ∷ ks) b {r} e =
         → (v of i ⨾ then (read_words (suc i) ks (drop (width_of k) b)) (λ ws. done (number (take (width_of k) b) ∷ ws)))
         ≡ refused r
         → RefusedFirst i (k ∷ ks) b r
-    go (Finding.Refused x) q later e =
+    go (Err x) q later e =
         record {
           object = 0;
           finding = x;
           first = record { few = omega arith; here = q; lower = λ j h. absurd (omega arith) };
           named = cc (add-zero i);
         }
-    go Finding.Accepted q later e =
+    go (Ok tt) q later e =
         let f = later (passed_up (read_words (suc i) ks (drop (width_of k) b)) _ e) in
         record {
           object = suc f.object;

@@ -10,7 +10,8 @@ use lib.Dec.{eqb, leb, ltb}
 use lib.ListN.{length, take, drop, get_or, replicate, length-append, length-drop, length-map, length-replicate}
 use lib.Seq.{drop-drop}
 use borrow.Author.Tests.{leb-true, leb-false, ltb-true, ltb-false}
-use Rattle.rows.specs.declared.Finding.{Finding}
+use Rattle.rows.specs.Values.{Finding}
+use Rattle.std.proofs.Common.{Ok, Err}
 use Rattle.rows.specs.declared.Refusal.{Refusal}
 use Rattle.kinds.specs.Kinds.{width_of, kind_in}
 use Rattle.kinds.specs.declared.Kind.{Kind}
@@ -105,10 +106,10 @@ module _ {P : Refused → Type 0} {A : Type 0} where
   named_unless true x r h k = k refl
   named_unless false x r h k = h refl
 
-  pub named_of : (v : Finding) (i : ℕ) (r : Verdict A) → ((x : Refusal) → v ≡ Finding.Refused x → P (found_in x i))
+  pub named_of : (v : Finding) (i : ℕ) (r : Verdict A) → ((x : Refusal) → v ≡ Err x → P (found_in x i))
       → Named P r → Named P (v of i ⨾ r)
-  named_of Finding.Accepted i r h k = k
-  named_of (Finding.Refused x) i r h k = refuses (h x refl)
+  named_of (Ok tt) i r h k = k
+  named_of (Err x) i r h k = refuses (h x refl)
 
   pub named_then : {B : Type 0} (x : Verdict B) (f : B → Verdict A) → Named P x → ((b : B) → x ≡ done b → Named P (f b))
       → Named P (then x f)

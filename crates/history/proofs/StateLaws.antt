@@ -18,13 +18,14 @@ use Rattle.elements.proofs.Laws.{state_kind}
 use Rattle.elements.proofs.DatLaws.{Stale}
 use Rattle.history.specs.Verdict.{naming, Verdict, refused, done, then, refusal_at, ◌unless◌⨾◌}
 use Rattle.history.specs.Table.{Plan, kind_at}
-use Rattle.history.specs.Image.{Image, element, ◌of◌⨾◌, image_bytes, is_accepted, admits, Every, nil, and}
+use Rattle.std.proofs.Common.{is_ok}
+use Rattle.history.specs.Image.{Image, element, ◌of◌⨾◌, image_bytes, admits, Every, nil, and}
 use Rattle.history.specs.Image.{LegalImage, AcceptedImage}
 use Rattle.history.specs.Calls.{read_plan, placed, read_state_under, read_state_call, check_state, write_state_under}
 use Rattle.history.specs.Calls.{write_state_call}
 use Rattle.elements.specs.Elements.{same_kind}
 use Rattle.history.proofs.VerdictLaws.{held, used}
-use Rattle.history.proofs.ElementLaws.{was_accepted, is_accepted_lem, admits_accepted, word_again, state_again}
+use Rattle.history.proofs.ElementLaws.{was_accepted, accepted_goes_on, admits_accepted, word_again, state_again}
 use Rattle.history.proofs.ElementLaws.{state_admitted, same_kind_lem, is_same_kind, state_current, state_twelve}
 use Rattle.history.proofs.OperationLaws.{one_version}
 use Rattle.history.proofs.CallLaws.{legal_image}
@@ -74,7 +75,7 @@ module _ (ks : List Kind) (i : ℕ) (e : Element) where
   pub record Taken (w : ℕ) : Type 0 where
     pub inside : i < length ks
     pub kind : kind_in e ≡ kind_at ks i
-    pub good : is_accepted (element (kind_at ks i) (word_of e)) ≡ true
+    pub good : is_ok (element (kind_at ks i) (word_of e)) ≡ true
     pub word : word_of e ≡ w
 
   pub state_taken : {w : ℕ} → check_state ks i e ≡ done w → Taken w
@@ -153,7 +154,7 @@ module _ (T : List ℕ) {p : Plan} (t : read_plan T ≡ done p) where
   written_legal a i e position small w = placed_legal a.legal i (word_of e) position w.inside w.good small
 
   pub write_is : {A : List ℕ} (a : AcceptedImage p A) (i : ℕ) (e : Element) (position : ℕ) → i < length p.kinds
-      → kind_in e ≡ kind_at p.kinds i → is_accepted (element (kind_at p.kinds i) (word_of e)) ≡ true
+      → kind_in e ≡ kind_at p.kinds i → is_ok (element (kind_at p.kinds i) (word_of e)) ≡ true
       → write_state_call T A i e position ≡ done (image_bytes p (placed a.image i (word_of e) position))
   unfolding write_state_call write_state_under
   write_is a i e position l s h =
@@ -161,7 +162,7 @@ module _ (T : List ℕ) {p : Plan} (t : read_plan T ≡ done p) where
         t,
         a.reads,
         state_checked p.kinds i e l s,
-        is_accepted_lem (element (kind_at p.kinds i) (word_of e)) i (done (word_of e)) h,
+        accepted_goes_on (element (kind_at p.kinds i) (word_of e)) i (done (word_of e)) h,
       )
 
   -- a state of the object's kind is written, unless DAT is 0 and another bit is 1: then it is refused with 12
@@ -169,7 +170,7 @@ module _ (T : List ℕ) {p : Plan} (t : read_plan T ≡ done p) where
       → kind_in e ≡ kind_at p.kinds i → (Stale (kind_in e) (word_of e) → ⊥)
       → write_state_call T A i e position ≡ done (image_bytes p (placed a.image i (word_of e) position))
   write_current a i e position l s n =
-      write_is a i e position l s (ap is_accepted (state_current (kind_at p.kinds i) e s n))
+      write_is a i e position l s (ap is_ok (state_current (kind_at p.kinds i) e s n))
 
   pub write_stale : {A : List ℕ} (a : AcceptedImage p A) (i : ℕ) (e : Element) (position : ℕ) → i < length p.kinds
       → kind_in e ≡ kind_at p.kinds i → Stale (kind_in e) (word_of e)

@@ -1,7 +1,7 @@
 -- "Image: a 4-byte position, then each object's element in table order."
-use Rattle.std.specs.Prelude.{ℕ, suc, ◌+◌, ◌^◌, ◌<◌, Bool, true, false, ◌&&◌, List, [], ◌∷◌, ◌++◌, ◌≡◌, eqb, ltb}
-use Rattle.std.specs.Prelude.{length, take, drop}
-use Rattle.rows.specs.declared.Finding.{Finding}
+use Rattle.std.specs.Prelude.{ℕ, suc, ◌+◌, ◌^◌, ◌<◌, Bool, true, ◌&&◌, List, [], ◌∷◌, ◌++◌, ◌≡◌, eqb, ltb}
+use Rattle.std.specs.Prelude.{length, take, drop, Ok, Err, is_ok}
+use Rattle.rows.specs.Values.{Finding}
 use Rattle.rows.specs.declared.Refusal.{Refusal}
 use Rattle.kinds.specs.Kinds.{width_of}
 use Rattle.elements.specs.Elements.{element_check}
@@ -33,8 +33,8 @@ found_in f i = naming f.code i f.bit
 -- a refused element refuses, naming its object and bit; else the rest decides
 infixr 5 ◌of◌⨾◌
 abbrev pub ◌of◌⨾◌ : {A : Type 0} → Finding → ℕ → Verdict A → Verdict A
-Finding.Accepted of i ⨾ rest = rest
-Finding.Refused f of i ⨾ rest = refused (found_in f i)
+(Ok tt) of i ⨾ rest = rest
+(Err f) of i ⨾ rest = refused (found_in f i)
 
 -- how many bytes all elements take
 abbrev pub widths : List Kind → ℕ
@@ -82,13 +82,9 @@ read_image p b =
 
 -- ---- what an image may hold: "any other value is refused"
 
-abbrev pub is_accepted : Finding → Bool
-is_accepted Finding.Accepted = true
-is_accepted (Finding.Refused r) = false
-
 -- the number fits the kind's bytes and is an element of it
 abbrev pub admits : Kind → ℕ → Bool
-admits k w = ltb w (256 ^ width_of k) && is_accepted (element k w)
+admits k w = ltb w (256 ^ width_of k) && is_ok (element k w)
 
 -- the lists are equally long, and the test holds at each place
 pub data Every {A B : Type 0} (test : A → B → Bool) : List A → List B → Type 0 where

@@ -6,6 +6,7 @@ use mathlib.Core.List.{List, [], map}
 use Prim.Native.Nat.{ℕ, ◌<◌}
 use lib.Dec.{lit<}
 use lib.ListN.{length, get_or}
+use Rattle.std.proofs.Common.{Some}
 use Rattle.rows.specs.Rows.{cells, layouts}
 use Rattle.rows.specs.Values.{padded, values_of}
 use Rattle.rows.proofs.Listed.{listed_from}
@@ -19,7 +20,6 @@ use Rattle.states.proofs.StateLaws.{control_boundary_listed, control_boundary_ba
 use Rattle.kinds.specs.Kinds.{kinds, place, layout_no, rows_of, find_by_number, element_of, element_values, kind_in}
 use Rattle.kinds.specs.declared.Kind.{Kind}
 use Rattle.kinds.specs.declared.Element.{Element}
-use Rattle.kinds.specs.declared.OptionalKind.{OptionalKind}
 
 -- two functions that agree on the list of all kinds agree on each, so a table with a line for
 -- each kind is one computation
@@ -52,7 +52,7 @@ placed Kind.GeneralNotices = lit< tt
 placed Kind.ControlBoundary = lit< tt
 placed Kind.SignalV3 = lit< tt
 
-pub kind_found : (k : Kind) → find_by_number (layout_no k) ≡ OptionalKind.Some k
+pub kind_found : (k : Kind) → find_by_number (layout_no k) ≡ Some k
 unfolding layouts
 kind_found Kind.Signal = refl
 kind_found Kind.ChangerSignal = refl

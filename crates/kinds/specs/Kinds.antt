@@ -1,7 +1,7 @@
 -- The kinds of element, one for each layout; the layout of each;
 -- the state of any kind, from its fields' values and back.
 -- Written by catalogue/write.py.
-use Rattle.std.specs.Prelude.{cond, List, [], ◌∷◌, map, ℕ, eqb}
+use Rattle.std.specs.Prelude.{cond, List, [], ◌∷◌, map, ℕ, eqb, Option, Some, None}
 use Rattle.rows.specs.Rows.{Row, layout_at}
 use Rattle.rows.specs.Covering.{layout_rows}
 use Rattle.rows.specs.declared.Layout.{Layout}
@@ -14,7 +14,6 @@ use Rattle.states.specs.States.{general_notices_values, control_boundary_of, con
 use Rattle.states.specs.States.{signal_v3_values}
 use Rattle.kinds.specs.declared.Kind.{Kind}
 use Rattle.kinds.specs.declared.Element.{Element}
-use Rattle.kinds.specs.declared.OptionalKind.{OptionalKind}
 
 abbrev pub kinds : List Kind
 kinds =
@@ -58,15 +57,15 @@ abbrev pub kind_line : ℕ → Kind → KindLine
 kind_line number kind = record { number = number; kind = kind }
 
 -- the kind that a number stands for, by the first line that has it
-abbrev pub find_in : ℕ → List KindLine → OptionalKind
-find_in n [] = OptionalKind.None
-find_in n (l ∷ ls) = cond (eqb n l.number) (OptionalKind.Some l.kind) (find_in n ls)
+abbrev pub find_in : ℕ → List KindLine → Option Kind
+find_in n [] = None
+find_in n (l ∷ ls) = cond (eqb n l.number) (Some l.kind) (find_in n ls)
 
 -- a line for each kind, with the number of its layout
 abbrev pub kind_lines : List KindLine
 kind_lines = map (λ (k : Kind). kind_line (layout_no k) k) kinds
 
-abbrev pub find_by_number : ℕ → OptionalKind
+abbrev pub find_by_number : ℕ → Option Kind
 find_by_number n = find_in n kind_lines
 
 abbrev pub element_of : Kind → List ℕ → Element

@@ -16,7 +16,7 @@ use states::{
 };
 
 // The kinds of element that are carried.
-#[derive(Clone, Copy)]
+#[derive(Clone, Copy, PartialEq, Eq)]
 pub enum Kind {
     Signal,
     ChangerSignal,
@@ -47,13 +47,6 @@ pub enum Element {
     GeneralNotices(GeneralNotices),
     ControlBoundary(ControlBoundary),
     SignalV3(SignalV3),
-}
-
-// What a number stands for: a kind that is carried, or none.
-#[derive(Clone, Copy)]
-pub enum OptionalKind {
-    Some(Kind),
-    None,
 }
 
 // What a glance at an element gives: its number, and whether each field is shown to have a listed value.
@@ -255,23 +248,23 @@ fn glance_by(s: &[u8], at: usize, kind: Kind, width: usize) -> Glance
 
 // The kind whose layout has this number, if there is one.
 #[tactic(auto, unfolding(rows::specs::Rows::layouts))]
-pub fn find_by_number(number: u8) -> OptionalKind
+pub fn find_by_number(number: u8) -> Option<Kind>
     ensures { result ≡ find_by_number number }
 {
     match number {
-        1 => return OptionalKind::Some(Kind::Signal),
-        2 => return OptionalKind::Some(Kind::ChangerSignal),
-        3 => return OptionalKind::Some(Kind::VirtualBoard),
-        4 => return OptionalKind::Some(Kind::LineTrackCircuit),
-        5 => return OptionalKind::Some(Kind::PointsTrackCircuit),
-        6 => return OptionalKind::Some(Kind::CrossingTrackCircuit),
-        7 => return OptionalKind::Some(Kind::DualDetection),
-        8 => return OptionalKind::Some(Kind::Points),
-        9 => return OptionalKind::Some(Kind::ElectricLock),
-        22 => return OptionalKind::Some(Kind::GeneralNotices),
-        23 => return OptionalKind::Some(Kind::ControlBoundary),
-        31 => return OptionalKind::Some(Kind::SignalV3),
-        _ => return OptionalKind::None,
+        1 => return Some(Kind::Signal),
+        2 => return Some(Kind::ChangerSignal),
+        3 => return Some(Kind::VirtualBoard),
+        4 => return Some(Kind::LineTrackCircuit),
+        5 => return Some(Kind::PointsTrackCircuit),
+        6 => return Some(Kind::CrossingTrackCircuit),
+        7 => return Some(Kind::DualDetection),
+        8 => return Some(Kind::Points),
+        9 => return Some(Kind::ElectricLock),
+        22 => return Some(Kind::GeneralNotices),
+        23 => return Some(Kind::ControlBoundary),
+        31 => return Some(Kind::SignalV3),
+        _ => return None,
     }
 }
 

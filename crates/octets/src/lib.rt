@@ -79,9 +79,5 @@ pub fn copy(part: &mut [u8], from: &[u8])
     requires { length part.old ≡ length from.now }
     ensures { part.new ≡ from.now }
 {
-    let mut i = 0;
-    while i < from.len() {
-        part[i] = from[i];
-        i += 1;
-    }
+    part.copy_from_slice(from);
 }

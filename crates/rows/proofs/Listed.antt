@@ -13,8 +13,8 @@ use lib.ListN.{length, get_or, length-append, get_or-eq_default}
 use lib.Seq.{get_or-append_seam, append_snoc}
 use Rattle.rows.specs.Rows.{Row}
 use Rattle.rows.specs.Values.{code_at, field_of, field_read, on_field, check_rows, values_of, compose_of, bit_no}
-use Rattle.rows.specs.declared.Field.{Field}
-use Rattle.rows.specs.declared.Finding.{Finding}
+use Rattle.rows.specs.Values.{Finding}
+use Rattle.std.proofs.Common.{Ok, Err}
 use Rattle.rows.specs.declared.Refusal.{Refusal}
 use Rattle.rows.proofs.Tests.{both_left, both_right}
 use Rattle.rows.proofs.Words.{Within}
@@ -54,27 +54,27 @@ listed_from_lem (r ∷ rs) pre (u ∷ us) post h =
     ∙ listed_from_lem rs (pre ++ (u ∷ [])) us post h.1)
 
 -- a number is accepted exactly if each field's value is one that its row admits
-within_step : (w : ℕ) (r : Row) (next : Finding) → on_field (field_read w r) next ≡ Finding.Accepted
-    → (field_of w r ≤ r.top) × (next ≡ Finding.Accepted)
+within_step : (w : ℕ) (r : Row) (next : Finding) → on_field (field_read w r) next ≡ Ok tt
+    → (field_of w r ≤ r.top) × (next ≡ Ok tt)
 within_step w r next = go (leb (field_of w r) r.top) refl
   where
     go : (b : Bool) → leb (field_of w r) r.top ≡ b
-        → on_field (cond b (Field.Value (field_of w r))
-        (Field.Refused (code_at (cond (eqb r.top 0) 10 11) r.low))) next
-        ≡ Finding.Accepted
-        → (field_of w r ≤ r.top) × (next ≡ Finding.Accepted)
+        → on_field (cond b (Ok (field_of w r))
+        (Err (code_at (cond (eqb r.top 0) 10 11) r.low))) next
+        ≡ Ok tt
+        → (field_of w r ≤ r.top) × (next ≡ Ok tt)
     go true e h = (leb-true _ _ e, h)
     go false e h = let z : ◌≡◌ {A = ℕ} 0 1 = cc in absurd (omega arith)
 
-pub accepted_within : (w : ℕ) (rs : List Row) → check_rows w rs ≡ Finding.Accepted → Within rs (values_of w rs)
+pub accepted_within : (w : ℕ) (rs : List Row) → check_rows w rs ≡ Ok tt → Within rs (values_of w rs)
 accepted_within w [] e = tt
 accepted_within w (r ∷ rs) e = let s = within_step w r (check_rows w rs) e in (s.0, accepted_within w rs s.1)
 
-pub within_accepted : (w : ℕ) (rs : List Row) → Within rs (values_of w rs) → check_rows w rs ≡ Finding.Accepted
+pub within_accepted : (w : ℕ) (rs : List Row) → Within rs (values_of w rs) → check_rows w rs ≡ Ok tt
 within_accepted w [] h = refl
 within_accepted w (r ∷ rs) h =
     ap (λ (b : Bool). on_field
-    (cond b (Field.Value (field_of w r)) (Field.Refused (code_at (cond (eqb r.top 0) 10 11) r.low)))
+    (cond b (Ok (field_of w r)) (Err (code_at (cond (eqb r.top 0) 10 11) r.low)))
     (check_rows w rs))
     (le-leb _ _ h.0)
     ∙ within_accepted w rs h.1
@@ -91,14 +91,14 @@ pub record FirstUnlisted (w : ℕ) (rs : List Row) (x : Refusal) : Type 0 where
   pub unlisted : row.top < field_of w row
   pub told : x ≡ code_at (cond (eqb row.top 0) 10 11) row.low
 
-pub names_first : (w : ℕ) (rs : List Row) {x : Refusal} → check_rows w rs ≡ Finding.Refused x → FirstUnlisted w rs x
+pub names_first : (w : ℕ) (rs : List Row) {x : Refusal} → check_rows w rs ≡ Err x → FirstUnlisted w rs x
 names_first w [] e = absurd (let z : ◌≡◌ {A = ℕ} 0 1 = cc in omega arith)
 names_first w (r ∷ rs) {x} e = go (leb (field_of w r) r.top) refl (names_first w rs) e
   where
-    go : (b : Bool) → leb (field_of w r) r.top ≡ b → (check_rows w rs ≡ Finding.Refused x → FirstUnlisted w rs x)
-        → on_field (cond b (Field.Value (field_of w r)) (Field.Refused (code_at (cond (eqb r.top 0) 10 11) r.low)))
+    go : (b : Bool) → leb (field_of w r) r.top ≡ b → (check_rows w rs ≡ Err x → FirstUnlisted w rs x)
+        → on_field (cond b (Ok (field_of w r)) (Err (code_at (cond (eqb r.top 0) 10 11) r.low)))
         (check_rows w rs)
-        ≡ Finding.Refused x
+        ≡ Err x
         → FirstUnlisted w (r ∷ rs) x
     go false t later e =
         record { below = []; row = r; above = rs; parts = refl; listed = tt; unlisted = leb-false _ _ t; told = cc }
@@ -115,11 +115,11 @@ names_first w (r ∷ rs) {x} e = go (leb (field_of w r) r.top) refl (names_first
         }
 
 refuses_at : (w : ℕ) (bs : List Row) (r : Row) (as' : List Row) → Within bs (values_of w bs) → r.top < field_of w r
-    → check_rows w (bs ++ (r ∷ as')) ≡ Finding.Refused (code_at (cond (eqb r.top 0) 10 11) r.low)
+    → check_rows w (bs ++ (r ∷ as')) ≡ Err (code_at (cond (eqb r.top 0) 10 11) r.low)
 refuses_at w [] r as' h u = rw (lt-leb (field_of w r) r.top u)
 refuses_at w (b ∷ bs) r as' h u = rw (le-leb (field_of w b) b.top h.0) (refuses_at w bs r as' h.1 u)
 
-pub refuses_first : (w : ℕ) (rs : List Row) {x : Refusal} → FirstUnlisted w rs x → check_rows w rs ≡ Finding.Refused x
+pub refuses_first : (w : ℕ) (rs : List Row) {x : Refusal} → FirstUnlisted w rs x → check_rows w rs ≡ Err x
 refuses_first w rs q = rw (q.parts, q.told) (refuses_at w q.below q.row q.above q.listed q.unlisted)
 
 -- every field of the number 0 is 0, which every row admits
@@ -128,7 +128,7 @@ zero_within [] = tt
 zero_within (r ∷ rs) =
     (rw (zero-div (2 ^ r.low), zero-mod (2 ^ r.width)) zero-le, zero_within rs)
 
-pub zero_accepted : (rs : List Row) → check_rows 0 rs ≡ Finding.Accepted
+pub zero_accepted : (rs : List Row) → check_rows 0 rs ≡ Ok tt
 zero_accepted rs = within_accepted 0 rs (zero_within rs)
 
 -- what follows the values doesn't matter

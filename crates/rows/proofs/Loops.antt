@@ -5,18 +5,18 @@ use mathlib.Core.Bool.{Bool, true, false, cond}
 use mathlib.Core.List.{List, [], ◌∷◌, ◌++◌}
 use Prim.Native.Nat.{ℕ, zero, suc, ◌+◌, ◌-◌, ◌*◌, ◌%◌, ◌^◌, ◌<◌, ◌≤◌}
 use native.Mathlib.Omega.{arith}
-use native.Mathlib.Nat.{add-zero, zero-add, add-suc, suc-add, mod-eq_of_lt}
+use native.Mathlib.Nat.{add-zero, add-suc, suc-add, mod-eq_of_lt}
 use native.Mathlib.Numerals.{add-one}
 use lib.Dec.{leb, eqb}
 use lib.ListN.{length, get_or, set, drop, replicate, length-append}
 use borrow.Author.Tests.{eq-eqb, ne_eqb}
 use lib.Seq.{set-append_seam, append_snoc, drop-cons}
 use Rattle.rows.specs.Rows.{Row, row_total, row_at, rows_from, number_at}
-use Rattle.rows.specs.Values.{field_of, field_read, on_field, finding_of, check_rows, values_of, compose_of, filled}
+use Rattle.rows.specs.Values.{field_of, field_read, on_field, check_rows, values_of, compose_of, filled}
 use Rattle.rows.specs.Values.{padded, on_finding, values_read, bearing}
 use Rattle.rows.specs.declared.Refusal.{Refusal}
-use Rattle.rows.specs.declared.Field.{Field}
-use Rattle.rows.specs.declared.Finding.{Finding}
+use Rattle.rows.specs.Values.{Finding}
+use Rattle.std.proofs.Common.{Result, Ok, Err}
 
 rows_snoc : (n i : ℕ) → rows_from i (suc n) ≡ rows_from i n ++ (row_at (i + n) ∷ [])
 rows_snoc zero i = ap (λ (k : ℕ). row_at k ∷ []) (sym (add-zero i))
@@ -52,11 +52,11 @@ rows_next first count k h =
     let e' : suc (first + k) ≡ first + (k + 1) = omega arith in
     ap (λ (n : ℕ). rows_from (first + k) n) e ∙ ap (λ (i : ℕ). row_at (first + k) ∷ rows_from i (count - (k + 1))) e'
 
-picked : (b : Bool) (x v : ℕ) (r : Refusal) → cond b (Field.Value x) (Field.Refused r) ≡ Field.Value v → v ≡ x
+picked : (b : Bool) (x v : ℕ) (r : Refusal) → cond b (Ok x) (Err r) ≡ Ok v → v ≡ x
 picked true x v r e = cc
 picked false x v r e = let z : ◌≡◌ {A = ℕ} 0 1 = cc in omega arith
 
-value_is : (w : ℕ) (r : Row) (v : ℕ) → field_read w r ≡ Field.Value v → v ≡ field_of w r
+value_is : (w : ℕ) (r : Row) (v : ℕ) → field_read w r ≡ Ok v → v ≡ field_of w r
 value_is w r v e = picked (leb (field_of w r) r.top) (field_of w r) v _ e
 
 -- what both loops over fields keep: the rows to come decide what is found
@@ -64,15 +64,16 @@ pub record Checking (w : ℕ) (all rest : List Row) : Type 0 where
   pub to_come : check_rows w all ≡ check_rows w rest
 
 -- once the field f of the next row has been read
-module _ {w : ℕ} {all rest more : List Row} {r : Row} (c : Checking w all rest) (e : rest ≡ r ∷ more) {f : Field}
+module _ {w : ℕ} {all rest more : List Row} {r : Row} (c : Checking w all rest) (e : rest ≡ r ∷ more)
+    {f : Result ℕ Refusal}
     (q : f ≡ field_read w r) where
-  next : {g : Field} → f ≡ g → check_rows w all ≡ on_field g (check_rows w more)
-  next t = c.to_come ∙ ap (check_rows w) e ∙ ap (λ (f : Field). on_field f (check_rows w more)) (sym q ∙ t)
+  next : {g : Result ℕ Refusal} → f ≡ g → check_rows w all ≡ on_field g (check_rows w more)
+  next t = c.to_come ∙ ap (check_rows w) e ∙ ap (λ (f : Result ℕ Refusal). on_field f (check_rows w more)) (sym q ∙ t)
 
-  pub goes_on : {v : ℕ} → f ≡ Field.Value v → Checking w all more
+  pub goes_on : {v : ℕ} → f ≡ Ok v → Checking w all more
   goes_on t = record { to_come = next t }
 
-pub checked : {w : ℕ} {all rest : List Row} → Checking w all rest → rest ≡ [] → Finding.Accepted ≡ check_rows w all
+pub checked : {w : ℕ} {all rest : List Row} → Checking w all rest → rest ≡ [] → Ok tt ≡ check_rows w all
 checked {w} c e = sym (c.to_come ∙ ap (check_rows w) e)
 
 -- the rows from i on that have this number: row i and those after it, or none
@@ -98,10 +99,11 @@ module _ (number i : ℕ) where
       ap (bearing number i) z
 
   -- the next row's field is refused
-  pub stops : {w n : ℕ} {all : List Row} {f : Field} {x : Refusal} → Checking w all (bearing number i (row_total - i))
+  pub stops : {w n : ℕ} {all : List Row} {f : Result ℕ Refusal} {x : Refusal}
+      → Checking w all (bearing number i (row_total - i))
       → i < row_total → n ≡ number_at i → n ≡ number
-      → f ≡ field_read w (row_at i) → f ≡ Field.Refused x → finding_of f ≡ check_rows w all
-  stops c h is e q t = ap finding_of t ∙ sym (next c (bears_next h is e) q t)
+      → f ≡ field_read w (row_at i) → f ≡ Err x → Err x ≡ check_rows w all
+  stops c h is e q t = sym (next c (bears_next h is e) q t)
 
 -- what the reading loop keeps: the values so far, and that the rows to come decide
 pub record Reading (w first count : ℕ) (values : List ℕ) (k : ℕ) : Type 0 where
@@ -109,19 +111,9 @@ pub record Reading (w first count : ℕ) (values : List ℕ) (k : ℕ) : Type 0 
   pub checking : Checking w (rows_from first count) (rows_from (first + k) (count - k))
   pub so_far : values ≡ padded (values_of w (rows_from first k))
 
-pub starts : (w first count : ℕ) → Reading w first count (replicate 24 0) 0
-starts w first count =
-    let e : first + 0 ≡ first = omega arith in
-    let e' : count - 0 ≡ count = omega arith in
-    record {
-      bound = omega arith;
-      checking = record { to_come = ap₂ (λ (i n : ℕ). check_rows w (rows_from i n)) (sym e) (sym e') };
-      so_far = refl;
-    }
-
 pub turn : {w first count : ℕ} {values : List ℕ} {k : ℕ} → Reading w first count values k → k < count → count ≤ 24
-    → {f : Field} → f ≡ field_read w (row_at (first + k))
-    → {v : ℕ} → f ≡ Field.Value v → Reading w first count (set values k v) (k + 1)
+    → {f : Result ℕ Refusal} → f ≡ field_read w (row_at (first + k))
+    → {v : ℕ} → f ≡ Ok v → Reading w first count (set values k v) (k + 1)
 turn {w} {first} {count} {values} {k} r h small q {v} t =
     let n = values_length w k first in
     let xs = values_of w (rows_from first k) in
@@ -141,8 +133,9 @@ turn {w} {first} {count} {values} {k} r h small q {v} t =
 chosen : ℕ → List Row → Finding → List ℕ
 chosen w rs v = on_finding v (padded (values_of w rs)) (λ r. replicate 24 0)
 
-pub refused : {w first count : ℕ} {values : List ℕ} {k : ℕ} → Reading w first count values k → k < count → {f : Field}
-    → f ≡ field_read w (row_at (first + k)) → {x : Refusal} → f ≡ Field.Refused x
+pub refused : {w first count : ℕ} {values : List ℕ} {k : ℕ} → Reading w first count values k → k < count
+    → {f : Result ℕ Refusal}
+    → f ≡ field_read w (row_at (first + k)) → {x : Refusal} → f ≡ Err x
     → replicate 24 0 ≡ values_read w (rows_from first count)
 unfolding chosen
 refused {w} {first} {count} {values} {k} r h q t =
@@ -162,12 +155,6 @@ ends {w} {first} {count} {values} {k} r h =
 pub record Composing (vs : List ℕ) (first count word k : ℕ) : Type 0 where
   pub bound : k ≤ count
   pub whole : word + compose_of (rows_from (first + k) (count - k)) (drop k vs) ≡ compose_of (rows_from first count) vs
-
-pub compose_starts : (vs : List ℕ) (first count : ℕ) → Composing vs first count 0 0
-compose_starts vs first count =
-    let e : first + 0 ≡ first = omega arith in
-    let e' : count - 0 ≡ count = omega arith in
-    record { bound = omega arith; whole = zero-add _ ∙ ap₂ (λ (i n : ℕ). compose_of (rows_from i n) vs) e e' }
 
 -- once the next row's lowest bit has been read: the machine's shift loses nothing, since the
 -- sum is below 2^32, and the next turn

@@ -5,7 +5,7 @@ use Rattle.std.specs.Prelude.{◌≡◌, Bool, true, ◌&&◌, ◌||◌, List, [
 use Rattle.std.specs.Int.Bits.{bit_and, bit_xor}
 use Rattle.rows.specs.Rows.{Row}
 use Rattle.rows.specs.Values.{check_rows}
-use Rattle.rows.specs.declared.Finding.{Finding}
+use Rattle.std.specs.Prelude.{Ok}
 
 -- the row admits every value that its field can hold
 abbrev pub admits_all : Row → Bool
@@ -27,4 +27,4 @@ carries_none add carry w = eqb (bit_and (bit_xor (bit_xor (w + add) w) add) carr
 -- what a glance says: that each field has a listed value, or nothing. One direction is enough:
 -- where it says nothing, the rows decide.
 pub record Shows (rs : List Row) (w : ℕ) (listed : Bool) : Type 0 where
-  pub accepted : listed ≡ true → check_rows w rs ≡ Finding.Accepted
+  pub accepted : listed ≡ true → check_rows w rs ≡ Ok tt

@@ -4,8 +4,7 @@ use Rattle.std.specs.Prelude.{Bool, true, false, cond, List, [], ◌∷◌, ◌+
 use Rattle.std.specs.Prelude.{leb, eqb, length, replicate}
 use Rattle.rows.specs.Rows.{Row, row_at, number_at}
 use Rattle.rows.specs.declared.Refusal.{Refusal}
-use Rattle.rows.specs.declared.Field.{Field}
-use Rattle.rows.specs.declared.Finding.{Finding}
+use Rattle.std.specs.Prelude.{Result, Ok, Err}
 
 -- the value of a row's field in the number w: bit k weighs 2^k, the highest bit of a field is its most significant
 abbrev pub field_of : ℕ → Row → ℕ
@@ -14,21 +13,25 @@ field_of w r = w / 2 ^ r.low % 2 ^ r.width
 abbrev pub code_at : ℕ → ℕ → Refusal
 code_at code bit = record { code = code; bit = bit }
 
+-- what is found of an element: accepted, or refused
+abbrev pub Finding : Type 0
+Finding = Result (Unit {0}) Refusal
+
 -- one field: its value, or 10 (reserved bit 1) or 11 (value not listed) with the field's lowest bit
-abbrev pub field_read : ℕ → Row → Field
+abbrev pub field_read : ℕ → Row → Result ℕ Refusal
 field_read w r =
     cond (leb (field_of w r) r.top)
-    (Field.Value (field_of w r))
-    (Field.Refused (code_at (cond (eqb r.top 0) 10 11) r.low))
+    (Ok (field_of w r))
+    (Err (code_at (cond (eqb r.top 0) 10 11) r.low))
 
 -- a refused field is the answer at once
-abbrev pub on_field : Field → Finding → Finding
-on_field (Field.Value v) rest = rest
-on_field (Field.Refused r) rest = Finding.Refused r
+abbrev pub on_field : Result ℕ Refusal → Finding → Finding
+on_field (Ok v) rest = rest
+on_field (Err r) rest = Err r
 
 -- the fields from bit 0 up: the first that is refused
 abbrev pub check_rows : ℕ → List Row → Finding
-check_rows w [] = Finding.Accepted
+check_rows w [] = Ok tt
 check_rows w (r ∷ rs) = on_field (field_read w r) (check_rows w rs)
 
 -- the rows that the check of a number reads: at most n from row i on, as long as they have the layout's number
@@ -54,16 +57,12 @@ abbrev pub padded : List ℕ → List ℕ
 padded vs = filled 24 vs
 
 abbrev pub on_finding : {A : Type 0} → Finding → A → (Refusal → A) → A
-on_finding Finding.Accepted good bad = good
-on_finding (Finding.Refused r) good bad = bad r
+on_finding (Ok tt) good bad = good
+on_finding (Err r) good bad = bad r
 
 -- the values as they are read: all zeros if a field is refused
 abbrev pub values_read : ℕ → List Row → List ℕ
 values_read w rs = on_finding (check_rows w rs) (padded (values_of w rs)) (λ r. replicate 24 0)
-
--- what is found of one field
-abbrev pub finding_of : Field → Finding
-finding_of f = on_field f Finding.Accepted
 
 -- a bit as a number
 abbrev pub bit_no : Bool → ℕ

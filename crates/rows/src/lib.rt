@@ -7,7 +7,7 @@ mod catalogue;
 
 ghost use Rattle.std.specs.Prelude.{◌≡◌, ◌<◌, ◌≤◌, ◌+◌, ◌-◌, ◌*◌};
 ghost use Rattle.rows.specs.Rows.{cells, row_total, cell_at, row_at, rows_from};
-ghost use Rattle.rows.specs.Values.{field_read, finding_of, check_rows, values_read, compose_of, bearing};
+ghost use Rattle.rows.specs.Values.{field_read, check_rows, values_read, compose_of, bearing};
 ghost use Rattle.rows.specs.Marks.{carries_none};
 
 pub use catalogue::Cells;
@@ -38,20 +38,6 @@ pub struct Refusal {
     pub bit: u8,
 }
 
-// What reading one field gives.
-#[derive(Clone, Copy)]
-pub enum Field {
-    Value(u32),
-    Refused(Refusal),
-}
-
-// What checking an element finds.
-#[derive(Clone, Copy)]
-pub enum Finding {
-    Accepted,
-    Refused(Refusal),
-}
-
 // The rows' numbers. Whoever reads many rows takes them once, since a constant is copied wherever it is named.
 pub fn cells() -> Cells
     ensures { result ≡ cells }
@@ -68,7 +54,7 @@ pub fn cell(rows: &Cells, place: usize) -> u8
 }
 
 // The field of an element's number that a row describes.
-fn read_field(rows: &Cells, word: u32, row: usize) -> Field
+fn read_field(rows: &Cells, word: u32, row: usize) -> Result<u32, Refusal>
     requires { (rows.now ≡ cells) × (row < row_total) }
     ensures { result ≡ field_read word (row_at row) }
 {
@@ -77,22 +63,12 @@ fn read_field(rows: &Cells, word: u32, row: usize) -> Field
     let top = cell(rows, 4 * row + 3);
     let value = (word >> low) % (1u32 << width);
     if value <= top as u32 {
-        return Field::Value(value);
+        return Ok(value);
     }
     if top == 0 {
-        Field::Refused(Refusal { code: 10, bit: low })
+        Err(Refusal { code: 10, bit: low })
     } else {
-        Field::Refused(Refusal { code: 11, bit: low })
-    }
-}
-
-// What is found of one field.
-fn finding_of(field: Field) -> Finding
-    ensures { result ≡ finding_of field }
-{
-    match field {
-        Field::Value(_) => Finding::Accepted,
-        Field::Refused(r) => Finding::Refused(r),
+        Err(Refusal { code: 11, bit: low })
     }
 }
 
@@ -103,36 +79,28 @@ pub fn read_rows(word: u32, first: usize, count: usize) -> [u32; 24]
 {
     let rows = cells();
     let mut values = [0u32; 24];
-    let mut k: usize = 0;
-    while k < count {
-        let field = read_field(&rows, word, first + k);
-        let Field::Value(value) = field else {
+    for k in 0..count {
+        let Ok(value) = read_field(&rows, word, first + k) else {
             return [0u32; 24];
         };
         values[k] = value;
-        k += 1;
     }
     values
 }
 
 // What is found of an element's number by its layout: the rows from the first on, as long as
 // they have the layout's number.
-pub fn check_rows(word: u32, number: u8, first: usize) -> Finding
+pub fn check_rows(word: u32, number: u8, first: usize) -> Result<(), Refusal>
     ensures { result ≡ check_rows word (bearing number first (row_total - first)) }
 {
     let rows = cells();
-    let mut row = first;
-    while row < ROW_TOTAL {
+    for row in first..ROW_TOTAL {
         if cell(&rows, 4 * row) != number {
-            return Finding::Accepted;
+            return Ok(());
         }
-        let field = read_field(&rows, word, row);
-        let Field::Value(_) = field else {
-            return finding_of(field);
-        };
-        row += 1;
+        read_field(&rows, word, row)?;
     }
-    Finding::Accepted
+    Ok(())
 }
 
 // Whether adding the marks to an element's number carries nothing into a marked bit. With the marks of its rows, each
@@ -153,11 +121,9 @@ pub fn compose_rows(values: [u32; 24], first: usize, count: usize) -> u32
 {
     let rows = cells();
     let mut word: u32 = 0;
-    let mut k: usize = 0;
-    while k < count {
+    for k in 0..count {
         let low = cell(&rows, 4 * (first + k) + 1);
         word += values[k] << low;
-        k += 1;
     }
     word
 }

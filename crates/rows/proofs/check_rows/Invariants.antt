@@ -9,6 +9,3 @@ use Rattle.rows.proofs.check_rows.Given as goal
 abbrev pub invariant-loop-row : goal.invariant-loop-row
 invariant-loop-row l =
     Checking l.word (bearing l.number l.first (row_total - l.first)) (bearing l.number l.row (row_total - l.row))
-
-abbrev pub decreases-loop-row : goal.decreases-loop-row
-decreases-loop-row l = row_total - l.row

@@ -2,14 +2,8 @@
 -- Assumes nothing.
 use native.Mathlib.Omega.{arith}
 use Rattle.rows.proofs.Covering.{low_small}
-use Rattle.rows.proofs.Loops.{compose_starts, compose_fits, compose_turn, compose_ends}
+use Rattle.rows.proofs.Loops.{compose_fits, compose_turn, compose_ends}
 use Rattle.rows.proofs.compose_rows.Goals as goal
-
-pub loop-k-init : goal.loop-k-init
-loop-k-init c = compose_starts _ _ _
-
-pub cell-low-requires : goal.cell-low-requires
-cell-low-requires c = (search, omega arith)
 
 pub overflow_shl-word : goal.overflow_shl-word
 overflow_shl-word c = low_small _ (omega arith) c.cell-low.ensures

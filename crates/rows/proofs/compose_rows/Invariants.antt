@@ -1,11 +1,7 @@
 -- `rows::compose_rows` meets its contract: the sum so far and what is to come make up the whole.
 -- Assumes nothing.
-use Prim.Native.Nat.{◌-◌}
 use Rattle.rows.proofs.Loops.{Composing}
 use Rattle.rows.proofs.compose_rows.Given as goal
 
 abbrev pub invariant-loop-k : goal.invariant-loop-k
 invariant-loop-k l = Composing l.values l.first l.count l.word l.k
-
-abbrev pub decreases-loop-k : goal.decreases-loop-k
-decreases-loop-k l = l.count - l.k

@@ -1,12 +1,12 @@
 -- `rows::read_field` meets its contract: the machine's shifts and remainder are the field's value.
 -- Assumes nothing.
+use Rattle.std.proofs.Common.{Ok, Err}
 use borrow.Author.Tests.{le-leb, lt-leb, eq-eqb, ne_eqb}
 use mathlib.Core.Path.{◌≡◌, ◌∙◌, sym}
 use Prim.Native.Nat.{ℕ, ◌*◌, ◌/◌, ◌%◌, ◌^◌, ◌<◌, ◌≤◌}
 use lib.Pow.{pow_pos}
 use Rattle.rows.specs.Rows.{row_at, row_total}
 use Rattle.rows.specs.Values.{code_at, field_of, field_read}
-use Rattle.rows.specs.declared.Field.{Field}
 use Rattle.rows.proofs.Rows.{one_shl}
 use Rattle.rows.proofs.Covering.{low_small, width_small}
 use Rattle.rows.proofs.read_field.Goals as goal
@@ -24,11 +24,11 @@ module _ (i : ℕ) (h : i < row_total) {d : ℕ} (ed : d ≡ (row_at i).width) w
     field_law = rw (shifted, el, ed)
 
     value_law : w / 2 ^ l % (1 * 2 ^ d % 4294967296) ≤ t
-        → Field.Value (w / 2 ^ l % (1 * 2 ^ d % 4294967296)) ≡ field_read w (row_at i)
+        → Ok (w / 2 ^ l % (1 * 2 ^ d % 4294967296)) ≡ field_read w (row_at i)
     value_law h = rw field_law (simp (le-leb (field_of w (row_at i)) (row_at i).top (rw (field_law, et) at h)))
 
     reserved_law : t < w / 2 ^ l % (1 * 2 ^ d % 4294967296) → t ≡ 0
-        → Field.Refused (code_at 10 l) ≡ field_read w (row_at i)
+        → Err (code_at 10 l) ≡ field_read w (row_at i)
     reserved_law h z =
         rw el (simp (
           lt-leb (field_of w (row_at i)) (row_at i).top (rw (field_law, et) at h),
@@ -36,7 +36,7 @@ module _ (i : ℕ) (h : i < row_total) {d : ℕ} (ed : d ≡ (row_at i).width) w
         ))
 
     unlisted_law : t < w / 2 ^ l % (1 * 2 ^ d % 4294967296) → (t ≡ 0 → ⊥)
-        → Field.Refused (code_at 11 l) ≡ field_read w (row_at i)
+        → Err (code_at 11 l) ≡ field_read w (row_at i)
     unlisted_law h z =
         rw el (simp (
           lt-leb (field_of w (row_at i)) (row_at i).top (rw (field_law, et) at h),

@@ -1,14 +1,7 @@
 -- `rows::read_rows` meets its contract: the values so far, and the rows to come decide what is found.
 -- Assumes nothing.
-use native.Mathlib.Omega.{arith}
-use Rattle.rows.proofs.Loops.{starts, turn, refused, ends}
+use Rattle.rows.proofs.Loops.{turn, refused, ends}
 use Rattle.rows.proofs.read_rows.Goals as goal
-
-pub loop-k-init : goal.loop-k-init
-loop-k-init c = starts _ _ _
-
-pub read_field-field-requires : goal.read_field-field-requires
-read_field-field-requires c = (search, omega arith)
 
 pub returns-in_default : goal.returns-in_default
 returns-in_default c = search refused

@@ -1,11 +1,7 @@
 -- `rows::read_rows` meets its contract: the values so far, and the rows to come decide what is found.
 -- Assumes nothing.
-use Prim.Native.Nat.{◌-◌}
 use Rattle.rows.proofs.Loops.{Reading}
 use Rattle.rows.proofs.read_rows.Given as goal
 
 abbrev pub invariant-loop-k : goal.invariant-loop-k
 invariant-loop-k l = Reading l.word l.first l.count l.values l.k
-
-abbrev pub decreases-loop-k : goal.decreases-loop-k
-decreases-loop-k l = l.count - l.k
