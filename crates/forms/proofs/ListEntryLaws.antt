@@ -26,7 +26,6 @@ use Rattle.history.specs.declared.Change.{Change}
 use Rattle.history.specs.declared.Change.TheVariants.{Keep as keep, Swap as swap}
 use Rattle.history.specs.Changes.{Entry, entry_of, read_number, read_elements, check_entry, read_entries}
 use Rattle.history.proofs.ListLaws.{entry_at, was_numbered, was_checked}
-use Rattle.tables.specs.Outlines.{kinds_of}
 use Rattle.forms.specs.ListEntries.{numbered, passed}
 use Rattle.forms.specs.declared.list.Numbered.{Numbered}
 use Rattle.forms.specs.declared.list.Passed.{Passed}
@@ -72,23 +71,23 @@ was_refused at (done e) a p = absurd (let z : ◌≡◌ {A = ℕ} 0 1 = cc in om
 
 -- ---- the number
 
-module _ (ns s : List ℕ) (at : ℕ) where
-  pub number_cut : length s - at < 2 → read_number (kinds_of ns) (drop at s) ≡ refusal 8
+module _ (ns : List Kind) (s : List ℕ) (at : ℕ) where
+  pub number_cut : length s - at < 2 → read_number ns (drop at s) ≡ refusal 8
   unfolding read_number
   number_cut h = rw (length-drop at s, lt-leb 2 (length s - at) h)
 
   module _ {i : ℕ} (two : 2 ≤ length s - at) (i-is : i ≡ number (take 2 (drop at s))) where
-    number_here : read_number (kinds_of ns) (drop at s) ≡ (refusal_at 13 i unless ltb i (length ns) ⨾ done i)
+    number_here : read_number ns (drop at s) ≡ (refusal_at 13 i unless ltb i (length ns) ⨾ done i)
     unfolding read_number
     number_here = rw (length-drop at s, le-leb 2 (length s - at) two, length_kinds ns, ← i-is)
 
-    pub beyond : length ns ≤ i → read_number (kinds_of ns) (drop at s) ≡ refusal_at 13 i
+    pub beyond : length ns ≤ i → read_number ns (drop at s) ≡ refusal_at 13 i
     beyond h = number_here ∙ rw (le-ltb i (length ns) h)
 
-    pub of_object : i < length ns → Numbered.Object i ≡ numbered (read_number (kinds_of ns) (drop at s))
+    pub of_object : i < length ns → Numbered.Object i ≡ numbered (read_number ns (drop at s))
     unfolding numbered
     of_object h =
-        let e : read_number (kinds_of ns) (drop at s) ≡ done i = number_here ∙ rw (lt-ltb i (length ns) h) in
+        let e : read_number ns (drop at s) ≡ done i = number_here ∙ rw (lt-ltb i (length ns) h) in
         sym (ap numbered e)
 
 -- ---- the elements
@@ -150,37 +149,37 @@ later low i v =
     refusal_at 15 i unless not (eqb e.old e.new) ⨾
     done e
 
-module _ (ns : List ℕ) (low : ℕ) (s : List ℕ) (at : ℕ) {n : Numbered}
-    (n-is : n ≡ numbered (read_number (kinds_of ns) (drop at s))) where
+module _ (ns : List Kind) (low : ℕ) (s : List ℕ) (at : ℕ) {n : Numbered}
+    (n-is : n ≡ numbered (read_number ns (drop at s))) where
   pub no_number : {a : Answer} → n ≡ Numbered.Refused a
-      → Passed.Refused a ≡ passed (at + 2) (check_entry (kinds_of ns) low (drop at s))
+      → Passed.Refused a ≡ passed (at + 2) (check_entry ns low (drop at s))
   no_number {a} e =
-      let q = was_numberless (read_number (kinds_of ns) (drop at s)) a (sym e ∙ n-is) in
-      refuses (at + 2) q.2 (number_refused (kinds_of ns) low (drop at s) q.1)
+      let q = was_numberless (read_number ns (drop at s)) a (sym e ∙ n-is) in
+      refuses (at + 2) q.2 (number_refused ns low (drop at s) q.1)
 
   module _ {i : ℕ} (e : n ≡ Numbered.Object i) where
-    number_read : read_number (kinds_of ns) (drop at s) ≡ done i
-    number_read = was_object (read_number (kinds_of ns) (drop at s)) i (sym e ∙ n-is)
+    number_read : read_number ns (drop at s) ≡ done i
+    number_read = was_object (read_number ns (drop at s)) i (sym e ∙ n-is)
 
     pub number_there : at + 2 ≤ length s
-    number_there = omega (arith, (was_numbered (kinds_of ns) (drop at s) number_read).two, length-drop at s)
+    number_there = omega (arith, (was_numbered ns (drop at s) number_read).two, length-drop at s)
 
     pub object_there : i < length ns
-    object_there = omega (arith, (was_numbered (kinds_of ns) (drop at s) number_read).inside, length_kinds ns)
+    object_there = omega (arith, (was_numbered ns (drop at s) number_read).inside, length_kinds ns)
 
-    by_number : {k : Kind} → k ≡ kind_at (kinds_of ns) i
-        → check_entry (kinds_of ns) low (drop at s) ≡ later low i (read_elements i k (drop (at + 2) s))
+    by_number : {k : Kind} → k ≡ kind_at ns i
+        → check_entry ns low (drop at s) ≡ later low i (read_elements i k (drop (at + 2) s))
     unfolding check_entry later
     by_number k-is = rw (number_read, drop-drop 2 at s, k-is)
 
-    pub falling : i < low → check_entry (kinds_of ns) low (drop at s) ≡ refusal_at 14 i
+    pub falling : i < low → check_entry ns low (drop at s) ≡ refusal_at 14 i
     unfolding later
     falling h = by_number refl ∙ rw (lt-leb low i h)
 
-    module _ (up : low ≤ i) {k : Kind} (k-is : k ≡ kind_at (kinds_of ns) i) {c : Passed}
+    module _ (up : low ≤ i) {k : Kind} (k-is : k ≡ kind_at ns i) {c : Passed}
         (c-is : c ≡ passed (at + 2) (read_elements i k (drop (at + 2) s))) where
       pub bad_elements : {a : Answer} → c ≡ Passed.Refused a
-          → c ≡ passed (at + 2) (check_entry (kinds_of ns) low (drop at s))
+          → c ≡ passed (at + 2) (check_entry ns low (drop at s))
       unfolding later
       bad_elements {a} p =
           let q = was_refused (at + 2) (read_elements i k (drop (at + 2) s)) a (sym p ∙ c-is) in
@@ -191,7 +190,7 @@ module _ (ns : List ℕ) (low : ℕ) (s : List ℕ) (at : ℕ) {n : Numbered}
             × (old ≡ e.old) × (new ≡ e.new) × (next ≡ at + 2 + width_of e.kind + width_of e.kind)
         elements_read = was_passed (at + 2) (read_elements i k (drop (at + 2) s)) object old new next (sym p ∙ c-is)
 
-        pub unchanged : old ≡ new → check_entry (kinds_of ns) low (drop at s) ≡ refusal_at 15 i
+        pub unchanged : old ≡ new → check_entry ns low (drop at s) ≡ refusal_at 15 i
         unfolding later
         unchanged h =
             let q = elements_read in
@@ -199,7 +198,7 @@ module _ (ns : List ℕ) (low : ℕ) (s : List ℕ) (at : ℕ) {n : Numbered}
             ∙ rw (le-leb low i up, eq-eqb q.0.old q.0.new (sym q.3 ∙ h ∙ q.4))
 
         pub changed : (old ≡ new → ⊥)
-            → Passed.Entry object old new next ≡ passed (at + 2) (check_entry (kinds_of ns) low (drop at s))
+            → Passed.Entry object old new next ≡ passed (at + 2) (check_entry ns low (drop at s))
         unfolding later
         changed h =
             let q = elements_read in
@@ -210,11 +209,11 @@ module _ (ns : List ℕ) (low : ℕ) (s : List ℕ) (at : ℕ) {n : Numbered}
 -- ---- the entries
 
 -- n entries are left, from `at` on, of objects not below low
-pub record Left (ns : List ℕ) (count : ℕ) (b : List ℕ) (n low at : ℕ) : Type 0 where
+pub record Left (ns : List Kind) (count : ℕ) (b : List ℕ) (n low at : ℕ) : Type 0 where
   pub inside : at ≤ length b
-  pub same : told (read_entries (kinds_of ns) 0 count b) ≡ told (read_entries (kinds_of ns) low n (drop at b))
+  pub same : told (read_entries ns 0 count b) ≡ told (read_entries ns low n (drop at b))
 
-pub begin : (ns : List ℕ) (count : ℕ) (b : List ℕ) → Left ns count b count 0 0
+pub begin : (ns : List Kind) (count : ℕ) (b : List ℕ) → Left ns count b count 0 0
 begin ns count b = record { inside = omega arith; same = refl }
 
 -- after an accepted entry: the others are read, and its change is put before theirs, which no answer tells
@@ -233,36 +232,36 @@ one_entry t low (suc n) b h = simp sub-one
 over : List Kind → ℕ → ℕ → Verdict (List Change)
 over t low m = refusal 8 unless eqb m 0 ⨾ done (replicate (length t - low) keep)
 
-module _ (ns : List ℕ) (low : ℕ) (b : List ℕ) (at : ℕ) {r : Passed}
-    (r-is : r ≡ passed (at + 2) (check_entry (kinds_of ns) low (drop at b))) {object old new next : ℕ}
+module _ (ns : List Kind) (low : ℕ) (b : List ℕ) (at : ℕ) {r : Passed}
+    (r-is : r ≡ passed (at + 2) (check_entry ns low (drop at b))) {object old new next : ℕ}
     (p : r ≡ Passed.Entry object old new next) where
-  passed_entry : (e : Entry) × (check_entry (kinds_of ns) low (drop at b) ≡ done e) × (object ≡ e.object)
+  passed_entry : (e : Entry) × (check_entry ns low (drop at b) ≡ done e) × (object ≡ e.object)
       × (old ≡ e.old) × (new ≡ e.new) × (next ≡ at + 2 + width_of e.kind + width_of e.kind)
-  passed_entry = was_passed (at + 2) (check_entry (kinds_of ns) low (drop at b)) object old new next (sym p ∙ r-is)
+  passed_entry = was_passed (at + 2) (check_entry ns low (drop at b)) object old new next (sym p ∙ r-is)
 
   pub number_inside : object < length ns
   number_inside =
       let q = passed_entry in
-      let k = was_checked (kinds_of ns) low (drop at b) q.1 in
+      let k = was_checked ns low (drop at b) q.1 in
       omega (arith, k.1.inside, length_kinds ns, q.2 ∙ ap (λ (e : Entry). e.object) (sym k.0))
 
-module _ {ns : List ℕ} {count : ℕ} {b : List ℕ} {n low at : ℕ} (l : Left ns count b n low at) where
-  module _ (more : 0 < n) {r : Passed} (r-is : r ≡ passed (at + 2) (check_entry (kinds_of ns) low (drop at b))) where
-    pub stops : {a : Answer} → r ≡ Passed.Refused a → a ≡ told (read_entries (kinds_of ns) 0 count b)
+module _ {ns : List Kind} {count : ℕ} {b : List ℕ} {n low at : ℕ} (l : Left ns count b n low at) where
+  module _ (more : 0 < n) {r : Passed} (r-is : r ≡ passed (at + 2) (check_entry ns low (drop at b))) where
+    pub stops : {a : Answer} → r ≡ Passed.Refused a → a ≡ told (read_entries ns 0 count b)
     stops {a} p =
-        let q = was_refused (at + 2) (check_entry (kinds_of ns) low (drop at b)) a (sym p ∙ r-is) in
-        q.2 ∙ told_refused (read_entries (kinds_of ns) low n (drop at b))
-        (one_entry (kinds_of ns) low n (drop at b) more
-        ∙ ap (λ (v : Verdict Entry). then v (after (kinds_of ns) low (n - 1))) q.1) refl
+        let q = was_refused (at + 2) (check_entry ns low (drop at b)) a (sym p ∙ r-is) in
+        q.2 ∙ told_refused (read_entries ns low n (drop at b))
+        (one_entry ns low n (drop at b) more
+        ∙ ap (λ (v : Verdict Entry). then v (after ns low (n - 1))) q.1) refl
         ∙ sym l.same
 
     pub goes_on : {object old new next : ℕ} → r ≡ Passed.Entry object old new next
         → Left ns count b (n - 1) (object + 1) next
     unfolding after
     goes_on {object} {old} {new} {next} p =
-        let E : Entry = entry_at (kinds_of ns) (drop at b) in
+        let E : Entry = entry_at ns (drop at b) in
         let q = passed_entry ns low b at r-is p in
-        let k = was_checked (kinds_of ns) low (drop at b) q.1 in
+        let k = was_checked ns low (drop at b) q.1 in
         let w : ℕ = width_of E.kind in
         let o : object ≡ E.object = q.2 ∙ ap (λ (e : Entry). e.object) (sym k.0) in
         let x : next ≡ at + 2 + w + w =
@@ -275,29 +274,29 @@ module _ {ns : List ℕ} {count : ℕ} {b : List ℕ} {n low at : ℕ} (l : Left
           inside = omega (arith, k.1.room, length-drop at b);
           same =
               l.same ∙ ap told
-              (one_entry (kinds_of ns) low n (drop at b) more
-              ∙ ap (λ (v : Verdict Entry). then v (after (kinds_of ns) low (n - 1)))
+              (one_entry ns low n (drop at b) more
+              ∙ ap (λ (v : Verdict Entry). then v (after ns low (n - 1)))
               (q.1 ∙ ap done (sym k.0)))
-              ∙ told_then (read_entries (kinds_of ns) (suc E.object) (n - 1) E.rest)
+              ∙ told_then (read_entries ns (suc E.object) (n - 1) E.rest)
               (λ cs. replicate (E.object - low) keep ++ (swap E.old E.new ∷ cs))
-              ∙ ap₂ (λ (m : ℕ) (c : List ℕ). told (read_entries (kinds_of ns) m (n - 1) c)) one d;
+              ∙ ap₂ (λ (m : ℕ) (c : List ℕ). told (read_entries ns m (n - 1) c)) one d;
         }
 
-  last : n ≤ 0 → told (read_entries (kinds_of ns) 0 count b) ≡ told (over (kinds_of ns) low (length b - at))
+  last : n ≤ 0 → told (read_entries ns 0 count b) ≡ told (over ns low (length b - at))
   unfolding over
   last h = let e : n ≡ 0 = omega arith in l.same ∙ rw (e, length-drop at b)
 
   module _ (none : n ≤ 0) where
-    pub bytes_over : (at ≡ length b → ⊥) → unnamed 8 0 ≡ told (read_entries (kinds_of ns) 0 count b)
+    pub bytes_over : (at ≡ length b → ⊥) → unnamed 8 0 ≡ told (read_entries ns 0 count b)
     unfolding over
     bytes_over h =
-        told_refused (over (kinds_of ns) low (length b - at)) {x = naming 8 65535 255}
+        told_refused (over ns low (length b - at)) {x = naming 8 65535 255}
         (rw (ne_eqb (length b - at) 0 (λ e. h (omega (arith, l.inside))))) refl
         ∙ sym (last none)
 
-    pub ended : at ≡ length b → unnamed 0 0 ≡ told (read_entries (kinds_of ns) 0 count b)
+    pub ended : at ≡ length b → unnamed 0 0 ≡ told (read_entries ns 0 count b)
     unfolding over
     ended h =
-        told_done (over (kinds_of ns) low (length b - at)) {a = replicate (length (kinds_of ns) - low) keep}
+        told_done (over ns low (length b - at)) {a = replicate (length ns - low) keep}
         (rw (eq-eqb (length b - at) 0 (omega arith))) refl
         ∙ sym (last none)

@@ -1,12 +1,7 @@
--- `forms::objects::widths_of` meets its contract: the sum so far and the widths left make up all widths.
+-- `forms::objects::widths_of` meets its contract: the widths so far and those to come make up the sum.
 -- Assumes nothing.
-use Prim.Native.Nat.{◌-◌}
-use lib.ListN.{length}
 use Rattle.forms.proofs.KindLaws.{Summed}
 use Rattle.forms.proofs.objects.widths_of.Given as goal
 
-abbrev pub invariant-loop-i : goal.invariant-loop-i
-invariant-loop-i l = Summed l.kinds l.i l.sum
-
-abbrev pub decreases-loop-i : goal.decreases-loop-i
-decreases-loop-i l = length l.kinds - l.i
+abbrev pub invariant-loop-kind : goal.invariant-loop-kind
+invariant-loop-kind l = Summed l.kinds l.kind-index l.sum
