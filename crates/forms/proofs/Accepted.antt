@@ -6,7 +6,7 @@ use mathlib.Core.List.{List}
 use lib.ListN.{get_or}
 use mir.Syntax.{w8}
 use mir.Val.{Fits}
-use Rattle.std.specs.Prelude.{Result, Ok, Err}
+use Rattle.std.specs.Prelude.{Ok}
 use Rattle.history.specs.Verdict.{checked}
 use Rattle.history.specs.Table.{Plan}
 use Rattle.history.specs.Image.{read_image, AcceptedImage}

@@ -1,7 +1,7 @@
 -- An object's element among an image's elements: where it is, which number is read there, and that laying a new one
 -- over it gives the elements with that one changed.
 -- Assumes nothing.
-use Prim.Native.Nat.{ℕ, zero, suc, ◌+◌, ◌-◌, ◌≤◌, ◌<◌}
+use Prim.Native.Nat.{ℕ, zero, suc, ◌+◌, ◌≤◌, ◌<◌}
 use native.Mathlib.Omega.{arith}
 use mathlib.Core.Path.{◌≡◌, refl, sym, ap, ap₂, ◌∙◌}
 use mathlib.Core.List.{List, [], ◌∷◌, ◌++◌, append_assoc}
@@ -82,17 +82,17 @@ place_within (k ∷ ks) (suc i) l = omega (arith, place_within ks i (omega arith
 
 -- ---- from what the code knows of an object: its place, its kind, its width
 
-module _ {ns : List Kind} {es : List ℕ} {i : ℕ} (s : Sized ns es i) {at : ℕ} (at-is : at ≡ place_in ns i) {kind : Kind}
-    (kind_is_lem : kind ≡ kind_at ns i) {w : ℕ} (w-is : w ≡ width_of kind) where
-  pub own_width : w ≡ width_of (kind_at ns i)
+module _ {ks : List Kind} {es : List ℕ} {i : ℕ} (s : Sized ks es i) {at : ℕ} (at-is : at ≡ place_in ks i) {kind : Kind}
+    (kind_is_lem : kind ≡ kind_at ks i) {w : ℕ} (w-is : w ≡ width_of kind) where
+  pub own_width : w ≡ width_of (kind_at ks i)
   own_width = w-is ∙ ap width_of kind_is_lem
 
   -- the element ends within the bytes
   pub element_inside : at + w ≤ length es
   element_inside =
-      omega (arith, own_width, at-is, s.long, place_within ns i s.below)
+      omega (arith, own_width, at-is, s.long, place_within ks i s.below)
 
   -- the number read there is the element's
   pub number_at : number (take w (drop at es))
-      ≡ number (take (width_of (kind_at ns i)) (drop (place_in ns i) es))
+      ≡ number (take (width_of (kind_at ks i)) (drop (place_in ks i) es))
   number_at = ap₂ (λ (n m : ℕ). number (take n (drop m es))) own_width at-is

@@ -1,7 +1,7 @@
 -- The check of a list's entry, part by part, in each case that the code tells apart;
 -- and the loop over the entries, one turn at a time.
 -- Assumes nothing.
-use Prim.Native.Nat.{ℕ, zero, suc, ◌+◌, ◌-◌, ◌≤◌, ◌<◌}
+use Prim.Native.Nat.{ℕ, suc, ◌+◌, ◌-◌, ◌≤◌, ◌<◌}
 use native.Mathlib.Omega.{arith}
 use mathlib.Core.Path.{◌≡◌, refl, sym, ap, ap₂, ◌∙◌}
 use mathlib.Core.Bool.{not}
@@ -18,7 +18,8 @@ use Rattle.elements.specs.Elements.{element_check}
 use Rattle.kinds.specs.declared.Kind.{Kind}
 use Rattle.octets.specs.Octets.{number}
 use Rattle.history.specs.declared.Answer.{Answer}
-use Rattle.history.specs.Verdict.{Verdict, refused, done, then, refusal, refusal_at, ◌unless◌⨾◌, given, checked, unnamed}
+use Rattle.history.specs.Verdict.{Verdict, refused, done, then, refusal, refusal_at, ◌unless◌⨾◌, given, checked}
+use Rattle.history.specs.Verdict.{unnamed}
 use Rattle.history.specs.Table.{kind_at}
 use Rattle.history.specs.Image.{element, found_in, ◌of◌⨾◌}
 use Rattle.history.specs.declared.Change.{Change}

@@ -8,10 +8,10 @@ abbrev pub place_in : List Kind → ℕ → ℕ
 place_in ks i = widths (take i ks)
 
 -- i is one of at most 1,024 objects, and es is as long as their elements together
-pub record Sized (ns : List Kind) (es : List ℕ) (i : ℕ) : Type 0 where
-  pub below : i < length ns
-  pub few : length ns ≤ 1024
-  pub long : length es ≡ widths ns
+pub record Sized (ks : List Kind) (es : List ℕ) (i : ℕ) : Type 0 where
+  pub below : i < length ks
+  pub few : length ks ≤ 1024
+  pub long : length es ≡ widths ks
 
 -- l with the bytes bs laid over it from `at` on
 abbrev pub over : ℕ → List ℕ → List ℕ → List ℕ

@@ -19,6 +19,7 @@ pub fn check_image(table: &[u8], image: &[u8]) -> Answer
     read_image(table, image).into()
 }
 
+// What `check_image` gives as numbers.
 fn read_image(table: &[u8], image: &[u8]) -> Result<(), Answer>
     ensures { result ≡ checked (image_call table.now image.now) }
 {
@@ -58,12 +59,11 @@ fn check_words(kinds: &[Kind], words: &[u8]) -> Result<(), Answer>
     ensures { result ≡ checked (read_words 0 kinds.now words.now) }
 {
     let mut at: usize = 0;
-    for i in 0..kinds.len() {
-        let kind = kinds[i];
-        if let Finding::Refused(r) = elements::check_at(words, at, kind) {
+    for (i, kind) in kinds.iter().enumerate() {
+        if let Finding::Refused(r) = elements::check_at(words, at, *kind) {
             return Err(refused_by(r, i as u16));
         }
-        at += elements::width(kind);
+        at += elements::width(*kind);
     }
     Ok(())
 }

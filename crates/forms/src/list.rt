@@ -19,6 +19,7 @@ pub fn check_list(table: &[u8], list: &[u8]) -> Answer
     read_list(table, list).into()
 }
 
+// What `check_list` gives as numbers.
 fn read_list(table: &[u8], list: &[u8]) -> Result<(), Answer>
     ensures { result ≡ checked (list_call table.now list.now) }
 {

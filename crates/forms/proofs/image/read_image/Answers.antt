@@ -13,4 +13,5 @@ returns-in_err-outline c =
     rw (p.1, p.2) (table_refused (image_starts _ _) _ c.in_err-outline.ensures)
 
 pub returns : goal.returns
-returns c = c.check_image_under.ensures ∙ ap checked (under_plan (image_starts _ _) c.in_ok-outline.ensures c.plan.ensures)
+returns c =
+    c.check_image_under.ensures ∙ ap checked (under_plan (image_starts _ _) c.in_ok-outline.ensures c.plan.ensures)

@@ -26,7 +26,8 @@ returns-in_err-entry c =
     rw (p.1, p.2) (search (bad_elements, c.in_ok-object.ensures, c.in_err-entry.ensures))
 
 pub returns-then-entry : goal.returns-then-entry
-returns-then-entry c = refuses _ (search (unchanged, c.in_ok-object.ensures, c.in_ok-entry.ensures)) c.refused_at-then-entry.ensures
+returns-then-entry c =
+    refuses _ (search (unchanged, c.in_ok-object.ensures, c.in_ok-entry.ensures)) c.refused_at-then-entry.ensures
 
 pub returns : goal.returns
 returns c = search (changed, c.in_ok-object.ensures, c.in_ok-entry.ensures)
