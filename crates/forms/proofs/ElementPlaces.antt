@@ -1,23 +1,20 @@
 -- An object's element among an image's elements: where it is, which number is read there, and that laying a new one
 -- over it gives the elements with that one changed.
 -- Assumes nothing.
-use Prim.Native.Nat.{ℕ, zero, suc, ◌+◌, ◌-◌, ◌≤◌, ◌<◌}
+use Prim.Native.Nat.{ℕ, zero, suc, ◌+◌, ◌≤◌, ◌<◌}
 use native.Mathlib.Omega.{arith}
 use mathlib.Core.Path.{◌≡◌, refl, sym, ap, ap₂, ◌∙◌}
-use mathlib.Core.List.{List, [], ◌∷◌, ◌++◌, map, append_assoc}
+use mathlib.Core.List.{List, [], ◌∷◌, ◌++◌, append_assoc}
 use lib.ListN.{length, take, drop, get_or, set, length-append, length-take, length-drop}
 use lib.Seq.{take-append-add, drop-append-add, drop_at, drop-drop}
 use Rattle.octets.specs.Octets.{bytes, number}
 use Rattle.octets.proofs.NumberLaws.{length_bytes, read_bytes, drop_bytes}
 use Rattle.kinds.specs.Kinds.{width_of}
 use Rattle.kinds.specs.declared.Kind.{Kind}
-use Rattle.elements.specs.Elements.{kind_numbered}
 use Rattle.history.specs.Table.{kind_at}
 use Rattle.history.specs.Image.{widths, words_bytes, admits, Every, nil, and}
 use Rattle.history.proofs.ElementLaws.{admits_fits}
-use Rattle.tables.specs.Outlines.{kinds_of}
 use Rattle.forms.specs.Places.{place_in, Sized, over}
-use Rattle.forms.proofs.KindLaws.{length_kinds}
 
 -- ---- bytes laid over others
 
@@ -83,32 +80,19 @@ place_within [] i l = absurd (omega arith)
 place_within (k ∷ ks) zero l = omega arith
 place_within (k ∷ ks) (suc i) l = omega (arith, place_within ks i (omega arith))
 
--- ---- the kinds of the objects before one
-
-map_take : {A B : Type 0} (f : A → B) (i : ℕ) (l : List A) → map f (take i l) ≡ take i (map f l)
-map_take f zero l = refl
-map_take f (suc i) [] = refl
-map_take f (suc i) (x ∷ l) = ap (λ (r : List _). f x ∷ r) (map_take f i l)
-
-pub place_sum : (ns : List ℕ) (i sum : ℕ) → sum ≡ widths (kinds_of (take (i - 0) ns)) → sum ≡ place_in (kinds_of ns) i
-unfolding kinds_of
-place_sum ns i sum e =
-    let all : i - 0 ≡ i = omega arith in
-    e ∙ ap (λ (n : ℕ). widths (map kind_numbered (take n ns))) all ∙ ap widths (map_take kind_numbered i ns)
-
 -- ---- from what the code knows of an object: its place, its kind, its width
 
-module _ {ns es : List ℕ} {i : ℕ} (s : Sized ns es i) {at : ℕ} (at-is : at ≡ place_in (kinds_of ns) i) {kind : Kind}
-    (kind_is_lem : kind ≡ kind_at (kinds_of ns) i) {w : ℕ} (w-is : w ≡ width_of kind) where
-  pub own_width : w ≡ width_of (kind_at (kinds_of ns) i)
+module _ {ks : List Kind} {es : List ℕ} {i : ℕ} (s : Sized ks es i) {at : ℕ} (at-is : at ≡ place_in ks i) {kind : Kind}
+    (kind_is_lem : kind ≡ kind_at ks i) {w : ℕ} (w-is : w ≡ width_of kind) where
+  pub own_width : w ≡ width_of (kind_at ks i)
   own_width = w-is ∙ ap width_of kind_is_lem
 
   -- the element ends within the bytes
   pub element_inside : at + w ≤ length es
   element_inside =
-      omega (arith, own_width, at-is, s.long, place_within (kinds_of ns) i (omega (arith, s.below, length_kinds ns)))
+      omega (arith, own_width, at-is, s.long, place_within ks i s.below)
 
   -- the number read there is the element's
   pub number_at : number (take w (drop at es))
-      ≡ number (take (width_of (kind_at (kinds_of ns) i)) (drop (place_in (kinds_of ns) i) es))
+      ≡ number (take (width_of (kind_at ks i)) (drop (place_in ks i) es))
   number_at = ap₂ (λ (n m : ℕ). number (take n (drop m es))) own_width at-is

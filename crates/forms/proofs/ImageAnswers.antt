@@ -1,49 +1,56 @@
--- The answer to an image, at each place where its check ends.
+-- What the check of an image gives, at each place where it ends.
 -- Assumes nothing.
 use Prim.Native.Nat.{ℕ, ◌+◌}
+use Rattle.kinds.specs.declared.Kind.{Kind}
 use native.Mathlib.Omega.{arith}
-use mathlib.Core.Path.{◌≡◌, refl, sym, ap, ◌∙◌}
+use mathlib.Core.Path.{◌≡◌, sym, ap, ◌∙◌}
 use mathlib.Core.Bool.{true, false}
 use mathlib.Core.List.{List}
 use lib.ListN.{length, get_or}
 use borrow.Author.Tests.{eq-eqb, ne_eqb}
-use Rattle.history.specs.Verdict.{told, unnamed}
+use Rattle.std.specs.Prelude.{Err}
+use Rattle.history.specs.Verdict.{checked, unnamed}
 use Rattle.history.specs.Image.{image_version_good, widths, read_words, read_image}
 use Rattle.history.specs.Form.{is_whole}
 use Rattle.heads.specs.Heads.{is_under, elements_place, image_head, elements_in}
 use Rattle.heads.proofs.Places.{head_is}
 use Rattle.heads.proofs.Chains.{image_with, image_chain}
-use Rattle.tables.specs.Outlines.{kinds_of, plan_as}
-use Rattle.tables.proofs.AnswerLaws.{told_refused, told_then}
+use Rattle.tables.specs.Plans.{plan_with}
+use Rattle.forms.proofs.Found.{checked_then}
 
-module _ (x y : ℕ) (ns b : List ℕ) where
-  pub not_whole : is_whole 7 b ≡ false → unnamed 1 0 ≡ told (read_image (plan_as x y ns) b)
-  not_whole e = told_refused _ (image_chain (plan_as x y ns) b ∙ rw e) refl
+module _ (x y : ℕ) (ks : List Kind) (b : List ℕ) where
+  pub not_whole : is_whole 7 b ≡ false → Err (unnamed 1 0) ≡ checked (read_image (plan_with x y ks) b)
+  not_whole e = rw (image_chain (plan_with x y ks) b, e)
 
   module _ (whole : is_whole 7 b ≡ true) where
-    pub other_version : image_version_good (get_or b 4 0) ≡ false → unnamed 2 0 ≡ told (read_image (plan_as x y ns) b)
-    other_version e = told_refused _ (image_chain (plan_as x y ns) b ∙ rw (whole, e)) refl
+    pub other_version : image_version_good (get_or b 4 0) ≡ false
+        → Err (unnamed 2 0) ≡ checked (read_image (plan_with x y ks) b)
+    other_version e = rw (image_chain (plan_with x y ks) b, whole, e)
 
     module _ (version : image_version_good (get_or b 4 0) ≡ true) where
-      pub not_under : is_under x y b ≡ false → unnamed 9 0 ≡ told (read_image (plan_as x y ns) b)
-      not_under e = told_refused _ (image_chain (plan_as x y ns) b ∙ rw (whole, version, e)) refl
+      pub not_under : is_under x y b ≡ false → Err (unnamed 9 0) ≡ checked (read_image (plan_with x y ks) b)
+      not_under e = rw (image_chain (plan_with x y ks) b, whole, version, e)
 
       module _ (under : is_under x y b ≡ true) (place : ℕ) (place_is : place ≡ elements_place (get_or b 4 0)) (w : ℕ)
-          (w-is : w ≡ widths (kinds_of ns)) where
-        pub other_size : (length b ≡ place + w → ⊥) → unnamed 8 0 ≡ told (read_image (plan_as x y ns) b)
+          (w-is : w ≡ widths ks) where
+        pub other_size : (length b ≡ place + w → ⊥) → Err (unnamed 8 0) ≡ checked (read_image (plan_with x y ks) b)
         other_size h =
-            let n : (length b ≡ image_head b + widths (kinds_of ns) → ⊥) =
+            let n : (length b ≡ image_head b + widths ks → ⊥) =
             λ e. h (omega (arith, head_is b place place_is)) in
-            told_refused _
-            (image_chain (plan_as x y ns) b
-            ∙ rw (whole, version, under, ne_eqb (length b) (image_head b + widths (kinds_of ns)) n)) refl
+            rw (
+              image_chain (plan_with x y ks) b,
+              whole,
+              version,
+              under,
+              ne_eqb (length b) (image_head b + widths ks) n,
+            )
 
         pub by_words : length b ≡ place + w → (words : List ℕ) → words ≡ elements_in b
-            → told (read_words 0 (kinds_of ns) words) ≡ told (read_image (plan_as x y ns) b)
+            → checked (read_words 0 ks words) ≡ checked (read_image (plan_with x y ks) b)
         by_words h words e =
-            let size : length b ≡ image_head b + widths (kinds_of ns) = omega (arith, head_is b place place_is) in
-            ap (λ (c : List ℕ). told (read_words 0 (kinds_of ns) c)) e
-            ∙ sym (ap told
-            (image_chain (plan_as x y ns) b
-            ∙ rw (whole, version, under, eq-eqb (length b) (image_head b + widths (kinds_of ns)) size))
-            ∙ told_then (read_words 0 (kinds_of ns) (elements_in b)) (image_with b))
+            let size : length b ≡ image_head b + widths ks = omega (arith, head_is b place place_is) in
+            ap (λ (c : List ℕ). checked (read_words 0 ks c)) e
+            ∙ sym (ap checked
+            (image_chain (plan_with x y ks) b
+            ∙ rw (whole, version, under, eq-eqb (length b) (image_head b + widths ks) size))
+            ∙ checked_then (read_words 0 ks (elements_in b)) (image_with b))

@@ -1,9 +1,8 @@
 -- The check of a list's entry, part by part, in each case that the code tells apart;
 -- and the loop over the entries, one turn at a time.
 -- Assumes nothing.
-use Prim.Native.Nat.{ℕ, zero, suc, ◌+◌, ◌-◌, ◌≤◌, ◌<◌}
+use Prim.Native.Nat.{ℕ, suc, ◌+◌, ◌-◌, ◌≤◌, ◌<◌}
 use native.Mathlib.Omega.{arith}
-use native.Mathlib.Numerals.{sub-one}
 use mathlib.Core.Path.{◌≡◌, refl, sym, ap, ap₂, ◌∙◌}
 use mathlib.Core.Bool.{not}
 use mathlib.Core.List.{List, ◌∷◌, ◌++◌}
@@ -11,6 +10,7 @@ use lib.Dec.{eqb, leb, ltb}
 use lib.ListN.{length, take, drop, replicate, length-drop}
 use lib.Seq.{drop-drop}
 use borrow.Author.Tests.{eq-eqb, ne_eqb, le-leb, lt-leb, lt-ltb, le-ltb}
+use Rattle.std.specs.Prelude.{Ok, Err}
 use Rattle.rows.specs.declared.Finding.{Finding}
 use Rattle.rows.specs.declared.Refusal.{Refusal}
 use Rattle.kinds.specs.Kinds.{width_of}
@@ -18,78 +18,36 @@ use Rattle.elements.specs.Elements.{element_check}
 use Rattle.kinds.specs.declared.Kind.{Kind}
 use Rattle.octets.specs.Octets.{number}
 use Rattle.history.specs.declared.Answer.{Answer}
-use Rattle.history.specs.Verdict.{Refused, naming, Verdict, refused, done, then, refusal, refusal_at, ◌unless◌⨾◌, told}
-use Rattle.history.specs.Verdict.{numbers, unnamed}
+use Rattle.history.specs.Verdict.{Verdict, refused, done, then, refusal, refusal_at, ◌unless◌⨾◌, given, checked}
+use Rattle.history.specs.Verdict.{unnamed}
 use Rattle.history.specs.Table.{kind_at}
 use Rattle.history.specs.Image.{element, found_in, ◌of◌⨾◌}
 use Rattle.history.specs.declared.Change.{Change}
 use Rattle.history.specs.declared.Change.TheVariants.{Keep as keep, Swap as swap}
 use Rattle.history.specs.Changes.{Entry, entry_of, read_number, read_elements, check_entry, read_entries}
 use Rattle.history.proofs.ListLaws.{entry_at, was_numbered, was_checked}
-use Rattle.tables.specs.Outlines.{kinds_of}
-use Rattle.forms.specs.ListEntries.{numbered, passed}
-use Rattle.forms.specs.declared.list.Numbered.{Numbered}
+use Rattle.history.proofs.OutputLaws.{first_given, given_done}
+use Rattle.forms.specs.ListEntries.{passed}
 use Rattle.forms.specs.declared.list.Passed.{Passed}
-use Rattle.forms.proofs.Found.{is_bad, is_good}
-use Rattle.tables.proofs.AnswerLaws.{told_refused, told_done, told_then}
-use Rattle.forms.proofs.KindLaws.{length_kinds}
-
--- ---- what a part returns, and what that says of the check
-
-pub no_object : {v : Verdict ℕ} {x : Refused} {a : Answer} → a ≡ numbers x 0 → v ≡ refused x
-    → Numbered.Refused a ≡ numbered v
-unfolding numbered
-no_object e f = ap Numbered.Refused e ∙ sym (ap numbered f)
-
-pub refuses : (at : ℕ) {v : Verdict Entry} {x : Refused} {a : Answer} → a ≡ numbers x 0 → v ≡ refused x
-    → Passed.Refused a ≡ passed at v
-unfolding passed
-refuses at e f = ap Passed.Refused e ∙ sym (ap (passed at) f)
-
-was_numberless : (v : Verdict ℕ) (a : Answer) → Numbered.Refused a ≡ numbered v
-    → (x : Refused) × (v ≡ refused x) × (a ≡ numbers x 0)
-unfolding numbered
-was_numberless (refused r) a e = (r, refl, (cc))
-was_numberless (done i) a e = absurd (let z : ◌≡◌ {A = ℕ} 0 1 = cc in omega arith)
-
-was_object : (v : Verdict ℕ) (i : ℕ) → Numbered.Object i ≡ numbered v → v ≡ done i
-unfolding numbered
-was_object (refused r) i e = absurd (let z : ◌≡◌ {A = ℕ} 0 1 = cc in omega arith)
-was_object (done j) i e = let same : j ≡ i = cc in ap done same
-
-was_passed : (at : ℕ) (v : Verdict Entry) (object old new next : ℕ) → Passed.Entry object old new next ≡ passed at v
-    → (e : Entry) × (v ≡ done e) × (object ≡ e.object) × (old ≡ e.old) × (new ≡ e.new)
-    × (next ≡ at + width_of e.kind + width_of e.kind)
-unfolding passed
-was_passed at (refused r) object old new next e = absurd (let z : ◌≡◌ {A = ℕ} 0 1 = cc in omega arith)
-was_passed at (done e) object old new next p = (e, refl, (cc), (cc), (cc), (cc))
-
-was_refused : (at : ℕ) (v : Verdict Entry) (a : Answer) → Passed.Refused a ≡ passed at v
-    → (x : Refused) × (v ≡ refused x) × (a ≡ numbers x 0)
-unfolding passed
-was_refused at (refused r) a e = (r, refl, (cc))
-was_refused at (done e) a p = absurd (let z : ◌≡◌ {A = ℕ} 0 1 = cc in omega arith)
+use Rattle.forms.proofs.Found.{is_bad, is_good, accepts, checked_then}
 
 -- ---- the number
 
-module _ (ns s : List ℕ) (at : ℕ) where
-  pub number_cut : length s - at < 2 → read_number (kinds_of ns) (drop at s) ≡ refusal 8
+module _ (ks : List Kind) (s : List ℕ) (at : ℕ) where
+  pub number_cut : length s - at < 2 → read_number ks (drop at s) ≡ refusal 8
   unfolding read_number
   number_cut h = rw (length-drop at s, lt-leb 2 (length s - at) h)
 
   module _ {i : ℕ} (two : 2 ≤ length s - at) (i-is : i ≡ number (take 2 (drop at s))) where
-    number_here : read_number (kinds_of ns) (drop at s) ≡ (refusal_at 13 i unless ltb i (length ns) ⨾ done i)
+    number_here : read_number ks (drop at s) ≡ (refusal_at 13 i unless ltb i (length ks) ⨾ done i)
     unfolding read_number
-    number_here = rw (length-drop at s, le-leb 2 (length s - at) two, length_kinds ns, ← i-is)
+    number_here = rw (length-drop at s, le-leb 2 (length s - at) two, ← i-is)
 
-    pub beyond : length ns ≤ i → read_number (kinds_of ns) (drop at s) ≡ refusal_at 13 i
-    beyond h = number_here ∙ rw (le-ltb i (length ns) h)
+    pub beyond : length ks ≤ i → read_number ks (drop at s) ≡ refusal_at 13 i
+    beyond h = number_here ∙ rw (le-ltb i (length ks) h)
 
-    pub of_object : i < length ns → Numbered.Object i ≡ numbered (read_number (kinds_of ns) (drop at s))
-    unfolding numbered
-    of_object h =
-        let e : read_number (kinds_of ns) (drop at s) ≡ done i = number_here ∙ rw (lt-ltb i (length ns) h) in
-        sym (ap numbered e)
+    pub of_object : i < length ks → Ok i ≡ given (λ i. i) (read_number ks (drop at s))
+    of_object h = accepts _ (number_here ∙ rw (lt-ltb i (length ks) h))
 
 -- ---- the elements
 
@@ -127,177 +85,171 @@ module _ (k : Kind) (i : ℕ) (s : List ℕ) (at : ℕ) {w : ℕ} (w-is : w ≡ 
             ∙ is_bad (element_check k new) i _ r (sym g-is ∙ e)
 
         pub both_good : g ≡ Finding.Accepted
-            → Passed.Entry i old new (at + w + w) ≡ passed at (read_elements i k (drop at s))
-        unfolding passed
+            → Ok (record { object = i; old = old; new = new; next = at + w + w })
+            ≡ given (passed at) (read_elements i k (drop at s))
         both_good new-good =
-            let e : read_elements i k (drop at s) ≡ done (entry_of i k (drop at s)) =
-            elements_here ∙ is_good (element_check k old) i _ (sym f-is ∙ old-good)
-            ∙ is_good (element_check k new) i _ (sym g-is ∙ new-good) in
-            sym (ap (passed at) e ∙ λ j. Passed.Entry i (the_old j) (the_new j) (at + sym w-is j + sym w-is j))
+            (λ j. Ok (record {
+              object = i;
+              old = sym the_old j;
+              new = sym the_new j;
+              next = at + w-is j + w-is j;
+            }))
+            ∙ accepts (passed at)
+            (elements_here ∙ is_good (element_check k old) i _ (sym f-is ∙ old-good)
+            ∙ is_good (element_check k new) i _ (sym g-is ∙ new-good))
 
 -- ---- the entry
 
-number_refused : (ks : List Kind) (low : ℕ) (b : List ℕ) {x : Refused} → read_number ks b ≡ refused x
-    → check_entry ks low b ≡ refused x
-unfolding check_entry
-number_refused ks low b e = rw e
+-- the rest of the check once the elements are read: 15
+differing : ℕ → Entry → Verdict Entry
+differing i e = refusal_at 15 i unless not (eqb e.old e.new) ⨾ done e
 
--- the rest of the check once the number is read: 14, the elements, 15
+-- the rest once the number is read: 14, the elements, 15
 later : ℕ → ℕ → Verdict Entry → Verdict Entry
-later low i v =
-    refusal_at 14 i unless leb low i ⨾
-    then v λ e.
-    refusal_at 15 i unless not (eqb e.old e.new) ⨾
-    done e
+later low i v = refusal_at 14 i unless leb low i ⨾ then v (differing i)
 
-module _ (ns : List ℕ) (low : ℕ) (s : List ℕ) (at : ℕ) {n : Numbered}
-    (n-is : n ≡ numbered (read_number (kinds_of ns) (drop at s))) where
-  pub no_number : {a : Answer} → n ≡ Numbered.Refused a
-      → Passed.Refused a ≡ passed (at + 2) (check_entry (kinds_of ns) low (drop at s))
-  no_number {a} e =
-      let q = was_numberless (read_number (kinds_of ns) (drop at s)) a (sym e ∙ n-is) in
-      refuses (at + 2) q.2 (number_refused (kinds_of ns) low (drop at s) q.1)
+module _ (ks : List Kind) (low : ℕ) (s : List ℕ) (at : ℕ) where
+  pub no_number : {a : Answer} → Err a ≡ given (λ (i : ℕ). i) (read_number ks (drop at s))
+      → Err a ≡ given (passed (at + 2)) (check_entry ks low (drop at s))
+  unfolding check_entry
+  no_number e = first_given (read_number ks (drop at s)) (λ (i : ℕ). i) _ (passed (at + 2)) e
 
-  module _ {i : ℕ} (e : n ≡ Numbered.Object i) where
-    number_read : read_number (kinds_of ns) (drop at s) ≡ done i
-    number_read = was_object (read_number (kinds_of ns) (drop at s)) i (sym e ∙ n-is)
+  module _ {i : ℕ} (e : Ok i ≡ given (λ (i : ℕ). i) (read_number ks (drop at s))) where
+    number_read : read_number ks (drop at s) ≡ done i
+    number_read =
+        let q = given_done (read_number ks (drop at s)) (λ (i : ℕ). i) e in q.1 ∙ ap done q.2
 
     pub number_there : at + 2 ≤ length s
-    number_there = omega (arith, (was_numbered (kinds_of ns) (drop at s) number_read).two, length-drop at s)
+    number_there = omega (arith, (was_numbered ks (drop at s) number_read).two, length-drop at s)
 
-    pub object_there : i < length ns
-    object_there = omega (arith, (was_numbered (kinds_of ns) (drop at s) number_read).inside, length_kinds ns)
+    pub object_there : i < length ks
+    object_there = (was_numbered ks (drop at s) number_read).inside
 
-    by_number : {k : Kind} → k ≡ kind_at (kinds_of ns) i
-        → check_entry (kinds_of ns) low (drop at s) ≡ later low i (read_elements i k (drop (at + 2) s))
-    unfolding check_entry later
+    by_number : {k : Kind} → k ≡ kind_at ks i
+        → check_entry ks low (drop at s) ≡ later low i (read_elements i k (drop (at + 2) s))
+    unfolding check_entry later differing
     by_number k-is = rw (number_read, drop-drop 2 at s, k-is)
 
-    pub falling : i < low → check_entry (kinds_of ns) low (drop at s) ≡ refusal_at 14 i
+    pub falling : i < low → check_entry ks low (drop at s) ≡ refusal_at 14 i
     unfolding later
     falling h = by_number refl ∙ rw (lt-leb low i h)
 
-    module _ (up : low ≤ i) {k : Kind} (k-is : k ≡ kind_at (kinds_of ns) i) {c : Passed}
-        (c-is : c ≡ passed (at + 2) (read_elements i k (drop (at + 2) s))) where
-      pub bad_elements : {a : Answer} → c ≡ Passed.Refused a
-          → c ≡ passed (at + 2) (check_entry (kinds_of ns) low (drop at s))
-      unfolding later
-      bad_elements {a} p =
-          let q = was_refused (at + 2) (read_elements i k (drop (at + 2) s)) a (sym p ∙ c-is) in
-          p ∙ refuses (at + 2) q.2 (by_number k-is ∙ ap (later low i) q.1 ∙ rw (le-leb low i up))
+    module _ (up : low ≤ i) {k : Kind} (k-is : k ≡ kind_at ks i) where
+      by_elements : check_entry ks low (drop at s) ≡ then (read_elements i k (drop (at + 2) s)) (differing i)
+      unfolding later differing
+      by_elements = by_number k-is ∙ rw (le-leb low i up)
 
-      module _ {object old new next : ℕ} (p : c ≡ Passed.Entry object old new next) where
-        elements_read : (e : Entry) × (read_elements i k (drop (at + 2) s) ≡ done e) × (object ≡ e.object)
-            × (old ≡ e.old) × (new ≡ e.new) × (next ≡ at + 2 + width_of e.kind + width_of e.kind)
-        elements_read = was_passed (at + 2) (read_elements i k (drop (at + 2) s)) object old new next (sym p ∙ c-is)
+      pub bad_elements : {a : Answer} → Err a ≡ given (passed (at + 2)) (read_elements i k (drop (at + 2) s))
+          → Err a ≡ given (passed (at + 2)) (check_entry ks low (drop at s))
+      bad_elements p =
+          first_given (read_elements i k (drop (at + 2) s)) (passed (at + 2)) (differing i) (passed (at + 2)) p
+          ∙ sym (ap (given (passed (at + 2))) by_elements)
 
-        pub unchanged : old ≡ new → check_entry (kinds_of ns) low (drop at s) ≡ refusal_at 15 i
-        unfolding later
+      module _ {c : Passed} (p : Ok c ≡ given (passed (at + 2)) (read_elements i k (drop (at + 2) s))) where
+        elements_read : (e : Entry) × (read_elements i k (drop (at + 2) s) ≡ done e) × (passed (at + 2) e ≡ c)
+        elements_read = given_done (read_elements i k (drop (at + 2) s)) (passed (at + 2)) p
+
+        pub unchanged : c.old ≡ c.new → check_entry ks low (drop at s) ≡ refusal_at 15 i
+        unfolding differing
         unchanged h =
             let q = elements_read in
-            by_number k-is ∙ ap (later low i) q.1
-            ∙ rw (le-leb low i up, eq-eqb q.0.old q.0.new (sym q.3 ∙ h ∙ q.4))
+            let same : q.0.old ≡ q.0.new =
+            ap (λ (c : Passed). c.old) q.2 ∙ h ∙ sym (ap (λ (c : Passed). c.new) q.2) in
+            by_elements ∙ rw (q.1, eq-eqb q.0.old q.0.new same)
 
-        pub changed : (old ≡ new → ⊥)
-            → Passed.Entry object old new next ≡ passed (at + 2) (check_entry (kinds_of ns) low (drop at s))
-        unfolding later
+        pub changed : (c.old ≡ c.new → ⊥) → Ok c ≡ given (passed (at + 2)) (check_entry ks low (drop at s))
+        unfolding differing
         changed h =
             let q = elements_read in
-            sym p ∙ c-is ∙ ap (passed (at + 2))
-            (q.1 ∙ sym (by_number k-is ∙ ap (later low i) q.1
-            ∙ rw (le-leb low i up, ne_eqb q.0.old q.0.new (λ e. h (q.3 ∙ e ∙ sym q.4)))))
+            let other : (q.0.old ≡ q.0.new → ⊥) =
+            λ e. h (sym (ap (λ (c : Passed). c.old) q.2) ∙ e ∙ ap (λ (c : Passed). c.new) q.2) in
+            let whole : check_entry ks low (drop at s) ≡ done q.0 =
+            by_elements ∙ rw (q.1, ne_eqb q.0.old q.0.new other) in
+            ap Ok (sym q.2) ∙ accepts (passed (at + 2)) whole
 
 -- ---- the entries
 
--- n entries are left, from `at` on, of objects not below low
-pub record Left (ns : List ℕ) (count : ℕ) (b : List ℕ) (n low at : ℕ) : Type 0 where
+-- of `count` entries n are checked; those from `at` on are left, of objects not below low
+pub record Left (ks : List Kind) (count : ℕ) (b : List ℕ) (n low at : ℕ) : Type 0 where
   pub inside : at ≤ length b
-  pub same : told (read_entries (kinds_of ns) 0 count b) ≡ told (read_entries (kinds_of ns) low n (drop at b))
+  pub same : checked (read_entries ks 0 count b) ≡ checked (read_entries ks low (count - n) (drop at b))
 
-pub begin : (ns : List ℕ) (count : ℕ) (b : List ℕ) → Left ns count b count 0 0
-begin ns count b = record { inside = omega arith; same = refl }
+pub begin : (ks : List Kind) (count : ℕ) (b : List ℕ) → Left ks count b 0 0 0
+begin ks count b =
+    let all : count ≡ count - 0 = omega arith in
+    record { inside = omega arith; same = ap (λ (n : ℕ). checked (read_entries ks 0 n b)) all }
 
--- after an accepted entry: the others are read, and its change is put before theirs, which no answer tells
+-- after an accepted entry: m others are read, and its change is put before theirs, which no check tells
 after : List Kind → ℕ → ℕ → Entry → Verdict (List Change)
-after t low n e =
-    then (read_entries t (suc e.object) n e.rest)
+after t low m e =
+    then (read_entries t (suc e.object) m e.rest)
     (λ cs. done (replicate (e.object - low) keep ++ (swap e.old e.new ∷ cs)))
 
-one_entry : (t : List Kind) (low n : ℕ) (b : List ℕ) → 0 < n
-    → read_entries t low n b ≡ then (check_entry t low b) (after t low (n - 1))
+one_entry : (t : List Kind) (low m : ℕ) (b : List ℕ) {n : ℕ} → n ≡ suc m
+    → read_entries t low n b ≡ then (check_entry t low b) (after t low m)
 unfolding after
-one_entry t low zero b h = absurd (omega arith)
-one_entry t low (suc n) b h = simp sub-one
+one_entry t low m b e = rw e
 
 -- no entry is left, and m bytes are
 over : List Kind → ℕ → ℕ → Verdict (List Change)
 over t low m = refusal 8 unless eqb m 0 ⨾ done (replicate (length t - low) keep)
 
-module _ (ns : List ℕ) (low : ℕ) (b : List ℕ) (at : ℕ) {r : Passed}
-    (r-is : r ≡ passed (at + 2) (check_entry (kinds_of ns) low (drop at b))) {object old new next : ℕ}
-    (p : r ≡ Passed.Entry object old new next) where
-  passed_entry : (e : Entry) × (check_entry (kinds_of ns) low (drop at b) ≡ done e) × (object ≡ e.object)
-      × (old ≡ e.old) × (new ≡ e.new) × (next ≡ at + 2 + width_of e.kind + width_of e.kind)
-  passed_entry = was_passed (at + 2) (check_entry (kinds_of ns) low (drop at b)) object old new next (sym p ∙ r-is)
+module _ (ks : List Kind) (low : ℕ) (b : List ℕ) (at : ℕ) {c : Passed}
+    (p : Ok c ≡ given (passed (at + 2)) (check_entry ks low (drop at b))) where
+  passed_entry : (e : Entry) × (check_entry ks low (drop at b) ≡ done e) × (passed (at + 2) e ≡ c)
+  passed_entry = given_done (check_entry ks low (drop at b)) (passed (at + 2)) p
 
-  pub number_inside : object < length ns
+  pub number_inside : c.object < length ks
   number_inside =
       let q = passed_entry in
-      let k = was_checked (kinds_of ns) low (drop at b) q.1 in
-      omega (arith, k.1.inside, length_kinds ns, q.2 ∙ ap (λ (e : Entry). e.object) (sym k.0))
+      let k = was_checked ks low (drop at b) q.1 in
+      omega (arith, k.1.inside, ap (λ (e : Entry). e.object) k.0, ap (λ (c : Passed). c.object) q.2)
 
-module _ {ns : List ℕ} {count : ℕ} {b : List ℕ} {n low at : ℕ} (l : Left ns count b n low at) where
-  module _ (more : 0 < n) {r : Passed} (r-is : r ≡ passed (at + 2) (check_entry (kinds_of ns) low (drop at b))) where
-    pub stops : {a : Answer} → r ≡ Passed.Refused a → a ≡ told (read_entries (kinds_of ns) 0 count b)
-    stops {a} p =
-        let q = was_refused (at + 2) (check_entry (kinds_of ns) low (drop at b)) a (sym p ∙ r-is) in
-        q.2 ∙ told_refused (read_entries (kinds_of ns) low n (drop at b))
-        (one_entry (kinds_of ns) low n (drop at b) more
-        ∙ ap (λ (v : Verdict Entry). then v (after (kinds_of ns) low (n - 1))) q.1) refl
-        ∙ sym l.same
+module _ {ks : List Kind} {count : ℕ} {b : List ℕ} {n low at : ℕ} (l : Left ks count b n low at) where
+  module _ (more : n < count) where
+    first : checked (read_entries ks 0 count b)
+        ≡ checked (then (check_entry ks low (drop at b)) (after ks low (count - (n + 1))))
+    first = l.same ∙ ap checked (one_entry ks low (count - (n + 1)) (drop at b) (omega arith))
 
-    pub goes_on : {object old new next : ℕ} → r ≡ Passed.Entry object old new next
-        → Left ns count b (n - 1) (object + 1) next
+    pub stops : {a : Answer} → Err a ≡ given (passed (at + 2)) (check_entry ks low (drop at b))
+        → Err a ≡ checked (read_entries ks 0 count b)
+    stops p =
+        first_given (check_entry ks low (drop at b)) (passed (at + 2)) (after ks low (count - (n + 1))) _ p ∙ sym first
+
+    pub goes_on : {c : Passed} → Ok c ≡ given (passed (at + 2)) (check_entry ks low (drop at b))
+        → Left ks count b (n + 1) (c.object + 1) c.next
     unfolding after
-    goes_on {object} {old} {new} {next} p =
-        let E : Entry = entry_at (kinds_of ns) (drop at b) in
-        let q = passed_entry ns low b at r-is p in
-        let k = was_checked (kinds_of ns) low (drop at b) q.1 in
+    goes_on {c} p =
+        let E : Entry = entry_at ks (drop at b) in
+        let q = passed_entry ks low b at p in
+        let k = was_checked ks low (drop at b) q.1 in
         let w : ℕ = width_of E.kind in
-        let o : object ≡ E.object = q.2 ∙ ap (λ (e : Entry). e.object) (sym k.0) in
-        let x : next ≡ at + 2 + w + w =
-        q.5 ∙ ap (λ (e : Entry). at + 2 + width_of e.kind + width_of e.kind) (sym k.0) in
-        let d : E.rest ≡ drop next b =
+        let s : passed (at + 2) E ≡ c = ap (passed (at + 2)) k.0 ∙ q.2 in
+        let o : E.object ≡ c.object = ap (λ (c : Passed). c.object) s in
+        let x : at + 2 + w + w ≡ c.next = ap (λ (c : Passed). c.next) s in
+        let d : E.rest ≡ drop c.next b =
         ap (λ (c : List ℕ). drop w (drop w c)) (drop-drop 2 at b) ∙ ap (drop w) (drop-drop w (at + 2) b)
-        ∙ drop-drop w (at + 2 + w) b ∙ ap (λ (m : ℕ). drop m b) (sym x) in
-        let one : suc E.object ≡ object + 1 = omega arith in
+        ∙ drop-drop w (at + 2 + w) b ∙ ap (λ (m : ℕ). drop m b) x in
+        let one : suc E.object ≡ c.object + 1 = omega arith in
+        let m : ℕ = count - (n + 1) in
         record {
           inside = omega (arith, k.1.room, length-drop at b);
           same =
-              l.same ∙ ap told
-              (one_entry (kinds_of ns) low n (drop at b) more
-              ∙ ap (λ (v : Verdict Entry). then v (after (kinds_of ns) low (n - 1)))
-              (q.1 ∙ ap done (sym k.0)))
-              ∙ told_then (read_entries (kinds_of ns) (suc E.object) (n - 1) E.rest)
+              first ∙ ap (λ (v : Verdict Entry). checked (then v (after ks low m))) (q.1 ∙ ap done (sym k.0))
+              ∙ checked_then (read_entries ks (suc E.object) m E.rest)
               (λ cs. replicate (E.object - low) keep ++ (swap E.old E.new ∷ cs))
-              ∙ ap₂ (λ (m : ℕ) (c : List ℕ). told (read_entries (kinds_of ns) m (n - 1) c)) one d;
+              ∙ ap₂ (λ (i : ℕ) (c : List ℕ). checked (read_entries ks i m c)) one d;
         }
 
-  last : n ≤ 0 → told (read_entries (kinds_of ns) 0 count b) ≡ told (over (kinds_of ns) low (length b - at))
-  unfolding over
-  last h = let e : n ≡ 0 = omega arith in l.same ∙ rw (e, length-drop at b)
-
-  module _ (none : n ≤ 0) where
-    pub bytes_over : (at ≡ length b → ⊥) → unnamed 8 0 ≡ told (read_entries (kinds_of ns) 0 count b)
+  module _ (none : count ≤ n) where
+    last : checked (read_entries ks 0 count b) ≡ checked (over ks low (length b - at))
     unfolding over
-    bytes_over h =
-        told_refused (over (kinds_of ns) low (length b - at)) {x = naming 8 65535 255}
-        (rw (ne_eqb (length b - at) 0 (λ e. h (omega (arith, l.inside))))) refl
-        ∙ sym (last none)
+    last = let e : count - n ≡ 0 = omega arith in l.same ∙ rw (e, length-drop at b)
 
-    pub ended : at ≡ length b → unnamed 0 0 ≡ told (read_entries (kinds_of ns) 0 count b)
+    pub bytes_over : (at ≡ length b → ⊥) → Err (unnamed 8 0) ≡ checked (read_entries ks 0 count b)
     unfolding over
-    ended h =
-        told_done (over (kinds_of ns) low (length b - at)) {a = replicate (length (kinds_of ns) - low) keep}
-        (rw (eq-eqb (length b - at) 0 (omega arith))) refl
-        ∙ sym (last none)
+    bytes_over h = rw (last, ne_eqb (length b - at) 0 (λ e. h (omega (arith, l.inside))))
+
+    pub ended : at ≡ length b → Ok tt ≡ checked (read_entries ks 0 count b)
+    unfolding over
+    ended h = rw (last, eq-eqb (length b - at) 0 (omega arith))

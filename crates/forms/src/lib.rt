@@ -8,4 +8,4 @@ mod objects;
 
 pub use image::{check_image, check_image_under};
 pub use list::{check_list, check_list_under};
-pub use objects::{kind_at, place_of, widths_of};
+pub use objects::{place_of, widths_of};

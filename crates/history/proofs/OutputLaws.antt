@@ -6,6 +6,7 @@ use native.Mathlib.Omega.{arith}
 use mathlib.Core.Path.{◌≡◌, refl, sym, ap, ap₂, ◌∙◌}
 use mathlib.Core.Bool.{Bool, true, false}
 use mathlib.Core.List.{List, ◌++◌}
+use Rattle.std.specs.Prelude.{Result, Ok, Err}
 use lib.Dec.{leb}
 use lib.ListN.{length, take, drop, length-append, length-drop, take-append-drop}
 use lib.Seq.{take-append_seam, drop-append_seam, take_at, drop_at}
@@ -13,7 +14,7 @@ use borrow.Rule.Slice.PartMut.{put_mid, mid_of}
 use borrow.Author.Tests.{le-leb, lt-leb, leb-true, leb-false}
 use Rattle.history.specs.declared.Answer.{Answer}
 use Rattle.history.specs.Verdict.{Refused, Verdict, refused, done, then, Outcome, numbers, unnamed, told, settled}
-use Rattle.history.specs.Verdict.{Leaves}
+use Rattle.history.specs.Verdict.{Leaves, given, checked, put, Puts, numbers_of, check_numbers}
 
 -- the numbers of success, the result's bytes in front, the rest as it was
 pub record Success (b out : List ℕ) (o : Outcome) : Type 0 where
@@ -116,6 +117,76 @@ module _ (b out : List ℕ) {n : ℕ} (long : length b ≡ n) {r : Answer} where
   front_leaves h e q =
       let all : n - 0 ≡ n = omega arith in
       written_leaves h e (ap₂ (λ (p : List ℕ) (k : ℕ). p ++ drop k out) q all)
+
+-- ---- `Puts`, from what the code did
+
+-- the call's numbers are those of its last step, or of the check that refused
+pub puts_leave : (v : Verdict (List ℕ)) (out : List ℕ) {r : Result ℕ Answer} {m : List ℕ} → Puts v out r m
+    → Leaves v out (numbers_of r) m
+unfolding put settled
+puts_leave (refused r) out q = (ap numbers_of q.0, q.1)
+puts_leave (done b) out {r} {m} q = go (leb (length b) (length out)) refl q
+  where
+    go : (u : Bool) → leb (length b) (length out) ≡ u → Puts (done b) out r m → Leaves (done b) out (numbers_of r) m
+    go true e q = rw e (ap numbers_of (rw e at q.0), rw e at q.1)
+    go false e q = rw e (ap numbers_of (rw e at q.0), rw e at q.1)
+
+pub check_tells : {A : Type 0} (v : Verdict A) {r : Result (Unit {0}) Answer} → r ≡ checked v
+    → check_numbers r ≡ told v
+unfolding told
+check_tells (refused r) e = ap check_numbers e
+check_tells (done a) e = ap check_numbers e
+
+pub puts_as : {v w : Verdict (List ℕ)} (out : List ℕ) {r : Result ℕ Answer} {m : List ℕ} → v ≡ w → Puts v out r m
+    → Puts w out r m
+puts_as out e q = rw e at q
+
+pub refused_puts : (v : Verdict (List ℕ)) (out : List ℕ) {x : Refused} {r : Result ℕ Answer} → v ≡ refused x
+    → r ≡ Err (numbers x 0) → Puts v out r out
+unfolding settled put
+refused_puts v out e q = rw e (q, refl)
+
+-- a refused step that writes nothing leaves the output as it was ..
+pub check_puts : {B : Type 0} (v : Verdict (List ℕ)) (f : List ℕ → B) (out : List ℕ) {a : Answer}
+    → Err a ≡ given f v → Puts v out (Err a) out
+check_puts (refused r) f out e = refused_puts _ out refl cc
+check_puts (done b) f out e = absurd (let z : ◌≡◌ {A = ℕ} 0 1 = cc in omega arith)
+
+-- .. and its numbers are those of the whole
+pub first_puts : {A B : Type 0} (v : Verdict A) (g : A → B) (f : A → Verdict (List ℕ)) (out : List ℕ) {a : Answer}
+    → Err a ≡ given g v → Puts (then v f) out (Err a) out
+first_puts (refused r) g f out e = refused_puts _ out refl cc
+first_puts (done x) g f out e = absurd (let z : ◌≡◌ {A = ℕ} 0 1 = cc in omega arith)
+
+pub first_given : {A B C : Type 0} (v : Verdict A) (g : A → B) (f : A → Verdict C) {D : Type 0} (h : C → D) {a : Answer}
+    → Err a ≡ given g v → Err a ≡ given h (then v f)
+first_given (refused r) g f h e = cc
+first_given (done x) g f h e = absurd (let z : ◌≡◌ {A = ℕ} 0 1 = cc in omega arith)
+
+-- an `Ok` comes from a value
+pub given_done : {A B : Type 0} (v : Verdict A) (g : A → B) {b : B} → Ok b ≡ given g v
+    → (a : A) × (v ≡ done a) × (g a ≡ b)
+given_done (refused r) g e = absurd (let z : ◌≡◌ {A = ℕ} 0 1 = cc in omega arith)
+given_done (done a) g e = (a, refl, cc)
+
+module _ (b out : List ℕ) {n : ℕ} (long : length b ≡ n) {r : Result ℕ Answer} where
+  -- 21: too little room
+  pub short_puts : length out < n → r ≡ Err (unnamed 21 n) → Puts (done b) out r out
+  unfolding put
+  short_puts h e =
+      let s = too_short {b = b} out refl (rw long h) in
+      (rw (lt-leb (length b) (length out) (rw long h), long) e, sym s.1)
+
+  pub written_puts : n ≤ length out → r ≡ Ok n → {m : List ℕ} → m ≡ b ++ drop n out → Puts (done b) out r m
+  unfolding settled put
+  written_puts h e q = rw (le-leb (length b) (length out) (rw long h), long) (e, q)
+
+  -- the front was lent as a part and came back as the result's bytes
+  pub front_puts : n ≤ length out → r ≡ Ok n → {part : List ℕ} → part ≡ b
+      → Puts (done b) out r (put_mid 0 (n - 0) out part)
+  front_puts h e q =
+      let all : n - 0 ≡ n = omega arith in
+      written_puts h e (ap₂ (λ (p : List ℕ) (k : ℕ). p ++ drop k out) q all)
 
 -- ---- a copy cs of A at the front of an output, which is lent again as a part
 

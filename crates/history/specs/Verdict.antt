@@ -2,6 +2,7 @@
 -- object and bit as named, else 65535 and 255; length 0 except code 21." "Success writes the front of the output; the
 -- rest stays. Refusal writes no output." (A backlog's list that is refused does both otherwise: Backlog.)
 use Rattle.std.specs.Prelude.{ℕ, Bool, true, false, cond, ◌≡◌, List, ◌++◌, leb, length, drop}
+use Rattle.std.specs.Prelude.{Result, Ok, Err}
 use Rattle.history.specs.declared.Answer.{Answer}
 
 -- a refusal: its code, and the object and the bit that it names
@@ -78,3 +79,32 @@ settled (done b) out =
 -- a call that writes returns the numbers r, and leaves m in the output that was out
 abbrev pub Leaves : Verdict (List ℕ) → List ℕ → Answer → List ℕ → Type 0
 Leaves v out r m = (r ≡ (settled v out).answer) × (m ≡ (settled v out).output)
+
+-- ---- the same between the floors, where the caller goes on after an `Ok`
+
+-- what f makes of the value, or the numbers of the refusal
+abbrev pub given : {A B : Type 0} → (A → B) → Verdict A → Result B Answer
+given f (refused r) = Err (numbers r 0)
+given f (done a) = Ok (f a)
+
+-- a check
+abbrev pub checked : {A : Type 0} → Verdict A → Result (Unit {0}) Answer
+checked v = given (λ a. tt) v
+
+-- what is written: how many bytes, or the numbers of a refusal, or of 21
+unfoldable pub put : Verdict (List ℕ) → List ℕ → Result ℕ Answer
+put (refused r) out = Err (numbers r 0)
+put (done b) out = cond (leb (length b) (length out)) (Ok (length b)) (Err (unnamed 21 (length b)))
+
+-- a step that writes gives r, and leaves m in the output that was out
+abbrev pub Puts : Verdict (List ℕ) → List ℕ → Result ℕ Answer → List ℕ → Type 0
+Puts v out r m = (r ≡ put v out) × (m ≡ (settled v out).output)
+
+-- the four numbers of either
+abbrev pub numbers_of : Result ℕ Answer → Answer
+numbers_of (Ok n) = unnamed 0 n
+numbers_of (Err a) = a
+
+abbrev pub check_numbers : Result (Unit {0}) Answer → Answer
+check_numbers (Ok u) = unnamed 0 0
+check_numbers (Err a) = a

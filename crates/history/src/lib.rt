@@ -2,6 +2,8 @@
 // The only code is the types that the definitions use.
 #![tactic(auto)]
 
+mod answers;
+
 // The four numbers that every call returns; `specs/Verdict.antt` says what they are.
 #[derive(Clone, Copy)]
 pub struct Answer {

@@ -2,3 +2,4 @@ pub mod Places
 pub mod Outlines
 pub mod LabelPlaces
 pub mod Hashes
+pub mod Plans

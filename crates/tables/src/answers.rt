@@ -1,5 +1,4 @@
-// The numbers that a call returns, one function for each kind of answer;
-// and `Outline`, what `outline` returns with them.
+// The numbers that a call returns, one function for each kind of answer.
 ghost use Rattle.std.specs.Prelude.{◌≡◌};
 ghost use Rattle.history.specs.Image.{found_in};
 ghost use Rattle.history.specs.Verdict.{naming, numbers, unnamed, of_length};
@@ -79,15 +78,4 @@ pub fn with_length(answer: Answer, length: u32) -> Answer
         bit: answer.bit,
         length,
     }
-}
-
-// What `outline` returns: the table's answer, and for an accepted table X, Y, the count and
-// each object's layout number, else zeros.
-#[derive(Clone, Copy)]
-pub struct Outline {
-    pub answer: Answer,
-    pub x: u8,
-    pub y: u8,
-    pub count: usize,
-    pub kinds: [u8; 1024],
 }

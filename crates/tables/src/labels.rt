@@ -6,32 +6,23 @@ ghost use Rattle.tables.specs.Hashes.{hash_from, hash_of, hashed};
 
 use heads::byte_at;
 
-// What checking a label gives: it is bad, or good with its entry's hash.
-#[derive(Clone, Copy)]
-pub enum Label {
-    Bad,
-    Good(usize),
-}
-
-// Good if all bytes are 33 to 126. The hash continues from `first`.
-fn check_bytes(first: usize, label: &[u8]) -> Label
+// The hash continued from `first`, if all bytes are 33 to 126.
+fn check_bytes(first: usize, label: &[u8]) -> Option<usize>
     requires { first < 1024 }
     ensures { result ≡ hashed (printable label.now) (hash_from first label.now) }
 {
     let mut hash = first;
-    let mut i = 0;
-    while i < label.len() {
-        let byte = byte_at(label, i);
+    for byte in label {
+        let byte = *byte as usize;
         if byte < 33 {
-            return Label::Bad;
+            return None;
         }
         if 126 < byte {
-            return Label::Bad;
+            return None;
         }
         hash = (hash * 9 + byte) % 1024;
-        i += 1;
     }
-    Label::Good(hash)
+    Some(hash)
 }
 
 // The place of the first colon; the length where there is none.
@@ -48,22 +39,22 @@ fn first_colon(label: &[u8]) -> usize
     i
 }
 
-fn check_label(first: usize, label: &[u8]) -> Label
+fn check_label(first: usize, label: &[u8]) -> Option<usize>
     requires { first < 1024 }
     ensures { result ≡ hashed (label_good label.now) (hash_from first label.now) }
 {
     let colon = first_colon(label);
     if colon < 1 {
-        return Label::Bad;
+        return None;
     }
     if label.len() <= colon + 1 {
-        return Label::Bad;
+        return None;
     }
     check_bytes(first, label)
 }
 
 // Checks the label of the entry at `at`. The hash starts from the entry's type.
-pub fn check_label_at(table: &[u8], at: usize, size: usize) -> Label
+pub fn check_label_at(table: &[u8], at: usize, size: usize) -> Option<usize>
     requires { at + 2 + size ≤ length table.now }
     ensures { result ≡ hashed (label_good (take size (drop (at + 2) table.now)))
         (hash_of (get_or table.now at 0) (take size (drop (at + 2) table.now))) }

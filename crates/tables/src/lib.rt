@@ -5,13 +5,13 @@
 
 mod answers;
 mod labels;
+mod outlines;
 mod place;
 mod plan;
 mod table;
 
-pub use answers::{
-    Outline, accepted, refused, refused_at, refused_by, short, with_length, written,
-};
+pub use answers::{accepted, refused, refused_at, refused_by, short, with_length, written};
 pub use place::{LabelAt, label_place};
-pub use plan::{first_kinds, outline};
+pub use outlines::{Outline, Plan};
+pub use plan::outline;
 pub use table::{check_table, is_catalogue};

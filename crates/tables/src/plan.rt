@@ -1,71 +1,38 @@
 // What the other forms are read by: X, Y and each object's kind, of an accepted table.
-ghost use Rattle.std.specs.Prelude.{◌≡◌, ◌≤◌, length, take};
-ghost use Rattle.history.specs.Verdict.{told};
-ghost use Rattle.kinds.specs.Kinds.{layout_no};
-ghost use Rattle.elements.specs.Elements.{kind_of};
-ghost use Rattle.history.specs.Calls.{table_call};
+ghost use Rattle.std.specs.Prelude.{◌≡◌, length, take, get_or};
+ghost use Rattle.history.specs.Verdict.{given, told, done};
+ghost use Rattle.history.specs.Calls.{table_call, read_plan};
 ghost use Rattle.heads.specs.Heads.{count_in};
-ghost use Rattle.tables.specs.Outlines.{Outlined, layouts_in};
 
-use super::answers::Outline;
-use super::table::{check_table, entry_size};
+use super::outlines::Outline;
+use super::table::{entry_size, read_table};
 use heads::{object_count, objects_place};
+use history::Answer;
+use kinds::Kind;
 
 // Checks a table, and reads from an accepted one what the other forms are read by.
-pub fn outline(table: &[u8]) -> Outline
-    ensures { Outlined table.now result }
+pub fn outline(table: &[u8]) -> Result<Outline, Answer>
+    ensures { result ≡ given (λ p. p) (read_plan table.now) }
 {
-    let answer = check_table(table);
-    if answer.code != 0 {
-        return Outline {
-            answer,
-            x: 0,
-            y: 0,
-            count: 0,
-            kinds: [0u8; 1024],
-        };
-    }
+    read_table(table)?;
     let x = table[5];
     let y = table[6];
     let count = object_count(table);
-    let kinds = kinds_of(table, count);
-    Outline {
-        answer,
-        x,
-        y,
-        count,
-        kinds,
-    }
+    let kinds = kinds_in(table, count);
+    Ok(Outline::of_kinds(x, y, count, kinds))
 }
 
-// The layout numbers of an accepted table's objects, in table order; zeros after them.
-fn kinds_of(table: &[u8], count: usize) -> [u8; 1024]
+// The kinds of an accepted table's objects, in table order, in the first places.
+fn kinds_in(table: &[u8], count: usize) -> [Kind; 1024]
     requires { ((told (table_call table.now)).code ≡ 0) × (count ≡ count_in table.now) }
-    ensures { result ≡ layouts_in (table_call table.now) }
+    ensures { read_plan table.now
+        ≡ done (record { x = get_or table.now 5 0; y = get_or table.now 6 0; kinds = take count result }) }
 {
-    let mut kinds = [0u8; 1024];
+    let mut kinds = [Kind::Signal; 1024];
     let mut at = objects_place();
-    let mut i = 0;
-    while i < count {
-        kinds[i] = layout_of(table[5], table[at]);
-        at = at + entry_size(table, at);
-        i += 1;
+    for i in 0..count {
+        kinds[i] = elements::kind_of(table[5], table[at]);
+        at += entry_size(table, at);
     }
     kinds
-}
-
-// The first layout numbers, as many as there are objects. They are lent from the outline's
-// array, so that it isn't copied.
-pub fn first_kinds(kinds: &[u8], count: usize) -> &[u8]
-    requires { count ≤ length kinds.now }
-    ensures { result.now ≡ take count kinds.now }
-{
-    &kinds[..count]
-}
-
-// The layout number of a type under a catalogue's X.
-fn layout_of(x: u8, ty: u8) -> u8
-    ensures { result ≡ layout_no (kind_of x ty) }
-{
-    elements::layout_number(elements::kind_of(x, ty))
 }

@@ -1,14 +1,13 @@
 // The check of the table form.
 ghost use Rattle.std.specs.Prelude.{◌≡◌, ◌&&◌, ◌+◌, ◌≤◌, ◌<◌, leb, length, get_or};
-ghost use Rattle.history.specs.Verdict.{told};
+ghost use Rattle.history.specs.Verdict.{told, checked, given};
 ghost use Rattle.history.specs.Table.{version_good, catalogue_good, label_limit};
 ghost use Rattle.history.specs.Calls.{table_call};
 ghost use Rattle.heads.specs.Heads.{objects_place};
 ghost use Rattle.tables.specs.Places.{check_object_at, hash_at, objects_in};
-ghost use Rattle.tables.specs.Hashes.{found};
 
-use super::answers::{accepted, refused, refused_at};
-use super::labels::{Label, check_label_at};
+use super::answers::{refused, refused_at};
+use super::labels::check_label_at;
 use heads::{byte_at, is_whole, object_count, objects_place};
 use history::Answer;
 
@@ -16,22 +15,29 @@ const MOST_OBJECTS: usize = 1024;
 
 const LONGEST_LABEL: usize = 32;
 
-// The check of a table: 1, 2, 3, 4, then the entries.
+// The check of a table.
 pub fn check_table(table: &[u8]) -> Answer
     ensures { result ≡ told (table_call table.now) }
 {
+    read_table(table).into()
+}
+
+// 1, 2, 3, 4, then the entries.
+pub fn read_table(table: &[u8]) -> Result<(), Answer>
+    ensures { result ≡ checked (table_call table.now) }
+{
     if !is_whole(table, 5) {
-        return refused(1);
+        return Err(refused(1));
     }
     if !is_table_version(table[4]) {
-        return refused(2);
+        return Err(refused(2));
     }
     if !is_catalogue(table[5], table[6]) {
-        return refused(3);
+        return Err(refused(3));
     }
     let count = object_count(table);
     if MOST_OBJECTS < count {
-        return refused(4);
+        return Err(refused(4));
     }
     check_objects(table, count)
 }
@@ -41,9 +47,9 @@ pub fn check_table(table: &[u8]) -> Answer
 // type, by length, and then by label from the last byte to the first, since the labels of a station begin alike.
 // `lasts` has for each hash its last entry, `links` for each entry the one before it of the same hash: each as its
 // number plus one, 0 for none. `starts` has for each entry where it begins.
-fn check_objects(table: &[u8], count: usize) -> Answer
+fn check_objects(table: &[u8], count: usize) -> Result<(), Answer>
     requires { (objects_place ≤ length table.now) × (count ≤ 1024) }
-    ensures { result ≡ told (objects_in table.now count) }
+    ensures { result ≡ checked (objects_in table.now count) }
 {
     let mut lasts = [0u16; 1024];
     let mut links = [0u16; 1024];
@@ -51,15 +57,7 @@ fn check_objects(table: &[u8], count: usize) -> Answer
     let mut k = 0;
     let mut at = objects_place();
     'entries: while k < count {
-        let mut hash = 0;
-        match check_object(table, at, k as u16) {
-            Found::Refused(answer) => {
-                return answer;
-            }
-            Found::Entry(own) => {
-                hash = own;
-            }
-        }
+        let hash = check_object(table, at, k as u16)?;
         let size = entry_size(table, at);
         let mut j = lasts[hash] as usize;
         'earlier: while 0 < j {
@@ -88,12 +86,12 @@ fn check_objects(table: &[u8], count: usize) -> Answer
         lasts[hash] = k as u16;
     }
     if k < count {
-        return refused_at(7, k as u16);
+        return Err(refused_at(7, k as u16));
     }
     if at != table.len() {
-        return refused(8);
+        return Err(refused(8));
     }
-    accepted()
+    Ok(())
 }
 
 // How many bytes an entry takes: its type, its label length and its label.
@@ -104,37 +102,26 @@ pub fn entry_size(table: &[u8], at: usize) -> usize
     2 + byte_at(table, at + 1)
 }
 
-// What checking an entry gives: the answer if it is refused, else the entry's hash.
-#[derive(Clone, Copy)]
-enum Found {
-    Refused(Answer),
-    Entry(usize),
-}
-
-// An entry, except for repeats: 8 (two bytes missing), 5, 6 (length), 8 (label cut), 6 (bytes).
-fn check_object(table: &[u8], at: usize, object: u16) -> Found
+// The hash of an entry that passes, except for repeats: 8 (two bytes missing), 5, 6 (length), 8 (label cut), 6 (bytes).
+fn check_object(table: &[u8], at: usize, object: u16) -> Result<usize, Answer>
     requires { (objects_place ≤ length table.now) × (at ≤ length table.now) }
-    ensures { result ≡ found (hash_at table.now at) (check_object_at table.now at object) }
+    ensures { result ≡ given (λ next. hash_at table.now at) (check_object_at table.now at object) }
 {
     let left = table.len() - at;
     if left < 2 {
-        return Found::Refused(refused(8));
+        return Err(refused(8));
     }
     if !elements::is_carried(table[5], table[at]) {
-        return Found::Refused(refused_at(5, object));
+        return Err(refused_at(5, object));
     }
     let size = byte_at(table, at + 1);
     if !is_size(table[4], size) {
-        return Found::Refused(refused_at(6, object));
+        return Err(refused_at(6, object));
     }
     if left - 2 < size {
-        return Found::Refused(refused(8));
+        return Err(refused(8));
     }
-    let label = check_label_at(table, at, size);
-    let Label::Good(hash) = label else {
-        return Found::Refused(refused_at(6, object));
-    };
-    Found::Entry(hash)
+    check_label_at(table, at, size).ok_or(refused_at(6, object))
 }
 
 // The version byte of a table that can be read.

@@ -1,16 +1,17 @@
 -- `forms::list::check_elements` meets its contract: each return is what the tests so far decide.
 -- Assumes nothing.
-use Rattle.forms.proofs.ListEntryLaws.{refuses, elements_cut, old_bad, new_bad, both_good}
+use Rattle.forms.proofs.Found.{refuses}
+use Rattle.forms.proofs.ListEntryLaws.{elements_cut, old_bad, new_bad, both_good}
 use Rattle.forms.proofs.list.check_elements.Goals as goal
 
 pub returns-then-entries-at : goal.returns-then-entries-at
-returns-then-entries-at c = refuses _ c.refused.ensures (search elements_cut)
+returns-then-entries-at c = refuses _ (search elements_cut) c.refused.ensures
 
 pub returns-in-Refused : goal.returns-in-Refused
-returns-in-Refused c = refuses _ c.refused_by.ensures (search old_bad)
+returns-in-Refused c = refuses _ (search old_bad) c.refused_by.ensures
 
-pub returns-in-Refused-after : goal.returns-in-Refused-after
-returns-in-Refused-after c = refuses _ c.refused_by-in-Refused-after.ensures (search new_bad)
+pub returns-in-Refused-check_element : goal.returns-in-Refused-check_element
+returns-in-Refused-check_element c = refuses _ (search new_bad) c.refused_by-in-Refused-check_element.ensures
 
 pub returns : goal.returns
 returns c = search both_good

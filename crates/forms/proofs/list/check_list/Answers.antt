@@ -1,19 +1,8 @@
--- `forms::list::check_list` meets its contract: a refused table's answer is the whole answer;
--- under an accepted one the list decides.
+-- `forms::list::check_list` meets its contract: the numbers of what its reading gives.
 -- Assumes nothing.
-use mathlib.Core.Path.{ap, ◌∙◌}
-use Rattle.history.specs.Verdict.{told}
-use Rattle.forms.proofs.UnderPlan.{table_refused, list_starts, list_under, kinds_inside, few_kinds}
+use mathlib.Core.Path.{◌∙◌}
+use Rattle.history.proofs.OutputLaws.{check_tells}
 use Rattle.forms.proofs.list.check_list.Goals as goal
 
-pub returns-then-answer-ne0 : goal.returns-then-answer-ne0
-returns-then-answer-ne0 c = table_refused c.outline-known.ensures c.if-answer-ne0.true (list_starts _ _)
-
-pub first_kinds-requires : goal.first_kinds-requires
-first_kinds-requires c = search kinds_inside
-
-pub check_list_under-requires : goal.check_list_under-requires
-check_list_under-requires c = search few_kinds
-
 pub returns : goal.returns
-returns c = c.check_list_under.ensures ∙ ap told (search list_under)
+returns c = c.into.ensures ∙ check_tells _ c.read_list.ensures
