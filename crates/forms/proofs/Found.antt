@@ -2,19 +2,19 @@
 -- by what its definition says, and back.
 -- Assumes nothing.
 use Prim.Native.Nat.{ℕ}
-use mathlib.Core.Path.{◌≡◌, refl, sym, ap, ◌∙◌}
 use Rattle.std.specs.Prelude.{Ok, Err}
-use Rattle.rows.specs.declared.Finding.{Finding}
+use mathlib.Core.Path.{◌≡◌, refl, sym, ap, ◌∙◌}
+use Rattle.rows.specs.Values.{Finding}
 use Rattle.rows.specs.declared.Refusal.{Refusal}
 use Rattle.history.specs.declared.Answer.{Answer}
 use Rattle.history.specs.Verdict.{Refused, Verdict, refused, done, then, numbers, given, checked}
 use Rattle.history.specs.Image.{found_in, ◌of◌⨾◌}
 
-pub is_bad : {A : Type 0} (f : Finding) (i : ℕ) (rest : Verdict A) (r : Refusal) → f ≡ Finding.Refused r
+pub is_bad : {A : Type 0} (f : Finding) (i : ℕ) (rest : Verdict A) (r : Refusal) → f ≡ Err r
     → (f of i ⨾ rest) ≡ refused (found_in r i)
 is_bad f i rest r e = ap (λ (f : Finding). f of i ⨾ rest) e
 
-pub is_good : {A : Type 0} (f : Finding) (i : ℕ) (rest : Verdict A) → f ≡ Finding.Accepted → (f of i ⨾ rest) ≡ rest
+pub is_good : {A : Type 0} (f : Finding) (i : ℕ) (rest : Verdict A) → f ≡ Ok tt → (f of i ⨾ rest) ≡ rest
 is_good f i rest e = ap (λ (f : Finding). f of i ⨾ rest) e
 
 -- ---- what is returned

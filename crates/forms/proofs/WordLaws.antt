@@ -1,13 +1,13 @@
 -- The loop over an image's elements, one turn at a time: what the whole gives is what the rest gives.
 -- Assumes nothing.
 use Prim.Native.Nat.{ℕ, suc, ◌+◌, ◌≤◌, ◌<◌}
+use Rattle.std.specs.Prelude.{Ok, Err}
 use native.Mathlib.Omega.{arith}
 use mathlib.Core.Path.{◌≡◌, refl, sym, ap, ap₂, ◌∙◌}
 use mathlib.Core.List.{List, ◌∷◌}
 use lib.ListN.{length, take, drop}
 use lib.Seq.{drop-drop}
-use Rattle.std.specs.Prelude.{Ok, Err}
-use Rattle.rows.specs.declared.Finding.{Finding}
+use Rattle.rows.specs.Values.{Finding}
 use Rattle.rows.specs.declared.Refusal.{Refusal}
 use Rattle.kinds.specs.Kinds.{width_of}
 use Rattle.elements.specs.Elements.{element_check}
@@ -57,11 +57,11 @@ module _ {ks : List Kind} {b : List ℕ} {i at : ℕ} (l : Left ks b i at) (h : 
         (kinds_next ks i h ∙ ap (λ (k : Kind). k ∷ drop (i + 1) ks) (sym kind_is_lem))
         ∙ rw (← found-is)
 
-    pub stops : {r : Refusal} → found ≡ Finding.Refused r → {a : Answer} → a ≡ numbers (found_in r i) 0
+    pub stops : {r : Refusal} → found ≡ Err r → {a : Answer} → a ≡ numbers (found_in r i) 0
         → Err a ≡ checked (read_words 0 ks b)
     stops {r} e q = refuses _ (is_bad found i next r e) q ∙ sym here
 
-    pub goes_on : found ≡ Finding.Accepted → {w : ℕ} → w ≡ width_of kind → Left ks b (i + 1) (at + w)
+    pub goes_on : found ≡ Ok tt → {w : ℕ} → w ≡ width_of kind → Left ks b (i + 1) (at + w)
     unfolding next word
     goes_on e {w} wide =
         let one : suc i ≡ i + 1 = omega arith in

@@ -9,7 +9,6 @@ use super::objects::widths_of;
 use heads::{elements_of, elements_place, is_under, is_whole};
 use history::Answer;
 use kinds::Kind;
-use rows::Finding;
 use tables::{Plan, outline, refused, refused_by};
 
 // Checks an image under its table.
@@ -60,7 +59,7 @@ fn check_words(kinds: &[Kind], words: &[u8]) -> Result<(), Answer>
 {
     let mut at: usize = 0;
     for (i, kind) in kinds.iter().enumerate() {
-        if let Finding::Refused(r) = elements::check_at(words, at, *kind) {
+        if let Err(r) = elements::check_at(words, at, *kind) {
             return Err(refused_by(r, i as u16));
         }
         at += elements::width(*kind);

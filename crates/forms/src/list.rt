@@ -9,7 +9,6 @@ ghost use Rattle.forms.specs.ListEntries.{passed};
 use heads::{entries_of, entry_count, is_under, is_whole};
 use history::Answer;
 use kinds::Kind;
-use rows::Finding;
 use tables::{Plan, outline, refused, refused_at, refused_by};
 
 // Checks a change list under its table.
@@ -115,10 +114,10 @@ fn check_elements(kind: Kind, object: u16, entries: &[u8], at: usize) -> Result<
     let middle = at + width;
     let old = octets::get_at(entries, at, width);
     let new = octets::get_at(entries, middle, width);
-    if let Finding::Refused(r) = elements::check_element(old, kind) {
+    if let Err(r) = elements::check_element(old, kind) {
         return Err(refused_by(r, object));
     }
-    if let Finding::Refused(r) = elements::check_element(new, kind) {
+    if let Err(r) = elements::check_element(new, kind) {
         return Err(refused_by(r, object));
     }
     Ok(Passed {

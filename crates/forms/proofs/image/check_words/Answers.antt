@@ -3,8 +3,8 @@
 use Rattle.forms.proofs.WordLaws.{stops, goes_on}
 use Rattle.forms.proofs.image.check_words.Goals as goal
 
-pub returns-in-Refused : goal.returns-in-Refused
-returns-in-Refused c = search stops
+pub returns-in-Err : goal.returns-in-Err
+returns-in-Err c = search stops
 
 pub loop-i-preserved : goal.loop-i-preserved
 loop-i-preserved c = search goes_on
