@@ -1,10 +1,13 @@
 -- An answer and its verdict: what the answer tells of it, and that a refusal is the answer of the whole.
 -- Assumes nothing.
-use mathlib.Core.Path.{◌≡◌, refl, sym, ◌∙◌}
+use mathlib.Core.Path.{◌≡◌, refl, sym, ap, ◌∙◌}
 use mathlib.Core.Bool.{Bool, true, false, not}
+use Rattle.std.specs.Prelude.{Result, Err}
+use Rattle.std.specs.Result.{IsErrAnd}
+use Rattle.std.proofs.lemmas.Result.{err_from_is_err_and}
 use borrow.Author.Tests.{not-true, not-false}
 use Rattle.history.specs.declared.Answer.{Answer}
-use Rattle.history.specs.Verdict.{Refused, Verdict, refused, done, then, numbers, unnamed, told}
+use Rattle.history.specs.Verdict.{Refused, Verdict, refused, done, then, numbers, unnamed, told, checked}
 
 -- what `if !t` tells of the definition that t equals
 pub no : {t u : Bool} → t ≡ u → not t ≡ true → u ≡ false
@@ -40,3 +43,14 @@ pub then_same : {A B : Type 0} (v : Verdict A) (f g : A → Verdict B) → ((a :
     → then v f ≡ then v g
 then_same (refused r) f g h = refl
 then_same (done a) f g h = h a refl
+
+-- ---- the same of what a check gives
+
+-- what `?` returns is the refusal
+pub passed_on : {A E : Type 0} {e : E} (r : Result A E) → IsErrAnd r (λ x. x ≡ e) → r ≡ Err e
+passed_on r h = let p = err_from_is_err_and r h in p.1 ∙ ap Err p.2
+
+-- what a check gives doesn't depend on the value
+pub checked_then : {A B : Type 0} (v : Verdict A) (f : A → B) → checked (then v (λ a. done (f a))) ≡ checked v
+checked_then (refused r) f = refl
+checked_then (done a) f = refl

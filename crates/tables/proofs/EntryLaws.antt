@@ -1,42 +1,37 @@
 -- An entry, except for repeats: each answer from the tests that lead there, and what an accepted entry tells.
 -- Assumes nothing.
 use Prim.Native.Nat.{ℕ, ◌+◌, ◌-◌, ◌≤◌, ◌<◌}
-use mathlib.Core.Path.{◌≡◌, refl, sym, ap, ◌∙◌}
+use mathlib.Core.Path.{◌≡◌, sym, ◌∙◌}
 use mathlib.Core.List.{List}
-use mathlib.Core.Bool.{true, false, ◌&&◌}
+use mathlib.Core.Bool.{Bool, true, false, ◌&&◌}
+use Rattle.std.specs.Prelude.{Option, Result, Ok, Err}
+use Rattle.std.specs.Option.{ok_or}
 use native.Mathlib.Omega.{arith}
 use lib.ListN.{length, get_or, take, drop}
 use lib.Dec.{leb}
 use borrow.Author.Tests.{lt-leb, le-leb, leb-true}
 use Rattle.history.specs.declared.Answer.{Answer}
-use Rattle.history.specs.Verdict.{Refused, Verdict, refused, done, refusal, refusal_at, numbers}
+use Rattle.history.specs.Verdict.{Refused, naming, Verdict, refused, done, refusal, refusal_at, ◌unless◌⨾◌, numbers}
+use Rattle.history.specs.Verdict.{given}
+use Rattle.history.proofs.OutputLaws.{given_done}
 use Rattle.elements.specs.Elements.{carried}
 use Rattle.history.specs.Table.{label_limit, label_good}
 use Rattle.history.proofs.VerdictLaws.{left, right, held}
 use Rattle.tables.specs.Places.{check_object_at, hash_at}
-use Rattle.tables.specs.Hashes.{hash_of, hashed, found}
-use Rattle.tables.specs.declared.labels.Label.{Label}
-use Rattle.tables.specs.declared.table.Found.{Found}
-use Rattle.tables.proofs.LabelLaws.{was_bad, was_good, hash_few}
+use Rattle.tables.specs.Hashes.{hash_of, hashed}
+use Rattle.tables.proofs.LabelLaws.{hash_few}
 
 -- ---- what checking an entry gives
 
 pub refuses : (hash : ℕ) {v : Verdict ℕ} {x : Refused} {a : Answer} → a ≡ numbers x 0 → v ≡ refused x
-    → Found.Refused a ≡ found hash v
-unfolding found
-refuses hash e f = ap Found.Refused e ∙ sym (ap (found hash) f)
+    → Err a ≡ given (λ (next : ℕ). hash) v
+refuses hash e f = rw (f, e)
 
-refused_in : (hash : ℕ) (v : Verdict ℕ) (a : Answer) → Found.Refused a ≡ found hash v
-    → (x : Refused) × (v ≡ refused x) × (a ≡ numbers x 0)
-unfolding found
-refused_in hash (refused r) a e = (r, refl, (cc))
-refused_in hash (done next) a e = absurd (let z : ◌≡◌ {A = ℕ} 0 1 = cc in omega arith)
-
-entry_in : (hash : ℕ) (v : Verdict ℕ) (own : ℕ) → Found.Entry own ≡ found hash v
-    → (next : ℕ) × (v ≡ done next) × (own ≡ hash)
-unfolding found
-entry_in hash (refused r) own e = absurd (let z : ◌≡◌ {A = ℕ} 0 1 = cc in omega arith)
-entry_in hash (done next) own e = (next, refl, (cc))
+hashed_or : (k size : ℕ) (good : Bool) (hash : ℕ) {r : Option ℕ} → r ≡ hashed good hash
+    → ok_or r (numbers (naming 6 k 255) 0) ≡ given (λ (next : ℕ). hash) (refusal_at 6 k unless good ⨾ done size)
+unfolding hashed
+hashed_or k size false hash e = rw e
+hashed_or k size true hash e = rw e
 
 -- ---- each test
 
@@ -63,23 +58,18 @@ module _ (b : List ℕ) (at k : ℕ) where
         unfolding check_object_at
         label_cut h = rw (← e) (simp (both, type, size, lt-leb (at + (2 + n)) (length b) (omega arith)))
 
-        module _ (rest : n ≤ length b - at - 2) {r : Label}
-            (r-is : r ≡ hashed (label_good (take n (drop (at + 2) b)))
-            (hash_of (get_or b at 0) (take n (drop (at + 2) b)))) where
-          all : leb (at + (2 + n)) (length b) ≡ true
-          all = le-leb (at + (2 + n)) (length b) (omega arith)
-
-          pub label_bad : r ≡ Label.Bad → check_object_at b at k ≡ refusal_at 6 k
-          unfolding check_object_at
-          label_bad h =
-              let bad = was_bad (label_good (take n (drop (at + 2) b))) _ (sym h ∙ r-is) in
-              rw (← e) (simp (both, type, size, all, bad))
-
-          pub entry_good : {h : ℕ} → r ≡ Label.Good h → Found.Entry h ≡ found (hash_at b at) (check_object_at b at k)
-          unfolding check_object_at hash_at found
-          entry_good {h} g =
-              let good = was_good (label_good (take n (drop (at + 2) b))) _ h (sym g ∙ r-is) in
-              rw (← e) (simp (both, type, size, all, good.0, ← good.1))
+        -- the label decides
+        pub label_tested : n ≤ length b - at - 2 → (r : Option ℕ)
+            → r ≡ hashed (label_good (take n (drop (at + 2) b))) (hash_of (get_or b at 0) (take n (drop (at + 2) b)))
+            → (a : Answer) → a ≡ numbers (naming 6 k 255) 0
+            → ok_or r a ≡ given (λ (next : ℕ). hash_at b at) (check_object_at b at k)
+        unfolding check_object_at hash_at
+        label_tested rest r r-is a a-is =
+            let all : leb (at + (2 + n)) (length b) ≡ true = le-leb (at + (2 + n)) (length b) (omega arith) in
+            rw (a-is, ← e)
+            (simp (both, type, size, all)
+            (hashed_or k (at + (2 + n)) (label_good (take n (drop (at + 2) b)))
+            (hash_of (get_or b at 0) (take n (drop (at + 2) b))) r-is))
 
 -- what an accepted entry tells
 pub record GoodEntry (b : List ℕ) (at : ℕ) : Type 0 where
@@ -108,20 +98,17 @@ good_entry b at k e =
 
 -- ---- what the result of `check_object` tells
 
-module _ (b : List ℕ) (at k : ℕ) {r : Found} (r-is : r ≡ found (hash_at b at) (check_object_at b at k)) where
-  pub was_refused : {a : Answer} → r ≡ Found.Refused a
-      → (x : Refused) × (check_object_at b at k ≡ refused x) × (a ≡ numbers x 0)
-  was_refused {a} e = refused_in (hash_at b at) (check_object_at b at k) a (sym e ∙ r-is)
+module _ (b : List ℕ) (at k : ℕ) {r : Result ℕ Answer}
+    (r-is : r ≡ given (λ (next : ℕ). hash_at b at) (check_object_at b at k))
+    {own : ℕ} (e : r ≡ Ok own) where
+  pub was_found : (next : ℕ) × (check_object_at b at k ≡ done next) × (hash_at b at ≡ own)
+  was_found = given_done (check_object_at b at k) (λ (next : ℕ). hash_at b at) (sym e ∙ r-is)
 
-  module _ {own : ℕ} (e : r ≡ Found.Entry own) where
-    pub was_found : (next : ℕ) × (check_object_at b at k ≡ done next) × (own ≡ hash_at b at)
-    was_found = entry_in (hash_at b at) (check_object_at b at k) own (sym e ∙ r-is)
+  pub found_two : at + 2 ≤ length b
+  found_two = omega (arith, good_entry b at k was_found.1)
 
-    pub found_two : at + 2 ≤ length b
-    found_two = omega (arith, good_entry b at k was_found.1)
-
-    pub found_few : own < 1024
-    found_few = omega (arith, was_found.2, hash_few b at)
+  pub found_few : own < 1024
+  found_few = omega (arith, was_found.2, hash_few b at)
 
 -- no label is longer than 48 bytes, so an entry takes at most 50, and the places of 1,024 fit the u16 of `starts`
 pub limit_48 : (version : ℕ) → label_limit version ≤ 48

@@ -1,6 +1,6 @@
 -- Labels, a byte at a time: what the loops over a label keep, and the label's test and hash from theirs.
 -- Assumes nothing.
-use Prim.Native.Nat.{ℕ, suc, ◌+◌, ◌-◌, ◌*◌, ◌%◌, ◌≤◌, ◌<◌}
+use Prim.Native.Nat.{ℕ, ◌+◌, ◌-◌, ◌*◌, ◌%◌, ◌≤◌, ◌<◌}
 use mathlib.Core.Path.{◌≡◌, refl, sym, ap, ◌∙◌}
 use mathlib.Core.List.{List, [], ◌∷◌}
 use mathlib.Core.Bool.{Bool, true, false, and-true, and-false}
@@ -8,32 +8,21 @@ use native.Mathlib.Numerals.{add-one}
 use native.Mathlib.Omega.{arith}
 use lib.ListN.{length, get_or, take, drop, drop_of_length-le}
 use lib.Seq.{drop-cons}
-use borrow.Author.Tests.{lt-leb, le-leb, lt-ltb, le-ltb, eq-eqb, ne_eqb}
+use borrow.Author.Tests.{lt-leb, le-leb, lt-ltb, le-ltb, ltb-false}
+use Rattle.std.specs.Prelude.{Option, Some, None, cond}
+use Rattle.std.specs.List.{position_or_len}
+use Rattle.std.proofs.lemmas.List.Recursion.{is_position_or_len}
+use lib.Dec.{eqb, ltb}
 use Rattle.history.specs.Table.{printable, first_colon, label_good}
 use Rattle.tables.specs.Places.{hash_at}
 use Rattle.tables.specs.Hashes.{hash_from, hash_of, hashed}
-use Rattle.tables.specs.declared.labels.Label.{Label}
+use Rattle.tables.specs.Colons.{colon_place}
 
 -- what is left from a place inside: the byte there, then the rest
 at_place : (l : List ℕ) (i : ℕ) → i < length l → drop i l ≡ get_or l i 0 ∷ drop (i + 1) l
 at_place l i h = rw (add-one, drop-cons l i 0)
 
 module _ (l : List ℕ) (i : ℕ) where
-  pub colon_here : i < length l → get_or l i 0 ≡ 58 → first_colon l ≡ i + first_colon (drop i l) → i ≡ first_colon l
-  colon_here h e inv =
-      let z : first_colon (drop i l) ≡ 0 = ap first_colon (at_place l i h) ∙ simp (eq-eqb _ _ e) in omega arith
-
-  pub colon_next : i < length l → (get_or l i 0 ≡ 58 → ⊥) → first_colon l ≡ i + first_colon (drop i l)
-      → first_colon l ≡ i + 1 + first_colon (drop (i + 1) l)
-  colon_next h n inv =
-      let z : first_colon (drop i l) ≡ suc (first_colon (drop (i + 1) l)) =
-      ap first_colon (at_place l i h) ∙ simp (ne_eqb _ _ n) in
-      omega arith
-
-  pub colon_end : length l ≤ i → first_colon l ≡ i + first_colon (drop i l) → i ≡ first_colon l
-  colon_end h inv =
-      let z : first_colon (drop i l) ≡ 0 = ap first_colon (drop_of_length-le l h) in omega arith
-
   module _ (inv : printable l ≡ printable (drop i l)) where
     pub print_end : length l ≤ i → printable l ≡ true
     print_end h = inv ∙ ap printable (drop_of_length-le l h)
@@ -58,43 +47,58 @@ module _ (l : List ℕ) (i : ℕ) where
 
 -- ---- a label's test as the code returns it
 
-pub label_not : (good : Bool) (hash : ℕ) → good ≡ false → Label.Bad ≡ hashed good hash
+pub label_not : (good : Bool) (hash : ℕ) → good ≡ false → None ≡ hashed good hash
 unfolding hashed
 label_not good hash e = rw e
 
-pub label_yes : (good : Bool) (hash h : ℕ) → good ≡ true → h ≡ hash → Label.Good h ≡ hashed good hash
+pub label_yes : (good : Bool) (hash h : ℕ) → good ≡ true → h ≡ hash → Some h ≡ hashed good hash
 unfolding hashed
-label_yes good hash h e f = rw e (ap Label.Good f)
+label_yes good hash h e f = rw e (ap Some f)
 
-pub was_bad : (good : Bool) (hash : ℕ) → Label.Bad ≡ hashed good hash → good ≡ false
-unfolding hashed
-was_bad false hash e = refl
-was_bad true hash e = absurd (let z : ◌≡◌ {A = ℕ} 0 1 = cc in omega arith)
+-- ---- the first colon
 
-pub was_good : (good : Bool) (hash h : ℕ) → Label.Good h ≡ hashed good hash → (good ≡ true) × (h ≡ hash)
-unfolding hashed
-was_good false hash h e = absurd (let z : ◌≡◌ {A = ℕ} 0 1 = cc in omega arith)
-was_good true hash h e = (refl, (cc))
+pub colon_is : (l : List ℕ) → first_colon l ≡ position_or_len (λ b. eqb b 58) l
+colon_is l =
+    is_position_or_len first_colon (λ b. eqb b 58) refl (λ x xs. ap (cond (eqb x 58) 0) (omega arith)) l
 
-module _ (l : List ℕ) (p : ℕ) (e : p ≡ first_colon l) where
-  pub colon_first : p < 1 → label_good l ≡ false
+module _ (l : List ℕ) where
+  pub colon_none : {r : Option ℕ} → r ≡ colon_place l → r ≡ None → label_good l ≡ false
   unfolding label_good
-  colon_first h = rw (← e, lt-leb 1 p h) (and-false (printable l))
+  colon_none e f = go (ltb (first_colon l) (length l)) refl (sym f ∙ e)
+    where
+      go : (u : Bool) → ltb (first_colon l) (length l) ≡ u → None ≡ cond u (Some (first_colon l)) None
+          → label_good l ≡ false
+      go true t g = absurd (let z : ◌≡◌ {A = ℕ} 0 1 = cc in omega arith)
+      go false t g =
+          let h : length l ≤ first_colon l = ltb-false _ _ t in
+          rw (le-ltb (first_colon l + 1) (length l) (omega arith), and-false, and-false)
 
-  module _ (h : 1 ≤ p) where
-    pub colon_last : length l ≤ p + 1 → label_good l ≡ false
-    unfolding label_good
-    colon_last g = rw (← e, le-leb 1 p h, le-ltb (p + 1) (length l) g) (and-false (printable l))
+  module _ {r : Option ℕ} (r-is : r ≡ colon_place l) {p : ℕ} (r-some : r ≡ Some p) where
+    place : p ≡ first_colon l
+    place = go (ltb (first_colon l) (length l)) (sym r-some ∙ r-is)
+      where
+        go : (u : Bool) → Some p ≡ cond u (Some (first_colon l)) None → p ≡ first_colon l
+        go true g = cc
+        go false g = absurd (let z : ◌≡◌ {A = ℕ} 0 1 = cc in omega arith)
 
-    pub colon_inside : p + 1 < length l → {r : Label} (hash : ℕ) → r ≡ hashed (printable l) hash
-        → r ≡ hashed (label_good l) hash
+    pub colon_first : p < 1 → label_good l ≡ false
     unfolding label_good
-    colon_inside g {r} hash f =
-        f ∙ ap (λ (t : Bool). hashed t hash)
-        (sym (rw (← e, le-leb 1 p h, lt-ltb (p + 1) (length l) g) (and-true (printable l))))
+    colon_first h = rw (← place, lt-leb 1 p h) (and-false (printable l))
+
+    module _ (h : 1 ≤ p) where
+      pub colon_last : length l ≤ p + 1 → label_good l ≡ false
+      unfolding label_good
+      colon_last g = rw (← place, le-leb 1 p h, le-ltb (p + 1) (length l) g) (and-false (printable l))
+
+      pub colon_inside : p + 1 < length l → {r : Option ℕ} (hash : ℕ) → r ≡ hashed (printable l) hash
+          → r ≡ hashed (label_good l) hash
+      unfolding label_good
+      colon_inside g hash f =
+          f ∙ ap (λ (t : Bool). hashed t hash)
+          (sym (rw (← place, le-leb 1 p h, lt-ltb (p + 1) (length l) g) (and-true (printable l))))
 
 -- the label is the part after its entry's first two bytes
-pub label_part : (b : List ℕ) (at size first : ℕ) {r : Label} → first ≡ get_or b at 0 → first < 256
+pub label_part : (b : List ℕ) (at size first : ℕ) {r : Option ℕ} → first ≡ get_or b at 0 → first < 256
     → r ≡ hashed (label_good (take (at + 2 + size - (at + 2)) (drop (at + 2) b)))
     (hash_from first (take (at + 2 + size - (at + 2)) (drop (at + 2) b)))
     → r ≡ hashed (label_good (take size (drop (at + 2) b))) (hash_of (get_or b at 0) (take size (drop (at + 2) b)))

@@ -8,13 +8,15 @@ use mathlib.Core.Path.{◌≡◌, refl, sym, ap, ◌∙◌}
 use mathlib.Core.Bool.{true, false}
 use mathlib.Core.List.{List, [], ◌∷◌, ◌++◌}
 use mathlib.Core.Logic.{⊎_elim}
+use Rattle.std.specs.Prelude.{Result, Ok, Err}
 use lib.Dec.{ltb}
 use lib.ListN.{length, get_or, take, length-append, get_or-append}
 use lib.Seq.{take_all, take-append-le, get_or-append_seam}
 use borrow.Author.Tests.{lt-ltb, le-ltb}
 use Rattle.octets.specs.Octets.{Bytes}
 use Rattle.history.specs.declared.Answer.{Answer}
-use Rattle.history.specs.Verdict.{naming, Verdict, refused, done, then, refusal_at, ◌unless◌⨾◌, numbers, unnamed, told}
+use Rattle.history.specs.Verdict.{naming, Verdict, refused, done, refusal_at, ◌unless◌⨾◌, numbers, told, checked}
+use Rattle.history.proofs.OutputLaws.{first_given}
 use Rattle.history.specs.Table.{Object, Table, object, objects_bytes}
 use Rattle.history.specs.Calls.{table_call, Place, label_place, label_call}
 use Rattle.history.proofs.LabelLaws.{LabelIs, label_is}
@@ -23,8 +25,7 @@ use Rattle.tables.specs.declared.place.LabelAt.{LabelAt}
 use Rattle.heads.specs.Heads.{count_in, objects_place}
 use Rattle.heads.proofs.Places.{label_from}
 use Rattle.tables.specs.Places.{place_of}
-use Rattle.tables.specs.LabelPlaces.{no_label, label_told, LabelFound}
-use Rattle.tables.proofs.AnswerLaws.{told_first}
+use Rattle.tables.specs.LabelPlaces.{label_at, label_told, LabelFound}
 use Rattle.tables.proofs.EntryLaws.{GoodEntry}
 use Rattle.tables.proofs.PlaceLaws.{object_of, objects_below, length_below}
 use Rattle.tables.proofs.RepeatLaws.{part_length}
@@ -93,43 +94,26 @@ label_place_is b {t} a i h =
 
 -- ---- each answer
 
-refused_label : {A : Type 0} (v : Verdict A) (f : A → Verdict Place) (a : Answer) → a ≡ told v → (a.code ≡ 0 → ⊥)
-    → no_label a ≡ label_told (then v f)
-unfolding label_told told
-refused_label (refused r) f a e n = ap no_label e
-refused_label (done t) f a e n = absurd (n (ap (λ (a : Answer). a.code) e))
+pub label_table : (b : List ℕ) (i : ℕ) {a : Answer} → Err a ≡ checked (table_call b) → {r : Result LabelAt Answer}
+    → r ≡ Err a → LabelFound b i r
+unfolding label_call table_call label_told
+label_table b i e r-is =
+    rw r-is (record { whole = first_given (table_call b) (λ (t : Table). tt) _ label_at e; inside = tt })
 
-pub label_table : (b : List ℕ) (i : ℕ) (a : Answer) → a ≡ told (table_call b) → (a.code ≡ 0 → ⊥) → (r : LabelAt)
-    → r ≡ no_label a → LabelFound b i r
-unfolding label_call table_call
-label_table b i a e n r r-is =
-    rw r-is (record {
-      whole = refused_label (table_call b) _ a e n;
-      answer = e ∙ told_first (table_call b) _ (λ z. n (ap (λ (x : Answer). x.code) e ∙ z));
-      inside = omega arith;
-      place = λ z. absurd (n z);
-    })
-
-module _ (b : List ℕ) (i : ℕ) (z : (told (table_call b)).code ≡ 0) where
+module _ (b : List ℕ) (i : ℕ) (z : Ok tt ≡ checked (table_call b)) where
   call_is : label_call b i
       ≡ (refusal_at 13 i unless ltb i (length (table_of b z).0.objects) ⨾ done (label_place (table_of b z).0 i))
   unfolding label_call table_call
   call_is = rw (table_of b z).1
 
-  pub label_none : count_in b ≤ i → (c : Answer) → c ≡ numbers (naming 13 i 255) 0 → (r : LabelAt) → r ≡ no_label c
-      → LabelFound b i r
-  unfolding label_told told
-  label_none h c c-is r r-is =
+  pub label_none : count_in b ≤ i → (c : Answer) → c ≡ numbers (naming 13 i 255) 0 → LabelFound b i (Err c)
+  unfolding label_told
+  label_none h c c-is =
       let t = table_of b z in
       let many : ltb i (length t.0.objects) ≡ false =
       le-ltb i (length t.0.objects) (omega (arith, (accepted b t.1).count)) in
       let call : label_call b i ≡ refusal_at 13 i = call_is ∙ rw many in
-      rw (r-is, c-is) (record {
-        whole = sym (ap label_told call);
-        answer = sym (ap told call);
-        inside = omega arith;
-        place = λ q. absurd (omega arith);
-      })
+      rw c-is (record { whole = sym (ap label_told call); inside = tt })
 
   call_found : i < count_in b → label_call b i ≡ done (label_place (table_of b z).0 i)
   call_found h =
@@ -137,37 +121,38 @@ module _ (b : List ℕ) (i : ℕ) (z : (told (table_call b)).code ≡ 0) where
       lt-ltb i (length (table_of b z).0.objects) (omega (arith, (accepted b (table_of b z).1).count)) in
       call_is ∙ rw few
 
-  pub label_found : i < count_in b → (at : ℕ) → at ≡ place_of b i → (n : ℕ) → n ≡ get_or b (at + 1) 0 → (c : Answer)
-      → c ≡ unnamed 0 0
-      → LabelFound b i (record { answer = c; offset = at + 2; size = n })
-  unfolding label_told told
-  label_found h at at-is n n-is c c-is =
+  pub label_found : i < count_in b → (at : ℕ) → at ≡ place_of b i → (n : ℕ) → n ≡ get_or b (at + 1) 0
+      → LabelFound b i (Ok (record { offset = at + 2; size = n }))
+  unfolding label_told
+  label_found h at at-is n n-is =
       let t = table_of b z in
       let acc = accepted b t.1 in
       let size : n ≡ get_or b (place_of b i + 1) 0 = n-is ∙ ap (λ (p : ℕ). get_or b (p + 1) 0) at-is in
       let place : record { offset = at + 2; size = n } ≡ label_place t.0 i =
       (λ j. record { offset = at-is j + 2; size = size j }) ∙ sym (label_place_is b acc i h) in
       let call : label_call b i ≡ done (record { offset = at + 2; size = n }) = call_found h ∙ ap done (sym place) in
-      record {
-        whole = ap (λ (c : Answer). record { answer = c; offset = at + 2; size = n }) c-is ∙ sym (ap label_told call);
-        answer = c-is ∙ sym (ap told call);
-        inside = omega (arith, (acc.each i h).all);
-        place = λ q. call;
-      }
+      record { whole = sym (ap label_told call); inside = omega (arith, (acc.each i h).all) }
 
 -- ---- what a caller relies on
 
-place_empty : (v : Verdict Place) (r : LabelAt) → r ≡ label_told v → (r.answer.code ≡ 0 → ⊥)
-    → (r.offset ≡ 0) × (r.size ≡ 0)
+label_refused : (v : Verdict Place) → ((told v).code ≡ 0 → ⊥) → label_told v ≡ Err (told v)
 unfolding label_told told
-place_empty (refused x) r e n = (ap (λ (r : LabelAt). r.offset) e, ap (λ (r : LabelAt). r.size) e)
-place_empty (done p) r e n = absurd (n (ap (λ (r : LabelAt). r.answer.code) e))
+label_refused (refused x) n = refl
+label_refused (done p) n = absurd (n refl)
 
-module _ {b : List ℕ} {i : ℕ} {r : LabelAt} (l : LabelFound b i r) where
-  -- refused: no bytes
-  pub label_empty : (r.answer.code ≡ 0 → ⊥) → (r.offset ≡ 0) × (r.size ≡ 0)
-  label_empty = place_empty (label_call b i) r l.whole
+label_done : (v : Verdict Place) (l : LabelAt) → Ok l ≡ label_told v
+    → v ≡ done (record { offset = l.offset; size = l.size })
+unfolding label_told
+label_done (refused x) l e = absurd (let z : ◌≡◌ {A = ℕ} 0 1 = cc in omega arith)
+label_done (done p) l e =
+    let q : l ≡ label_at p = cc in
+    ap (λ (l : LabelAt). done (record { offset = l.offset; size = l.size })) (sym q)
+
+module _ {b : List ℕ} {i : ℕ} {r : Result LabelAt Answer} (l : LabelFound b i r) where
+  -- refused: the request's numbers, and no bytes
+  pub label_empty : ((told (label_call b i)).code ≡ 0 → ⊥) → r ≡ Err (told (label_call b i))
+  label_empty n = l.whole ∙ label_refused (label_call b i) n
 
   -- accepted: the bytes are the object's label
-  pub label_bytes : r.answer.code ≡ 0 → Bytes b → LabelIs b i (record { offset = r.offset; size = r.size })
-  label_bytes z h = label_is b h i (l.place z)
+  pub label_bytes : {at : LabelAt} → r ≡ Ok at → Bytes b → LabelIs b i (record { offset = at.offset; size = at.size })
+  label_bytes {at} e h = label_is b h i (label_done (label_call b i) at (sym e ∙ l.whole))

@@ -3,6 +3,7 @@
 use Prim.Native.Nat.{ℕ}
 use mathlib.Core.Path.{◌≡◌}
 use mathlib.Core.List.{List}
+use Rattle.std.specs.Prelude.{Result}
 use Rattle.history.specs.declared.Answer.{Answer}
 use Rattle.history.specs.Calls.{table_call}
 use Rattle.history.proofs.OneOutcome.{one_outcome, Tells}
@@ -13,5 +14,5 @@ module _ (T : List ℕ) where
   pub one_table_check : {r r' : Answer} → Tells (table_call T) r → Tells (table_call T) r' → r ≡ r'
   one_table_check = one_outcome
 
-  pub one_label_place : (i : ℕ) {r r' : LabelAt} → LabelFound T i r → LabelFound T i r' → r ≡ r'
+  pub one_label_place : (i : ℕ) {r r' : Result LabelAt Answer} → LabelFound T i r → LabelFound T i r' → r ≡ r'
   one_label_place i p q = one_outcome p.whole q.whole

@@ -1,158 +1,126 @@
--- The layout numbers of an accepted table's objects, filled in turn by turn; and what an outline tells.
+-- The kinds of an accepted table's objects, put in turn by turn; what is read of a table;
+-- and kinds from layout numbers.
 -- Assumes nothing.
-use Prim.Native.Nat.{ℕ, suc, ◌+◌, ◌-◌, ◌≤◌, ◌<◌}
+use Prim.Native.Nat.{ℕ, ◌+◌, ◌≤◌, ◌<◌}
 use native.Mathlib.Omega.{arith}
 use native.Mathlib.Numerals.{add-one}
 use mathlib.Core.Path.{◌≡◌, refl, sym, ap, ap₂, ◌∙◌}
 use mathlib.Core.List.{List, [], ◌∷◌, ◌++◌, map, map-append}
-use lib.ListN.{length, get_or, take, set, replicate, length-append, length-map, length-replicate}
-use lib.Seq.{take_at}
-use Rattle.rows.specs.Values.{filled}
-use Rattle.rows.proofs.Loops.{fill_store}
-use Rattle.kinds.specs.Kinds.{layout_no}
+use Rattle.std.specs.Prelude.{Ok, Err}
+use lib.ListN.{length, get_or, take, set, replicate, length-set, length-replicate}
+use lib.Seq.{take_all}
+use Rattle.std.proofs.lemmas.List.{take_more, take_more_set}
 use Rattle.kinds.specs.declared.Kind.{Kind}
-use Rattle.elements.specs.Elements.{kind_of}
-use Rattle.elements.proofs.Covering.{kind_numbered_lem}
+use Rattle.elements.specs.Elements.{kind_of, kind_numbered}
 use Rattle.history.specs.declared.Answer.{Answer}
-use Rattle.history.specs.Verdict.{Verdict, refused, done, told}
-use Rattle.history.specs.Table.{Object, Table, plan_of}
+use Rattle.history.specs.Verdict.{done, checked, given}
+use Rattle.history.specs.Table.{Object, Table, Plan, plan_of}
 use Rattle.history.specs.Calls.{table_call, read_plan}
+use Rattle.history.proofs.OutputLaws.{first_given}
 use Rattle.heads.specs.Heads.{count_in, objects_place}
 use Rattle.heads.proofs.Places.{objects_place_lem}
-use Rattle.tables.specs.Outlines.{kinds_of, layouts_in, outline_of, Outlined}
-use Rattle.tables.proofs.PlaceLaws.{object_of, objects_below, length_below}
-use Rattle.tables.proofs.TableLaws.{Accepted, accepted, table_of, CursorAt, cursor_first, cursor_next}
+use Rattle.tables.specs.Outlines.{kinds_of, plan_as}
+use Rattle.tables.proofs.PlaceLaws.{object_of, objects_below}
+use Rattle.tables.proofs.TableLaws.{accepted, table_of, CursorAt, cursor_first, cursor_next}
 
--- ---- numbers and kinds
+-- ---- kinds from layout numbers
 
-kinds_back : (ks : List Kind) → kinds_of (map layout_no ks) ≡ ks
+-- the first kinds are those of the numbers passed
+pub record Turned (ns : List ℕ) (ks : List Kind) (i : ℕ) : Type 0 where
+  pub room : length ks ≡ 1024
+  pub so_far : take i ks ≡ kinds_of (take i ns)
+
+pub turned_none : (ns : List ℕ) (k : Kind) → Turned ns (replicate 1024 k) 0
 unfolding kinds_of
-kinds_back [] = refl
-kinds_back (k ∷ ks) = ap₂ ◌∷◌ (kind_numbered_lem k) (kinds_back ks)
+turned_none ns k = record { room = length-replicate {A = Kind} 1024 k; so_far = refl }
 
--- ---- filled up with zeros
+pub turned_more : {ns : List ℕ} {ks : List Kind} {i : ℕ} → Turned ns ks i → length ns ≤ 1024 → i < length ns
+    → (k : Kind) → k ≡ kind_numbered (get_or ns i 0)
+    → Turned ns (set ks i k) (i + 1)
+unfolding kinds_of
+turned_more {ns} {ks} {i} t few h k k-is =
+    record {
+      room = length-set ks i k ∙ t.room;
+      so_far =
+          take_more_set ks i k (omega (arith, t.room))
+          ∙ ap₂ (λ (p : List Kind) (q : Kind). p ++ (q ∷ [])) t.so_far k-is
+          ∙ sym (ap (map kind_numbered) (take_more ns i 0 h)
+          ∙ map-append kind_numbered (take i ns) (get_or ns i 0 ∷ []));
+    }
 
-places_length : (ns : List ℕ) → length ns ≤ 1024 → length (filled 1024 ns) ≡ 1024
-places_length ns h =
-    length-append ns (replicate (1024 - length ns) 0) ∙ omega (arith, length-replicate {A = ℕ} (1024 - length ns) 0)
+pub turned_all : (x y : ℕ) {ns : List ℕ} {ks : List Kind} {i : ℕ} → Turned ns ks i → length ns ≤ i → i ≤ length ns
+    → record { x = x; y = y; kinds = take (length ns) ks } ≡ plan_as x y ns
+turned_all x y {ns} {ks} {i} t h l =
+    let e : i ≡ length ns = omega arith in
+    ap (λ (ks : List Kind). record { x = x; y = y; kinds = ks })
+    (ap (λ (n : ℕ). take n ks) (sym e) ∙ t.so_far ∙ ap kinds_of (take_all i ns h))
 
--- ---- the loop
+-- ---- the kinds of a table's objects
 
 module _ (b : List ℕ) where
   abbrev kind : Object → Kind
   kind o = kind_of (get_or b 5 0) o.type
 
-  abbrev layouts_below : ℕ → List ℕ
-  layouts_below k = map layout_no (map kind (objects_below b k))
+  abbrev kinds_below : ℕ → List Kind
+  kinds_below k = map kind (objects_below b k)
 
-  layouts_length : (k : ℕ) → length (layouts_below k) ≡ k
-  layouts_length k =
-      length-map (map kind (objects_below b k)) layout_no ∙ length-map (objects_below b k) kind ∙ length_below b k
-
-  layouts_next : (k : ℕ) → layouts_below (suc k) ≡ layouts_below k ++ (layout_no (kind (object_of b k)) ∷ [])
-  layouts_next k =
-      ap (map layout_no) (map-append kind (objects_below b k) (object_of b k ∷ []))
-      ∙ map-append layout_no (map kind (objects_below b k)) (kind (object_of b k) ∷ [])
-
--- what the loop keeps: the cursor's place, and the numbers so far
-pub record Filling (b : List ℕ) (count : ℕ) (kinds : List ℕ) (i at : ℕ) : Type 0 where
+-- what the loop keeps: the cursor's place, and the kinds so far
+pub record Filling (b : List ℕ) (count : ℕ) (kinds : List Kind) (i at : ℕ) : Type 0 where
   pub long : 5 < length b
   pub few : count ≤ 1024
   pub cursor : CursorAt b count i at
-  pub so_far : kinds ≡ filled 1024 (layouts_below b i)
+  pub room : length kinds ≡ 1024
+  pub so_far : take i kinds ≡ kinds_below b i
 
-pub begin : (b : List ℕ) (count at : ℕ) → (told (table_call b)).code ≡ 0 → count ≡ count_in b → at ≡ objects_place
-    → Filling b count (replicate 1024 0) 0 at
-begin b count at z e e' =
+pub begin : (b : List ℕ) (count : ℕ) (kinds : List Kind) (at : ℕ) → Ok tt ≡ checked (table_call b) → count ≡ count_in b
+    → at ≡ objects_place → length kinds ≡ 1024 → Filling b count kinds 0 at
+begin b count kinds at z e e' room =
     let a = accepted b (table_of b z).1 in
     record {
       long = omega (arith, objects_place_lem, a.long);
       few = omega (arith, a.few);
       cursor = cursor_first b count at z (omega arith) e';
+      room = room;
       so_far = refl;
     }
 
-pub turn : {b : List ℕ} {count : ℕ} {kinds : List ℕ} {i at : ℕ} → Filling b count kinds i at → i < count → (n : ℕ)
-    → n ≡ layout_no (kind_of (get_or b 5 0) (get_or b at 0))
-    → (size : ℕ) → size ≡ 2 + get_or b (at + 1) 0 → Filling b count (set kinds i n) (i + 1) (at + size)
-turn {b} {count} {kinds} {i} {at} f h n e size e' =
-    let l = layouts_length b i in
+pub turn : {b : List ℕ} {count : ℕ} {kinds : List Kind} {i at : ℕ} → Filling b count kinds i at → i < count
+    → (k : Kind) → k ≡ kind_of (get_or b 5 0) (get_or b at 0)
+    → (size : ℕ) → size ≡ 2 + get_or b (at + 1) 0 → Filling b count (set kinds i k) (i + 1) (at + size)
+turn {b} {count} {kinds} {i} {at} f h k e size e' =
     record {
       long = f.long;
       few = f.few;
       cursor = cursor_next f.cursor h size e';
+      room = length-set kinds i k ∙ f.room;
       so_far =
-          ap₂ (λ (ks : List ℕ) (k : ℕ). set ks k n) f.so_far (sym l)
-          ∙ fill_store 1024 (layouts_below b i) n (omega (arith, f.few))
-          ∙ ap (λ (n : ℕ). filled 1024 (layouts_below b i ++ (n ∷ [])))
-          (e ∙ ap (λ (p : ℕ). layout_no (kind_of (get_or b 5 0) (get_or b p 0))) f.cursor.place)
-          ∙ ap (filled 1024) (sym (layouts_next b i) ∙ ap (layouts_below b) (sym (add-one i)));
+          take_more_set kinds i k (omega (arith, f.room, f.few))
+          ∙ ap₂ (λ (p : List Kind) (q : Kind). p ++ (q ∷ [])) f.so_far
+          (e ∙ ap (λ (p : ℕ). kind_of (get_or b 5 0) (get_or b p 0)) f.cursor.place)
+          ∙ sym (ap (kinds_below b) (add-one i) ∙ map-append (kind b) (objects_below b i) (object_of b i ∷ []));
     }
 
-layouts_are : (b : List ℕ) {t : Table} → Accepted b t → filled 1024 (layouts_below b (count_in b)) ≡ layouts_in (done t)
-unfolding layouts_in plan_of
-layouts_are b {t} a =
-    ap₂ (λ (x : ℕ) (os : List Object). filled 1024 (map layout_no (map (λ (o : Object). kind_of x o.type) os)))
-    (sym a.x) (sym a.objects)
-
-pub all_filled : {b : List ℕ} {count : ℕ} {kinds : List ℕ} {i at : ℕ} → Filling b count kinds i at → count ≤ i
-    → count ≡ count_in b → (told (table_call b)).code ≡ 0
-    → kinds ≡ layouts_in (table_call b)
-all_filled {b} {count} {kinds} {i} {at} f h e z =
-    let t = table_of b z in
-    let i-is : i ≡ count_in b = omega (arith, f.cursor.bound) in
-    f.so_far ∙ ap (λ (k : ℕ). filled 1024 (layouts_below b k)) i-is ∙ layouts_are b (accepted b t.1)
-    ∙ ap layouts_in (sym t.1)
-
--- ---- the outline
-
-refused_outline : (v : Verdict Table) (a : Answer) → a ≡ told v → (a.code ≡ 0 → ⊥)
-    → record { answer = a; x = 0; y = 0; count = 0; kinds = replicate 1024 0 } ≡ outline_of v
-unfolding outline_of told
-refused_outline (refused r) a e n =
-    ap (λ (a : Answer). record { answer = a; x = 0; y = 0; count = 0; kinds = replicate 1024 0 }) e
-refused_outline (done t) a e n = absurd (n (ap (λ (a : Answer). a.code) e))
+-- ---- what is read of a table
 
 plan_is : (b : List ℕ) {t : Table} → table_call b ≡ done t → read_plan b ≡ done (plan_of t)
 unfolding table_call read_plan
 plan_is b e = rw e
 
-module _ (b : List ℕ) (a : Answer) (e : a ≡ told (table_call b)) where
-  pub outline_refused : (a.code ≡ 0 → ⊥)
-      → Outlined b (record { answer = a; x = 0; y = 0; count = 0; kinds = replicate 1024 0 })
-  outline_refused n = record {
-    whole = refused_outline (table_call b) a e n;
-    answer = e;
-    few = omega arith;
-    room = length-replicate {A = ℕ} 1024 0;
-    plan = λ z. absurd (n z);
-  }
+pub all_filled : {b : List ℕ} {count : ℕ} {kinds : List Kind} {i at : ℕ} → Filling b count kinds i at → count ≤ i
+    → count ≡ count_in b → Ok tt ≡ checked (table_call b)
+    → read_plan b ≡ done (record { x = get_or b 5 0; y = get_or b 6 0; kinds = take count kinds })
+unfolding plan_of
+all_filled {b} {count} {kinds} {i} {at} f h e z =
+    let t = table_of b z in
+    let acc = accepted b t.1 in
+    let i-is : i ≡ count = omega (arith, f.cursor.bound) in
+    let front : take count kinds ≡ map (λ (o : Object). kind_of t.0.x o.type) t.0.objects =
+    ap (λ (n : ℕ). take n kinds) (sym i-is) ∙ f.so_far
+    ∙ ap₂ (λ (n x : ℕ). map (λ (o : Object). kind_of x o.type) (objects_below b n)) (i-is ∙ e) (sym acc.x)
+    ∙ ap (map (λ (o : Object). kind_of t.0.x o.type)) (sym acc.objects) in
+    plan_is b t.1 ∙ ap done (λ j. record { x = acc.x j; y = acc.y j; kinds = sym front j })
 
-  pub outline_good : (told (table_call b)).code ≡ 0 → (n : ℕ) → n ≡ count_in b → (ks : List ℕ)
-      → ks ≡ layouts_in (table_call b)
-      → Outlined b (record { answer = a; x = get_or b 5 0; y = get_or b 6 0; count = n; kinds = ks })
-  unfolding outline_of layouts_in plan_of
-  outline_good z n n-is ks ks-is =
-      let t = table_of b z in
-      let acc = accepted b t.1 in
-      let kinds : List Kind = (plan_of t.0).kinds in
-      let size : length (map layout_no kinds) ≡ n =
-      length-map kinds layout_no ∙ length-map t.0.objects (λ (o : Object). kind_of t.0.x o.type) ∙ acc.count
-      ∙ sym n-is in
-      let here : ks ≡ filled 1024 (map layout_no kinds) = ks-is ∙ ap layouts_in t.1 in
-      let front : take n ks ≡ map layout_no kinds =
-      ap (take n) here ∙ take_at (map layout_no kinds) (replicate (1024 - length (map layout_no kinds)) 0) n size in
-      let answer : a ≡ told (done t.0) = e ∙ ap told t.1 in
-      let count : n ≡ length t.0.objects = n-is ∙ sym acc.count in
-      record {
-        whole =
-            (λ i. record { answer = answer i; x = sym acc.x i; y = sym acc.y i; count = count i; kinds = here i })
-            ∙ ap outline_of (sym t.1);
-        answer = e;
-        few = omega (arith, acc.few);
-        room = ap length here ∙ places_length (map layout_no kinds) (omega (arith, acc.few));
-        plan =
-            λ z. plan_is b t.1
-            ∙ ap done (λ i.
-            record { x = acc.x i; y = acc.y i; kinds = (sym (kinds_back kinds) ∙ ap kinds_of (sym front)) i });
-      }
+pub plan_refused : (b : List ℕ) {a : Answer} → Err a ≡ checked (table_call b)
+    → Err a ≡ given (λ (p : Plan). p) (read_plan b)
+unfolding table_call read_plan
+plan_refused b = first_given (table_call b) (λ (t : Table). tt) _ (λ (p : Plan). p)

@@ -9,19 +9,18 @@ use mathlib.Core.Path.{◌≡◌, refl, sym, ap, ap₂, ◌∙◌}
 use mathlib.Core.Bool.{Bool, true, false, not}
 use mathlib.Core.List.{List}
 use mathlib.Core.Logic.{⊎_elim}
+use Rattle.std.specs.Prelude.{Result, Ok, Err}
 use lib.Dec.{leb}
 use lib.ListN.{length, get_or, set}
 use borrow.Author.Tests.{eq-eqb, ne_eqb, leb-true, leb-false}
 use Rattle.history.specs.declared.Answer.{Answer}
-use Rattle.history.specs.Verdict.{naming, Verdict, done, then, refusal_at, ◌unless◌⨾◌, numbers, unnamed, told}
+use Rattle.history.specs.Verdict.{naming, Verdict, done, then, refusal_at, ◌unless◌⨾◌, numbers, unnamed, given, checked}
+use Rattle.history.proofs.OutputLaws.{first_given}
 use Rattle.history.specs.Table.{Object}
 use Rattle.heads.specs.Heads.{objects_place}
 use Rattle.heads.proofs.Places.{objects_place_lem}
 use Rattle.tables.specs.Places.{place_of, check_object_at, hash_at, objects_in}
-use Rattle.tables.specs.Hashes.{found}
-use Rattle.tables.specs.declared.table.Found.{Found}
-use Rattle.tables.proofs.AnswerLaws.{told_refused}
-use Rattle.tables.proofs.EntryLaws.{was_refused, was_found, found_few, good_entry, limit_48}
+use Rattle.tables.proofs.EntryLaws.{was_found, found_few, good_entry, limit_48}
 use Rattle.tables.proofs.PlaceLaws.{repeats_below, entries_check, entries_read, place_next, place_before}
 use Rattle.tables.proofs.RepeatLaws.{same, repeats_none, repeats_yes, Agree, Both, Common, same_yes, same_no}
 use Rattle.tables.proofs.ChainLaws.{hash, other_hash, Last, Chained, link_low, start_low, chain_next}
@@ -82,21 +81,21 @@ module _ {b : List ℕ} {count k at : ℕ} (w : Walking b count k at) where
         (λ next. refusal_at 7 k unless not (repeats_below b k k) ⨾ entries_check b (count - (k + 1)) m))
         (sym w.place) (sym (add-one k))
 
-    module _ {r : Found} (r-is : r ≡ found (hash_at b at) (check_object_at b at k)) where
-      pub walk_stops : {a : Answer} → r ≡ Found.Refused a → a ≡ told (objects_in b count)
-      walk_stops {a} e =
-          let q = was_refused b at k r-is e in
-          told_refused (objects_in b count)
-          (turn ∙ ap (λ (v : Verdict ℕ). then v (λ next. after b count k)) q.1) q.2
+    module _ {r : Result ℕ Answer} (r-is : r ≡ given (λ (next : ℕ). hash_at b at) (check_object_at b at k)) where
+      pub walk_stops : {a : Answer} → r ≡ Err a → Err a ≡ checked (objects_in b count)
+      walk_stops e =
+          first_given (check_object_at b at k) (λ (next : ℕ). hash_at b at) (λ (next : ℕ). after b count k)
+          (λ (os : List Object). tt) (sym e ∙ r-is)
+          ∙ ap checked (sym turn)
 
-      module _ {own : ℕ} (e : r ≡ Found.Entry own) where
-        entered : (next : ℕ) × (check_object_at b at k ≡ done next) × (own ≡ hash_at b at)
+      module _ {own : ℕ} (e : r ≡ Ok own) where
+        entered : (next : ℕ) × (check_object_at b at k ≡ done next) × (hash_at b at ≡ own)
         entered = was_found b at k r-is e
 
         pub search_begins : (size : ℕ) → size ≡ 2 + get_or b (at + 1) 0 → {lasts links starts : List ℕ}
             → Chained b k lasts links starts → Searching b count k at size own lasts links starts (get_or lasts own 0)
         search_begins size s {lasts} c =
-            let o : own ≡ hash b k = entered.2 ∙ ap (hash_at b) w.place in
+            let o : own ≡ hash b k = sym entered.2 ∙ ap (hash_at b) w.place in
             let l = c.head own (found_few b at k r-is e) in
             record {
               walking = w;
@@ -119,12 +118,12 @@ module _ {b : List ℕ} {count k at : ℕ} (w : Walking b count k at) where
     none : objects_in b count ≡ entries_check b zero k
     none = let e : count - k ≡ zero = omega arith in w.left ∙ ap (λ (n : ℕ). entries_check b n k) e
 
-    pub end_over : (at ≡ length b → ⊥) → unnamed 8 0 ≡ told (objects_in b count)
-    unfolding entries_check told
+    pub end_over : (at ≡ length b → ⊥) → Err (unnamed 8 0) ≡ checked (objects_in b count)
+    unfolding entries_check
     end_over n = rw (none, ← w.place, ne_eqb _ _ n)
 
-    pub end_good : at ≡ length b → unnamed 0 0 ≡ told (objects_in b count)
-    unfolding entries_check told
+    pub end_good : at ≡ length b → Ok tt ≡ checked (objects_in b count)
+    unfolding entries_check
     end_good e = rw (none, ← w.place, eq-eqb _ _ e)
 
 module _ {b : List ℕ} {count k at size own : ℕ} {lasts links starts : List ℕ} {j : ℕ}
@@ -219,11 +218,10 @@ module _ {b : List ℕ} {count k at size own : ℕ} {lasts links starts : List �
         was_fits = omega (arith, before, s.fits)
 
         pub search_finds : get_or b was 0 ≡ get_or b at 0 → (i : ℕ) → i ≤ 1 → Agree b was at i size
-            → numbers (naming 7 k 255) 0 ≡ told (objects_in b count)
-        unfolding told
+            → Err (numbers (naming 7 k 255) 0) ≡ checked (objects_in b count)
         search_finds t i low a =
             let r =
             repeats_yes b k (j - 1) (omega (arith, s.passed))
             (same_yes both (omega (arith, s.size_is)) t i low (rw s.size_is at a)) in
             let v : objects_in b count ≡ refusal_at 7 k = is_after ∙ rw r in
-            sym (ap told v)
+            sym (ap checked v)

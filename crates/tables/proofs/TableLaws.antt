@@ -8,11 +8,13 @@ use mathlib.Core.Path.{◌≡◌, refl, sym, ap, ◌∙◌}
 use mathlib.Core.Bool.{true, false, not}
 use mathlib.Core.List.{List}
 use mathlib.Core.Logic.{⊎_elim}
+use Rattle.std.specs.Prelude.{Result, Ok, Err}
 use lib.Dec.{eqb, leb}
 use lib.ListN.{length, get_or}
 use borrow.Author.Tests.{lt-leb, le-leb, leb-true}
 use Rattle.history.specs.declared.Answer.{Answer}
-use Rattle.history.specs.Verdict.{Verdict, done, then, refusal, ◌unless◌⨾◌, unnamed, told}
+use Rattle.history.specs.Verdict.{Verdict, done, then, refusal, ◌unless◌⨾◌, unnamed, checked}
+use Rattle.history.proofs.OutputLaws.{given_done}
 use Rattle.history.specs.Form.{is_whole}
 use Rattle.history.specs.Table.{Object, Table, version_good, catalogue_good}
 use Rattle.history.specs.Calls.{table_call}
@@ -22,8 +24,7 @@ use Rattle.heads.proofs.Forms.{table_inside}
 use Rattle.heads.proofs.Places.{objects_place_lem}
 use Rattle.heads.proofs.Chains.{table_with, table_chain}
 use Rattle.tables.specs.Places.{place_of, check_object_at, objects_in}
-use Rattle.history.proofs.CodeLaws.{table_call_coded, zero_told}
-use Rattle.tables.proofs.AnswerLaws.{told_then}
+use Rattle.tables.proofs.AnswerLaws.{checked_then}
 use Rattle.tables.proofs.EntryLaws.{GoodEntry, good_entry}
 use Rattle.tables.proofs.PlaceLaws.{objects_below, repeats_below, entries_check, length_below, place_next}
 use Rattle.tables.proofs.RoundLaws.{entries_are}
@@ -45,31 +46,29 @@ module _ (b : List ℕ) where
 
   -- ---- each answer from the tests that lead there
 
-  pub table_1 : is_whole 5 b ≡ false → unnamed 1 0 ≡ told (table_call b)
-  unfolding told
+  pub table_1 : is_whole 5 b ≡ false → Err (unnamed 1 0) ≡ checked (table_call b)
   table_1 h = rw (in_order_lem, h)
 
   module _ (w : is_whole 5 b ≡ true) where
-    pub table_2 : version_good (get_or b 4 0) ≡ false → unnamed 2 0 ≡ told (table_call b)
-    unfolding told
+    pub table_2 : version_good (get_or b 4 0) ≡ false → Err (unnamed 2 0) ≡ checked (table_call b)
     table_2 h = rw (in_order_lem, w, h)
 
     module _ (v : version_good (get_or b 4 0) ≡ true) where
-      pub table_3 : catalogue_good (get_or b 5 0) (get_or b 6 0) ≡ false → unnamed 3 0 ≡ told (table_call b)
-      unfolding told
+      pub table_3 : catalogue_good (get_or b 5 0) (get_or b 6 0) ≡ false → Err (unnamed 3 0) ≡ checked (table_call b)
       table_3 h = rw (in_order_lem, w, v, h)
 
       module _ (c : catalogue_good (get_or b 5 0) (get_or b 6 0) ≡ true) (n : ℕ) (e : n ≡ count_in b) where
-        pub table_4 : 1024 < n → unnamed 4 0 ≡ told (table_call b)
-        unfolding told
+        pub table_4 : 1024 < n → Err (unnamed 4 0) ≡ checked (table_call b)
         table_4 h =
             let l : leb (count_in b) 1024 ≡ false = lt-leb (count_in b) 1024 (omega arith) in
             rw (in_order_lem, w, v, c, l)
 
-        pub table_rest : n ≤ 1024 → (a : Answer) → a ≡ told (objects_in b n) → a ≡ told (table_call b)
-        table_rest h a f =
+        pub table_rest : n ≤ 1024 → (r : Result (Unit {0}) Answer) → r ≡ checked (objects_in b n)
+            → r ≡ checked (table_call b)
+        table_rest h r f =
             let l : leb (count_in b) 1024 ≡ true = le-leb (count_in b) 1024 (omega arith) in
-            f ∙ ap (λ (m : ℕ). told (objects_in b m)) e ∙ sym (told_then (objects_in b (count_in b)) (table_with b))
+            f ∙ ap (λ (m : ℕ). checked (objects_in b m)) e
+            ∙ sym (checked_then (objects_in b (count_in b)) (table_with b))
             ∙ rw (in_order_lem, w, v, c, l)
 
 -- ---- an accepted table
@@ -132,25 +131,25 @@ accepted b {t} e =
       each = λ k h. r.each k (omega arith) (omega arith);
     })
 
--- ---- code 0 tells an accepted table
+-- ---- a check that passes tells an accepted table
 
-pub table_of : (b : List ℕ) → (told (table_call b)).code ≡ 0 → (t : Table) × (table_call b ≡ done t)
-table_of b = zero_told (table_call b) (table_call_coded b)
+pub table_of : (b : List ℕ) → Ok tt ≡ checked (table_call b) → (t : Table) × (table_call b ≡ done t)
+table_of b z = let t = given_done (table_call b) (λ t. tt) z in (t.0, t.1)
 
 -- an entry of an accepted table, at its place
-pub entry_at : (b : List ℕ) → (told (table_call b)).code ≡ 0 → (k at : ℕ) → at ≡ place_of b k → k < count_in b
+pub entry_at : (b : List ℕ) → Ok tt ≡ checked (table_call b) → (k at : ℕ) → at ≡ place_of b k → k < count_in b
     → GoodEntry b at
 entry_at b z k at e l = rw e ((accepted b (table_of b z).1).each k l)
 
 -- a cursor on its way through the first n entries of an accepted table: at entry k, or after the last
 pub record CursorAt (b : List ℕ) (n k at : ℕ) : Type 0 where
-  pub good : (told (table_call b)).code ≡ 0
+  pub good : Ok tt ≡ checked (table_call b)
   pub few : n ≤ count_in b
   pub bound : k ≤ n
   pub place : at ≡ place_of b k
   pub inside : at ≤ length b
 
-pub cursor_first : (b : List ℕ) (n at : ℕ) → (told (table_call b)).code ≡ 0 → n ≤ count_in b → at ≡ objects_place
+pub cursor_first : (b : List ℕ) (n at : ℕ) → Ok tt ≡ checked (table_call b) → n ≤ count_in b → at ≡ objects_place
     → CursorAt b n 0 at
 unfolding place_of
 cursor_first b n at z h e =
@@ -186,14 +185,18 @@ module _ {b : List ℕ} {n k at : ℕ} (s : CursorAt b n k at) where
           inside = omega (arith, entry_there);
         }
 
--- what is known once a table's check gave code 0
-module _ (a : Answer) (b : List ℕ) (e : a ≡ told (table_call b)) (z : a.code ≡ 0) where
-  pub code_given : (told (table_call b)).code ≡ 0
-  code_given = ap (λ (x : Answer). x.code) (sym e) ∙ z
+-- what is known once a table's check passed
+pub passed : (b : List ℕ) {r : Result (Unit {0}) Answer} {u : Unit {0}} → r ≡ checked (table_call b) → r ≡ Ok u
+    → Ok tt ≡ checked (table_call b)
+passed b e f = sym f ∙ e
 
+module _ (b : List ℕ) (z : Ok tt ≡ checked (table_call b)) where
   pub head_given : objects_place ≤ length b
-  head_given = (accepted b (table_of b code_given).1).long
+  head_given = (accepted b (table_of b z).1).long
 
   -- version, X and Y are inside
   pub inside_given : (i : ℕ) → i ≤ 6 → i < length b
   inside_given i h = omega (arith, objects_place_lem, head_given)
+
+  pub count_given : (n : ℕ) → n ≡ count_in b → n ≤ 1024
+  count_given n e = omega (arith, (accepted b (table_of b z).1).few)

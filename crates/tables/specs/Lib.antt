@@ -2,4 +2,5 @@ pub mod Places
 pub mod Outlines
 pub mod LabelPlaces
 pub mod Hashes
+pub mod Colons
 pub mod Plans

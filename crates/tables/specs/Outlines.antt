@@ -1,5 +1,5 @@
 -- What the other forms are read by, as the code passes it: X, Y, and each object's kind.
-use Rattle.std.specs.Prelude.{ℕ, ◌≤◌, ◌≡◌, List, map, length, take}
+use Rattle.std.specs.Prelude.{ℕ, List, map}
 use Rattle.kinds.specs.declared.Kind.{Kind}
 use Rattle.elements.specs.Elements.{kind_numbered}
 use Rattle.history.specs.Table.{Plan}

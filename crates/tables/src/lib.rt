@@ -11,7 +11,7 @@ mod plan;
 mod table;
 
 pub use answers::{accepted, refused, refused_at, refused_by, short, with_length, written};
-pub use place::{LabelAt, label_place};
 pub use outlines::{Outline, Plan};
+pub use place::{LabelAt, label_place};
 pub use plan::outline;
 pub use table::{check_table, is_catalogue};

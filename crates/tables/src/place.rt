@@ -1,6 +1,6 @@
 // Where a label is in the table's bytes.
-ghost use Rattle.std.specs.Prelude.{◌≡◌, ◌≤◌};
-ghost use Rattle.history.specs.Verdict.{told};
+ghost use Rattle.std.specs.Prelude.{◌≡◌, ◌≤◌, Ok};
+ghost use Rattle.history.specs.Verdict.{checked};
 ghost use Rattle.history.specs.Calls.{table_call};
 ghost use Rattle.heads.specs.Heads.{count_in};
 ghost use Rattle.tables.specs.Places.{place_of};
@@ -35,7 +35,7 @@ pub fn label_place(table: &[u8], object: u16) -> Result<LabelAt, Answer>
 
 // Where an object's entry begins in an accepted table. Entries differ in length, so it steps over those before.
 fn entry_place(table: &[u8], object: usize) -> usize
-    requires { ((told (table_call table.now)).code ≡ 0) × (object ≤ count_in table.now) }
+    requires { (Ok tt ≡ checked (table_call table.now)) × (object ≤ count_in table.now) }
     ensures { result ≡ place_of table.now object }
 {
     let mut at = objects_place();

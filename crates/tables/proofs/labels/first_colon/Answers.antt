@@ -1,15 +1,12 @@
--- `tables::labels::first_colon` meets its contract. The invariant:
--- no colon is passed, so the first colon is the first in what is left.
+-- `tables::labels::first_colon` meets its contract: the search finds the first colon.
 -- Assumes nothing.
-use native.Mathlib.Omega.{arith}
-use Rattle.tables.proofs.LabelLaws.{colon_here, colon_next, colon_end}
+use Rattle.std.proofs.Common.{rules, tests}
+use Rattle.std.proofs.lemmas.Iterator.{YieldsList-from_slice}
+use Rattle.std.proofs.lemmas.Iterator.Search.{position_from_yields_List}
+use Rattle.tables.proofs.LabelLaws.{colon_is}
 use Rattle.tables.proofs.labels.first_colon.Goals as goal
 
-pub returns-then-label-i-eq58 : goal.returns-then-label-i-eq58
-returns-then-label-i-eq58 c = (search colon_here, omega arith)
-
-pub loop-i-preserved : goal.loop-i-preserved
-loop-i-preserved c = (omega arith, search colon_next)
-
 pub returns : goal.returns
-returns c = (search colon_end, omega arith)
+returns c = rw (colon_is c.args.label.now)
+    (position_from_yields_List _ _ _ _ c.position.ensures.ran (YieldsList-from_slice c.args.label.now cc)
+    (λ x b q k. search (rules, tests)))

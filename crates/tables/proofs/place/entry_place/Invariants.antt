@@ -1,11 +1,7 @@
--- `tables::place::entry_place` meets its contract. The invariant: the cursor is at the place of entry j.
+-- `tables::place::entry_place` meets its contract. The invariant: the cursor is at the place of the next entry.
 -- Assumes nothing.
-use Prim.Native.Nat.{◌-◌}
 use Rattle.tables.proofs.TableLaws.{CursorAt}
 use Rattle.tables.proofs.place.entry_place.Given as goal
 
-abbrev pub invariant-loop-j : goal.invariant-loop-j
-invariant-loop-j l = CursorAt l.table l.object l.j l.at
-
-abbrev pub decreases-loop-j : goal.decreases-loop-j
-decreases-loop-j l = l.object - l.j
+abbrev pub invariant-loop : goal.invariant-loop
+invariant-loop l = CursorAt l.table l.object l.counter l.at

@@ -1,9 +1,10 @@
 -- `tables::table::check_object` meets its contract: each answer from the tests that lead there.
 -- Assumes nothing.
 use native.Mathlib.Omega.{arith}
+use mathlib.Core.Path.{◌∙◌}
 use Rattle.heads.proofs.Places.{objects_place_lem}
 use Rattle.tables.proofs.AnswerLaws.{no, yes}
-use Rattle.tables.proofs.EntryLaws.{refuses, entry_cut, entry_type, entry_size, label_cut, label_bad, entry_good}
+use Rattle.tables.proofs.EntryLaws.{refuses, entry_cut, entry_type, entry_size, label_cut, label_tested}
 use Rattle.tables.proofs.table.check_object.Goals as goal
 
 pub returns-then-left-lt2 : goal.returns-then-left-lt2
@@ -24,8 +25,5 @@ returns-then-not-is_size c = refuses _ c.refused_at-then-not-is_size.ensures (se
 pub returns-then-left-size : goal.returns-then-left-size
 returns-then-left-size c = refuses _ c.refused-then-left-size.ensures (search (label_cut, yes))
 
-pub returns-in_default : goal.returns-in_default
-returns-in_default c = refuses _ c.refused_at-in_default.ensures (search (label_bad, yes))
-
 pub returns : goal.returns
-returns c = search (entry_good, yes)
+returns c = c.ok_or.ensures.value ∙ search (label_tested, yes)

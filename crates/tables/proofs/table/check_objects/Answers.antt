@@ -3,7 +3,9 @@
 -- bytes compared so far are, from the last down.
 -- Assumes nothing.
 use native.Mathlib.Omega.{arith}
-use mathlib.Core.Path.{◌∙◌}
+use mathlib.Core.Path.{ap, ◌∙◌}
+use Rattle.std.specs.Prelude.{Err}
+use Rattle.tables.proofs.AnswerLaws.{passed_on}
 use Rattle.tables.proofs.EntryLaws.{found_two, found_few}
 use Rattle.tables.proofs.RepeatLaws.{agree_none, agree_more}
 use Rattle.tables.proofs.ChainLaws.{chain_begins, head_low}
@@ -12,29 +14,33 @@ use Rattle.tables.proofs.RoundLaws.{search_begins, goes_by_size, goes_by_type, g
 use Rattle.tables.proofs.RoundLaws.{search_finds, walk_next, chained_next}
 use Rattle.tables.proofs.table.check_objects.Goals as goal
 use Rattle.tables.proofs.table.check_objects.Goals.{else-entries-test}
-use Rattle.tables.proofs.table.check_objects.Goals.{then-entries-test+in-Entry+then-earlier-test+else-table-was+else-entry_size-size+else-bytes-test}
+use Rattle.tables.proofs.table.check_objects.Goals.{then-entries-test+in_ok-hash+then-earlier-test+else-table-was+else-entry_size-size+else-bytes-test}
 
 pub entries-init : goal.entries-init
 entries-init c = (search walk_begins, search chain_begins)
 
-pub returns-in-Refused : goal.returns-in-Refused
-returns-in-Refused c = search walk_stops
+pub returns-in_err-hash : goal.returns-in_err-hash
+returns-in_err-hash c =
+    passed_on _ c.from_residual.ensures.1
+    ∙ walk_stops c.entries.invariant.0 c.entries-test.true c.check_object.ensures c.in_err-hash.was
 
 pub entry_size-size-requires : goal.entry_size-size-requires
-entry_size-size-requires c = search found_two
+entry_size-size-requires c = found_two _ _ _ c.check_object.ensures c.in_ok-hash.was
 
 pub offset_bounds-lasts-hash : goal.offset_bounds-lasts-hash
-offset_bounds-lasts-hash c = omega (arith, found_few _ _ _ c.check_object.ensures c.in-Entry.is)
+offset_bounds-lasts-hash c = omega (arith, found_few _ _ _ c.check_object.ensures c.in_ok-hash.was)
 
 pub bounds-lasts-hash : goal.bounds-lasts-hash
-bounds-lasts-hash c = search found_few
+bounds-lasts-hash c = found_few _ _ _ c.check_object.ensures c.in_ok-hash.was
 
 pub overflow_cast-j : goal.overflow_cast-j
 overflow_cast-j c =
-    omega (arith, head_low c.entries.invariant.1 _ (found_few _ _ _ c.check_object.ensures c.in-Entry.is))
+    omega (arith, head_low c.entries.invariant.1 _ (found_few _ _ _ c.check_object.ensures c.in_ok-hash.was))
 
 pub earlier-init : goal.earlier-init
-earlier-init c = search search_begins
+earlier-init c =
+    search_begins c.entries.invariant.0 c.entries-test.true c.check_object.ensures c.in_ok-hash.was _
+    c.entry_size-size.ensures.0 c.entries.invariant.1
 
 pub earlier-preserved-then-table-was : goal.earlier-preserved-then-table-was
 earlier-preserved-then-table-was c =
@@ -67,15 +73,15 @@ entries-preserved c =
 -- the loop was left at a repeat
 pub returns-then-k-count : goal.returns-then-k-count
 returns-then-k-count c =
-    c.refused_at.ensures ∙ elim c.entries-test.branch [
+    ap Err c.refused_at.ensures ∙ elim c.entries-test.branch [
       | else-entries-test w ↦ absurd (omega arith)
-      | then-entries-test+in-Entry+then-earlier-test+else-table-was+else-entry_size-size+else-bytes-test w ↦
+      | then-entries-test+in_ok-hash+then-earlier-test+else-table-was+else-entry_size-size+else-bytes-test w ↦
           search_finds w.earlier.invariant w.earlier-test.true _ w.entry_size.ensures.0 w.if-entry_size-size.false
           w.if-table-was.false _ (omega arith) w.bytes.invariant.2
     ]
 
 pub returns-then-at-table : goal.returns-then-at-table
-returns-then-at-table c = c.refused.ensures ∙ search end_over
+returns-then-at-table c = ap Err c.refused.ensures ∙ search end_over
 
 pub returns : goal.returns
-returns c = c.accepted.ensures ∙ search end_good
+returns c = search end_good
