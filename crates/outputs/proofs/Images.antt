@@ -22,7 +22,6 @@ use Rattle.heads.specs.Heads.{image_head, elements_in}
 use Rattle.heads.specs.Written.{with_elements}
 use Rattle.heads.proofs.Places.{head_few, elements_from_lem}
 use Rattle.heads.proofs.WrittenLaws.{renewed_inside, renewed_with, with_long}
-use Rattle.tables.specs.Outlines.{kinds_of}
 use Rattle.forms.specs.Places.{place_in, Sized, over}
 use Rattle.forms.proofs.KindLaws.{length_kinds}
 use Rattle.forms.proofs.ElementPlaces.{over_past, over_long, place_within, own_width, element_inside}
@@ -50,17 +49,17 @@ put_part l b from to v s h q =
 
 -- ---- an image of a table's elements, and where the code has them begin
 
-module _ (ns b : List ℕ) (h : length b ≡ image_head b + widths (kinds_of ns)) where
+module _ (ns : List Kind) (b : List ℕ) (h : length b ≡ image_head b + widths ns) where
   inside : image_head b ≤ length b
   inside = omega arith
 
-  elements_long : length (elements_in b) ≡ widths (kinds_of ns)
+  elements_long : length (elements_in b) ≡ widths ns
   unfolding elements_in
   elements_long = length-drop (image_head b) b ∙ omega arith
 
   -- the length of an image of at most 1,024 objects fits in 32 bits
   pub few_bytes : length ns ≤ 1024 → length b < 2 ^ 32
-  few_bytes few = omega (arith, head_few b, length_kinds ns, widths_few (kinds_of ns))
+  few_bytes few = omega (arith, head_few b, length_kinds ns, widths_few ns)
 
   module _ (place : ℕ) (e : place ≡ image_head b) where
     begins_inside : place ≤ length b
@@ -68,28 +67,28 @@ module _ (ns b : List ℕ) (h : length b ≡ image_head b + widths (kinds_of ns)
 
     -- a list's entries are taken into the elements
     module _ (to : ℕ) (entries : List ℕ) {es : List ℕ}
-        (q : es ≡ renewal 0 (kinds_of ns) entries (mid_of place (length b - place) b)) where
+        (q : es ≡ renewal 0 ns entries (mid_of place (length b - place) b)) where
       after : put_mid place (length b - place) b es
-          ≡ take (image_head b) b ++ renewal 0 (kinds_of ns) entries (elements_in b)
+          ≡ take (image_head b) b ++ renewal 0 ns entries (elements_in b)
       after =
           put_end place b es begins_inside
           ∙ ap₂ (λ (n : ℕ) (r : List ℕ). take n b ++ r) e
-          (q ∙ ap (renewal 0 (kinds_of ns) entries) (elements_from_lem b place e))
+          (q ∙ ap (renewal 0 ns entries) (elements_from_lem b place e))
 
       pub taken_inside : image_head (put_mid place (length b - place) b es)
           ≤ length (put_mid place (length b - place) b es)
-      taken_inside = rw after (renewed_inside b (renewal 0 (kinds_of ns) entries (elements_in b)) inside)
+      taken_inside = rw after (renewed_inside b (renewal 0 ns entries (elements_in b)) inside)
 
       pub taken : {r : List ℕ}
           → r ≡ with_elements (put_mid place (length b - place) b es) to
           (elements_in (put_mid place (length b - place) b es))
-          → r ≡ image_after (kinds_of ns) to entries b
+          → r ≡ image_after ns to entries b
       unfolding image_after
       taken f = f ∙ ap (λ (m : List ℕ). with_elements m to (elements_in m)) after ∙ renewed_with b _ inside to
 
     -- one object's element is put
-    module _ {i : ℕ} (l : i < length ns) (few : length ns ≤ 1024) {o : ℕ} (o_is : o ≡ place_in (kinds_of ns) i)
-        {kind : Kind} (kind_is_lem : kind ≡ kind_at (kinds_of ns) i) {w : ℕ} (w-is : w ≡ width_of kind) where
+    module _ {i : ℕ} (l : i < length ns) (few : length ns ≤ 1024) {o : ℕ} (o_is : o ≡ place_in ns i)
+        {kind : Kind} (kind_is_lem : kind ≡ kind_at ns i) {w : ℕ} (w-is : w ≡ width_of kind) where
       own : Sized ns (elements_in b) i
       own = record { below = l; few = few; long = elements_long }
 
@@ -99,20 +98,20 @@ module _ (ns b : List ℕ) (h : length b ≡ image_head b + widths (kinds_of ns)
       module _ (to word : ℕ) {ws : List ℕ}
           (q : ws ≡ bytes (length (mid_of (place + o) (place + o + w - (place + o)) b)) word) where
         abbrev renewed : List ℕ
-        renewed = over (place_in (kinds_of ns) i) (bytes (width_of (kind_at (kinds_of ns) i)) word) (elements_in b)
+        renewed = over (place_in ns i) (bytes (width_of (kind_at ns i)) word) (elements_in b)
 
         with_element : put_mid (place + o) (place + o + w - (place + o)) b ws ≡ take (image_head b) b ++ renewed
         unfolding elements_in
         with_element =
-            let n : place + o + w - (place + o) ≡ width_of (kind_at (kinds_of ns) i) =
+            let n : place + o + w - (place + o) ≡ width_of (kind_at ns i) =
             omega (arith, own_width own o_is kind_is_lem w-is) in
             let long : length (take (image_head b) b) ≡ image_head b = length-take-le (image_head b) b inside in
             put_part b ws (place + o) (place + o + w) word (omega arith) put_inside q
             ∙ ap₂ (λ (n : ℕ) (c : List ℕ). over (place + o) (bytes n word) c) n
             (sym (take-append-drop (image_head b) b))
-            ∙ over_past (take (image_head b) b) (bytes (width_of (kind_at (kinds_of ns) i)) word)
+            ∙ over_past (take (image_head b) b) (bytes (width_of (kind_at ns i)) word)
             (drop (image_head b) b)
-            (place + o) (place_in (kinds_of ns) i) (omega (arith, long))
+            (place + o) (place_in ns i) (omega (arith, long))
 
         pub put_head : image_head (put_mid (place + o) (place + o + w - (place + o)) b ws)
             ≤ length (put_mid (place + o) (place + o + w - (place + o)) b ws)
@@ -121,29 +120,29 @@ module _ (ns b : List ℕ) (h : length b ≡ image_head b + widths (kinds_of ns)
         pub put_done : {r : List ℕ}
             → r ≡ with_elements (put_mid (place + o) (place + o + w - (place + o)) b ws) to
             (elements_in (put_mid (place + o) (place + o + w - (place + o)) b ws))
-            → r ≡ image_with (kinds_of ns) to i word b
+            → r ≡ image_with ns to i word b
         unfolding image_with
         put_done f =
             f ∙ ap (λ (m : List ℕ). with_elements m to (elements_in m)) with_element ∙ renewed_with b _ inside to
 
   -- ---- how long the changed images are
 
-  pub length_after : (to : ℕ) (entries : List ℕ) → length (image_after (kinds_of ns) to entries b) ≡ length b
+  pub length_after : (to : ℕ) (entries : List ℕ) → length (image_after ns to entries b) ≡ length b
   unfolding image_after
   length_after to entries =
       with_long b _ to inside
-      ∙ ap (λ (n : ℕ). image_head b + n) (length_renewal (kinds_of ns) 0 entries (elements_in b) elements_long) ∙ sym h
+      ∙ ap (λ (n : ℕ). image_head b + n) (length_renewal ns 0 entries (elements_in b) elements_long) ∙ sym h
 
   pub length_with : (to : ℕ) {i : ℕ} (word : ℕ) → i < length ns
-      → length (image_with (kinds_of ns) to i word b) ≡ length b
+      → length (image_with ns to i word b) ≡ length b
   unfolding image_with
   length_with to {i} word l =
-      let w : ℕ = width_of (kind_at (kinds_of ns) i) in
-      let room : place_in (kinds_of ns) i + w ≤ length (elements_in b) =
-      omega (arith, place_within (kinds_of ns) i (omega (arith, length_kinds ns)), elements_long) in
+      let w : ℕ = width_of (kind_at ns i) in
+      let room : place_in ns i + w ≤ length (elements_in b) =
+      omega (arith, place_within ns i (omega (arith, length_kinds ns)), elements_long) in
       with_long b _ to inside
       ∙ ap (λ (n : ℕ). image_head b + n)
-      (over_long (place_in (kinds_of ns) i) (bytes w word) (elements_in b) (rw (length_bytes w word) room)
+      (over_long (place_in ns i) (bytes w word) (elements_in b) (rw (length_bytes w word) room)
       ∙ elements_long) ∙ sym h
 
 -- ---- a copy at the front of the output, changed there

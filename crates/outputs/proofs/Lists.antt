@@ -1,6 +1,7 @@
 -- A list at the front of the output: its head, its entries and its length.
 -- Assumes nothing.
 use Prim.Native.Nat.{ℕ, ◌+◌, ◌-◌, ◌≤◌, ◌<◌}
+use Rattle.kinds.specs.declared.Kind.{Kind}
 use native.Mathlib.Omega.{arith}
 use mathlib.Core.Path.{◌≡◌, refl, sym, ap, ap₂, ◌∙◌}
 use mathlib.Core.List.{List, ◌++◌}
@@ -14,15 +15,14 @@ use Rattle.heads.specs.Heads.{entries_place}
 use Rattle.heads.specs.Written.{list_head}
 use Rattle.heads.proofs.WrittenLaws.{length_head, list_split}
 use Rattle.steps.specs.declared.Walk.{Walk}
-use Rattle.tables.specs.Outlines.{kinds_of}
 use Rattle.walks.specs.Walks.{walked, walk_bytes, Measured}
 use Rattle.outputs.specs.Outputs.{walk_list}
 
-module _ (walk : Walk) (x y : ℕ) (ns : List ℕ) (from to : ℕ) (f s : List ℕ) {count size : ℕ}
-    (m : Measured walk (kinds_of ns) f s count size) {place : ℕ} (p : place ≡ entries_place) where
-  list_is : walk_list walk x y ns from to f s ≡ list_head x y from to count size ++ walk_bytes walk 0 (kinds_of ns) f s
+module _ (walk : Walk) (x y : ℕ) (ns : List Kind) (from to : ℕ) (f s : List ℕ) {count size : ℕ}
+    (m : Measured walk ns f s count size) {place : ℕ} (p : place ≡ entries_place) where
+  list_is : walk_list walk x y ns from to f s ≡ list_head x y from to count size ++ walk_bytes walk 0 ns f s
   unfolding walk_list
-  list_is = rw (m.entries, m.bytes) (list_split x y (kinds_of ns) from to (walked walk 0 (kinds_of ns) f s))
+  list_is = rw (m.entries, m.bytes) (list_split x y ns from to (walked walk 0 ns f s))
 
   length_list : length (walk_list walk x y ns from to f s) ≡ place + size
   length_list =
@@ -44,7 +44,7 @@ module _ (walk : Walk) (x y : ℕ) (ns : List ℕ) (from to : ℕ) (f s : List �
 
     -- the head, then the entries
     pub list_output : place + size ≤ length out → {hs es : List ℕ} → hs ≡ list_head x y from to count size
-        → es ≡ walk_bytes walk 0 (kinds_of ns) f s
+        → es ≡ walk_bytes walk 0 ns f s
         → put_mid place (place + size - place) (put_mid 0 (place - 0) out hs) es
         ≡ (settled (done (walk_list walk x y ns from to f s)) out).output
     list_output room eh ee =

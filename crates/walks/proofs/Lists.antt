@@ -16,7 +16,6 @@ use Rattle.history.specs.declared.Change.{Change}
 use Rattle.history.specs.Table.{kind_at}
 use Rattle.history.specs.Image.{widths}
 use Rattle.history.specs.Changes.{entries_bytes, differ, meets, joined, back}
-use Rattle.tables.specs.Outlines.{kinds_of}
 use Rattle.forms.proofs.KindLaws.{kinds_next}
 use Rattle.steps.specs.declared.Walk.{Walk}
 use Rattle.steps.specs.Steps.{span, entry_bytes, names, count_if, size_if, said_if, change_at, is_swap, step_of}
@@ -27,29 +26,29 @@ use Rattle.walks.specs.Walks.{walked, walk_bytes, ElementsLong, Asked, Surveyed}
 use Rattle.walks.proofs.Rounds.{Sizing, sized_until, one_sized, Putting, put_fits, put_inside, put_long, one_put}
 
 -- a difference asks that both forms are an image's elements
-pub asked : {walk : Walk} {ns f s : List ℕ} → walk ≡ Walk.Difference → Asked walk ns f s → ElementsLong ns f s
+pub asked : {walk : Walk} {ns : List Kind} {f s : List ℕ} → walk ≡ Walk.Difference → Asked walk ns f s → ElementsLong ns f s
 asked {ns = ns} {f = f} {s = s} e a = subst (λ (walk : Walk). Asked walk ns f s) e a
 
 -- room and bytes, once it is known which walk it is
-module _ {walk which : Walk} (e : walk ≡ which) (ns f s : List ℕ) where
-  pub room_as : {n : ℕ} → n ≡ length (walk_bytes walk 0 (kinds_of ns) f s)
-      → n ≡ length (walk_bytes which 0 (kinds_of ns) f s)
+module _ {walk which : Walk} (e : walk ≡ which) (ns : List Kind) (f s : List ℕ) where
+  pub room_as : {n : ℕ} → n ≡ length (walk_bytes walk 0 ns f s)
+      → n ≡ length (walk_bytes which 0 ns f s)
   room_as l = rw e at l
 
-  pub bytes_as : {b : List ℕ} → b ≡ walk_bytes which 0 (kinds_of ns) f s → b ≡ walk_bytes walk 0 (kinds_of ns) f s
+  pub bytes_as : {b : List ℕ} → b ≡ walk_bytes which 0 ns f s → b ≡ walk_bytes walk 0 ns f s
   bytes_as p = rw e p
 
 -- ---- a difference: both images have the element at the same place
 
-pub record Comparing (ns f s : List ℕ) (p i : ℕ) : Type 0 where
-  pub old : p + widths (drop i (kinds_of ns)) ≡ length f
-  pub new : p + widths (drop i (kinds_of ns)) ≡ length s
+pub record Comparing (ns : List Kind) (f s : List ℕ) (p i : ℕ) : Type 0 where
+  pub old : p + widths (drop i ns) ≡ length f
+  pub new : p + widths (drop i ns) ≡ length s
 
-pub none_compared : {ns f s : List ℕ} → ElementsLong ns f s → Comparing ns f s 0 0
+pub none_compared : {ns : List Kind} {f s : List ℕ} → ElementsLong ns f s → Comparing ns f s 0 0
 none_compared e = record { old = omega (arith, e.first); new = omega (arith, e.second) }
 
-module _ {ns f s : List ℕ} {p i : ℕ} (z : Comparing ns f s p i) (h : i < length ns) {w : ℕ}
-    (ew : w ≡ width_of (kind_at (kinds_of ns) i)) where
+module _ {ns : List Kind} {f s : List ℕ} {p i : ℕ} (z : Comparing ns f s p i) (h : i < length ns) {w : ℕ}
+    (ew : w ≡ width_of (kind_at ns i)) where
   pub old_inside : p + w ≤ length f
   old_inside = omega (arith, z.old, ap widths (kinds_next ns i h))
 
@@ -105,8 +104,8 @@ module _ (l : List ℕ) (p i w : ℕ) {t : Bool} {m : ℕ} (h : p ≤ length l) 
   pub cursor_fits : length l < 2 ^ 64 → p + m < 2 ^ 64
   cursor_fits k = omega (arith, cursor_inside)
 
-module _ {ns f s : List ℕ} {p q i w : ℕ} {one other : Bool} (h : i < length ns)
-    (ew : w ≡ width_of (kind_at (kinds_of ns) i)) (eo : one ≡ names i w (drop p f))
+module _ {ns : List Kind} {f s : List ℕ} {p q i w : ℕ} {one other : Bool} (h : i < length ns)
+    (ew : w ≡ width_of (kind_at ns i)) (eo : one ≡ names i w (drop p f))
     (es : other ≡ names i w (drop q s)) where
   module _ {count size : ℕ} (z : Sizing Walk.Join ns f s count size p q i) {t : Bool}
       (et : t ≡ meets (said_if one w (drop p f)) (said_if other w (drop q s))) where
@@ -160,21 +159,21 @@ alone i (k ∷ ks) f s t = rw (alone (suc i) ks (drop (span (width_of k) (change
 bytes_alone : (ks : List Kind) (f s t : List ℕ) → walk_bytes Walk.Turn 0 ks f s ≡ walk_bytes Walk.Turn 0 ks f t
 bytes_alone ks f s t = ap (entries_bytes 0 ks) (alone 0 ks f s t)
 
-module _ {walk : Walk} (e : walk ≡ Walk.Turn) (ns f s : List ℕ) where
-  pub room_alone : {n : ℕ} → n ≡ length (walk_bytes walk 0 (kinds_of ns) f s)
-      → n ≡ length (walk_bytes Walk.Turn 0 (kinds_of ns) f [])
-  room_alone l = room_as e ns f s l ∙ ap length (bytes_alone (kinds_of ns) f s [])
+module _ {walk : Walk} (e : walk ≡ Walk.Turn) (ns : List Kind) (f s : List ℕ) where
+  pub room_alone : {n : ℕ} → n ≡ length (walk_bytes walk 0 ns f s)
+      → n ≡ length (walk_bytes Walk.Turn 0 ns f [])
+  room_alone l = room_as e ns f s l ∙ ap length (bytes_alone ns f s [])
 
-  pub bytes_turned : {b : List ℕ} → b ≡ walk_bytes Walk.Turn 0 (kinds_of ns) f []
-      → b ≡ walk_bytes walk 0 (kinds_of ns) f s
-  bytes_turned p = bytes_as e ns f s (p ∙ bytes_alone (kinds_of ns) f [] s)
+  pub bytes_turned : {b : List ℕ} → b ≡ walk_bytes Walk.Turn 0 ns f []
+      → b ≡ walk_bytes walk 0 ns f s
+  bytes_turned p = bytes_as e ns f s (p ∙ bytes_alone ns f [] s)
 
 pub said_fits : (l : List ℕ) (p i w : ℕ) {c : Change} {m : ℕ} → p ≤ length l → c ≡ change_at i w (drop p l)
     → (m ≡ span w c) × (m ≤ 10) → length l < 2 ^ 64 → p + m < 2 ^ 64
 said_fits l p i w h ec em k = omega (arith, said_inside l p i w h ec em.0)
 
-module _ {ns f s part₀ part : List ℕ} {at p i w n : ℕ} (z : Putting Walk.Turn ns f s part₀ part at p 0 i)
-    (h : i < length ns) (ew : w ≡ width_of (kind_at (kinds_of ns) i)) {c d : Change} (ec : c ≡ change_at i w (drop p f))
+module _ {ns : List Kind} {f s part₀ part : List ℕ} {at p i w n : ℕ} (z : Putting Walk.Turn ns f s part₀ part at p 0 i)
+    (h : i < length ns) (ew : w ≡ width_of (kind_at ns i)) {c d : Change} (ec : c ≡ change_at i w (drop p f))
     (ed : d ≡ back c) (en : n ≡ span w d) where
   turned : {m : ℕ} → m ≡ span w c
       → Stepped Walk.Turn i w f p s 0 (record { change = d; agrees = true; first = m; second = 0 })
