@@ -14,8 +14,8 @@ use Rattle.walks.specs.Walks.{walked, renewal}
 
 -- the list of a walk's changes
 unfoldable pub walk_list : Walk → ℕ → ℕ → List Kind → ℕ → ℕ → List ℕ → List ℕ → List ℕ
-walk_list walk x y ns from to f s =
-    list_bytes (plan_with x y ns) (record { from = from; to = to; each = walked walk 0 ns f s })
+walk_list walk x y ks from to f s =
+    list_bytes (plan_with x y ks) (record { from = from; to = to; each = walked walk 0 ks f s })
 
 -- the image b after the entries e, at the position to
 unfoldable pub image_after : List Kind → ℕ → List ℕ → List ℕ → List ℕ

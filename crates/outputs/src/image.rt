@@ -12,7 +12,13 @@ use history::Answer;
 use tables::{Plan, short};
 
 // Writes the image after the entries, at position `to`, to the front of the output.
-pub fn write_image(plan: Plan<'_>, image: &[u8], to: u32, entries: &[u8], out: &mut [u8]) -> Result<u32, Answer>
+pub fn write_image(
+    plan: Plan<'_>,
+    image: &[u8],
+    to: u32,
+    entries: &[u8],
+    out: &mut [u8],
+) -> Result<u32, Answer>
     requires image_len { length image.now ≡ image_head image.now + widths plan.kinds.now }
     ensures { Puts (done (image_after plan.entry.kinds.now to entries.now image.now))
         out.old result out.new }

@@ -32,7 +32,15 @@ pub fn write_list(
     if out.len() < need {
         return Err(short(need as u32));
     }
-    heads::put_list_head(&mut out[0..place], plan.x, plan.y, from, to, count, bytes as u32);
+    heads::put_list_head(
+        &mut out[0..place],
+        plan.x,
+        plan.y,
+        from,
+        to,
+        count,
+        bytes as u32,
+    );
     walks::put_changes(&mut out[place..need], walk, plan, first, second);
     Ok(need as u32)
 }
