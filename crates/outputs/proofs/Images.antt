@@ -6,25 +6,24 @@ use native.Mathlib.Omega.{arith}
 use mathlib.Core.Path.{◌≡◌, sym, ap, ap₂, ◌∙◌}
 use mathlib.Core.List.{List, ◌++◌, append-nil}
 use lib.ListN.{length, take, drop, length-drop, take-append-drop}
-use lib.Seq.{take_at, drop_at, drop-drop, drop-length, length-take-le}
+use lib.Seq.{drop-drop, drop-length, length-take-le}
 use borrow.Rule.Slice.PartMut.{put_mid, mid_of, mid_len}
+use Rattle.std.specs.Prelude.{Result, Ok}
 use Rattle.octets.specs.Octets.{bytes}
 use Rattle.octets.proofs.NumberLaws.{length_bytes}
 use Rattle.kinds.specs.Kinds.{width_of}
 use Rattle.kinds.specs.declared.Kind.{Kind}
 use Rattle.history.specs.declared.Answer.{Answer}
-use Rattle.history.specs.Verdict.{done, unnamed, Leaves}
+use Rattle.history.specs.Verdict.{done, Puts}
 use Rattle.history.specs.Table.{kind_at}
 use Rattle.history.specs.Image.{widths}
 use Rattle.history.proofs.ImageLaws.{widths_few}
-use Rattle.history.proofs.OutputLaws.{front_leaves}
+use Rattle.history.proofs.OutputLaws.{front_puts, copy_is, copy_rest}
 use Rattle.heads.specs.Heads.{image_head, elements_in}
 use Rattle.heads.specs.Written.{with_elements}
 use Rattle.heads.proofs.Places.{head_few, elements_from_lem}
 use Rattle.heads.proofs.WrittenLaws.{renewed_inside, renewed_with, with_long}
-use Rattle.tables.specs.Outlines.{kinds_of}
 use Rattle.forms.specs.Places.{place_in, Sized, over}
-use Rattle.forms.proofs.KindLaws.{length_kinds}
 use Rattle.forms.proofs.ElementPlaces.{over_past, over_long, place_within, own_width, element_inside}
 use Rattle.walks.specs.Walks.{renewal}
 use Rattle.walks.proofs.Application.{length_renewal}
@@ -50,17 +49,17 @@ put_part l b from to v s h q =
 
 -- ---- an image of a table's elements, and where the code has them begin
 
-module _ (ns b : List ℕ) (h : length b ≡ image_head b + widths (kinds_of ns)) where
+module _ (ks : List Kind) (b : List ℕ) (h : length b ≡ image_head b + widths ks) where
   inside : image_head b ≤ length b
   inside = omega arith
 
-  elements_long : length (elements_in b) ≡ widths (kinds_of ns)
+  elements_long : length (elements_in b) ≡ widths ks
   unfolding elements_in
   elements_long = length-drop (image_head b) b ∙ omega arith
 
   -- the length of an image of at most 1,024 objects fits in 32 bits
-  pub few_bytes : length ns ≤ 1024 → length b < 2 ^ 32
-  few_bytes few = omega (arith, head_few b, length_kinds ns, widths_few (kinds_of ns))
+  pub few_bytes : length ks ≤ 1024 → length b < 2 ^ 32
+  few_bytes few = omega (arith, head_few b, widths_few ks)
 
   module _ (place : ℕ) (e : place ≡ image_head b) where
     begins_inside : place ≤ length b
@@ -68,29 +67,29 @@ module _ (ns b : List ℕ) (h : length b ≡ image_head b + widths (kinds_of ns)
 
     -- a list's entries are taken into the elements
     module _ (to : ℕ) (entries : List ℕ) {es : List ℕ}
-        (q : es ≡ renewal 0 (kinds_of ns) entries (mid_of place (length b - place) b)) where
+        (q : es ≡ renewal 0 ks entries (mid_of place (length b - place) b)) where
       after : put_mid place (length b - place) b es
-          ≡ take (image_head b) b ++ renewal 0 (kinds_of ns) entries (elements_in b)
+          ≡ take (image_head b) b ++ renewal 0 ks entries (elements_in b)
       after =
           put_end place b es begins_inside
           ∙ ap₂ (λ (n : ℕ) (r : List ℕ). take n b ++ r) e
-          (q ∙ ap (renewal 0 (kinds_of ns) entries) (elements_from_lem b place e))
+          (q ∙ ap (renewal 0 ks entries) (elements_from_lem b place e))
 
       pub taken_inside : image_head (put_mid place (length b - place) b es)
           ≤ length (put_mid place (length b - place) b es)
-      taken_inside = rw after (renewed_inside b (renewal 0 (kinds_of ns) entries (elements_in b)) inside)
+      taken_inside = rw after (renewed_inside b (renewal 0 ks entries (elements_in b)) inside)
 
       pub taken : {r : List ℕ}
           → r ≡ with_elements (put_mid place (length b - place) b es) to
           (elements_in (put_mid place (length b - place) b es))
-          → r ≡ image_after (kinds_of ns) to entries b
+          → r ≡ image_after ks to entries b
       unfolding image_after
       taken f = f ∙ ap (λ (m : List ℕ). with_elements m to (elements_in m)) after ∙ renewed_with b _ inside to
 
     -- one object's element is put
-    module _ {i : ℕ} (l : i < length ns) (few : length ns ≤ 1024) {o : ℕ} (o_is : o ≡ place_in (kinds_of ns) i)
-        {kind : Kind} (kind_is_lem : kind ≡ kind_at (kinds_of ns) i) {w : ℕ} (w-is : w ≡ width_of kind) where
-      own : Sized ns (elements_in b) i
+    module _ {i : ℕ} (l : i < length ks) (few : length ks ≤ 1024) {o : ℕ} (o_is : o ≡ place_in ks i)
+        {kind : Kind} (kind_is_lem : kind ≡ kind_at ks i) {w : ℕ} (w-is : w ≡ width_of kind) where
+      own : Sized ks (elements_in b) i
       own = record { below = l; few = few; long = elements_long }
 
       pub put_inside : place + o + w ≤ length b
@@ -99,20 +98,20 @@ module _ (ns b : List ℕ) (h : length b ≡ image_head b + widths (kinds_of ns)
       module _ (to word : ℕ) {ws : List ℕ}
           (q : ws ≡ bytes (length (mid_of (place + o) (place + o + w - (place + o)) b)) word) where
         abbrev renewed : List ℕ
-        renewed = over (place_in (kinds_of ns) i) (bytes (width_of (kind_at (kinds_of ns) i)) word) (elements_in b)
+        renewed = over (place_in ks i) (bytes (width_of (kind_at ks i)) word) (elements_in b)
 
         with_element : put_mid (place + o) (place + o + w - (place + o)) b ws ≡ take (image_head b) b ++ renewed
         unfolding elements_in
         with_element =
-            let n : place + o + w - (place + o) ≡ width_of (kind_at (kinds_of ns) i) =
+            let n : place + o + w - (place + o) ≡ width_of (kind_at ks i) =
             omega (arith, own_width own o_is kind_is_lem w-is) in
             let long : length (take (image_head b) b) ≡ image_head b = length-take-le (image_head b) b inside in
             put_part b ws (place + o) (place + o + w) word (omega arith) put_inside q
             ∙ ap₂ (λ (n : ℕ) (c : List ℕ). over (place + o) (bytes n word) c) n
             (sym (take-append-drop (image_head b) b))
-            ∙ over_past (take (image_head b) b) (bytes (width_of (kind_at (kinds_of ns) i)) word)
+            ∙ over_past (take (image_head b) b) (bytes (width_of (kind_at ks i)) word)
             (drop (image_head b) b)
-            (place + o) (place_in (kinds_of ns) i) (omega (arith, long))
+            (place + o) (place_in ks i) (omega (arith, long))
 
         pub put_head : image_head (put_mid (place + o) (place + o + w - (place + o)) b ws)
             ≤ length (put_mid (place + o) (place + o + w - (place + o)) b ws)
@@ -121,51 +120,43 @@ module _ (ns b : List ℕ) (h : length b ≡ image_head b + widths (kinds_of ns)
         pub put_done : {r : List ℕ}
             → r ≡ with_elements (put_mid (place + o) (place + o + w - (place + o)) b ws) to
             (elements_in (put_mid (place + o) (place + o + w - (place + o)) b ws))
-            → r ≡ image_with (kinds_of ns) to i word b
+            → r ≡ image_with ks to i word b
         unfolding image_with
         put_done f =
             f ∙ ap (λ (m : List ℕ). with_elements m to (elements_in m)) with_element ∙ renewed_with b _ inside to
 
   -- ---- how long the changed images are
 
-  pub length_after : (to : ℕ) (entries : List ℕ) → length (image_after (kinds_of ns) to entries b) ≡ length b
+  pub length_after : (to : ℕ) (entries : List ℕ) → length (image_after ks to entries b) ≡ length b
   unfolding image_after
   length_after to entries =
       with_long b _ to inside
-      ∙ ap (λ (n : ℕ). image_head b + n) (length_renewal (kinds_of ns) 0 entries (elements_in b) elements_long) ∙ sym h
+      ∙ ap (λ (n : ℕ). image_head b + n) (length_renewal ks 0 entries (elements_in b) elements_long) ∙ sym h
 
-  pub length_with : (to : ℕ) {i : ℕ} (word : ℕ) → i < length ns
-      → length (image_with (kinds_of ns) to i word b) ≡ length b
+  pub length_with : (to : ℕ) {i : ℕ} (word : ℕ) → i < length ks
+      → length (image_with ks to i word b) ≡ length b
   unfolding image_with
   length_with to {i} word l =
-      let w : ℕ = width_of (kind_at (kinds_of ns) i) in
-      let room : place_in (kinds_of ns) i + w ≤ length (elements_in b) =
-      omega (arith, place_within (kinds_of ns) i (omega (arith, length_kinds ns)), elements_long) in
+      let w : ℕ = width_of (kind_at ks i) in
+      let room : place_in ks i + w ≤ length (elements_in b) =
+      omega (arith, place_within ks i l, elements_long) in
       with_long b _ to inside
       ∙ ap (λ (n : ℕ). image_head b + n)
-      (over_long (place_in (kinds_of ns) i) (bytes w word) (elements_in b) (rw (length_bytes w word) room)
+      (over_long (place_in ks i) (bytes w word) (elements_in b) (rw (length_bytes w word) room)
       ∙ elements_long) ∙ sym h
 
 -- ---- a copy at the front of the output, changed there
 
-module _ (A out : List ℕ) (room : length A ≤ length out) {cs : List ℕ} (c : cs ≡ A) where
-  long : length cs ≡ length A - 0
-  long = ap length c ∙ omega arith
-
-  copy_is : mid_of 0 (length A - 0) (put_mid 0 (length A - 0) out cs) ≡ A
-  copy_is = take_at cs _ (length A - 0) long ∙ c
-
+module _ (A out : List ℕ) {cs : List ℕ} (c : cs ≡ A) where
   pub copied_sized : (ks : List Kind) → length A ≡ image_head A + widths ks
       → length (mid_of 0 (length A - 0) (put_mid 0 (length A - 0) out cs))
       ≡ image_head (mid_of 0 (length A - 0) (put_mid 0 (length A - 0) out cs)) + widths ks
-  copied_sized ks h = rw copy_is h
+  copied_sized ks h = rw (copy_is A out c) h
 
   -- what is left is the changed image
-  pub copied_leaves : (f : List ℕ → List ℕ) → length (f A) ≡ length A → {r : Answer} → r ≡ unnamed 0 (length A)
-      → {bs : List ℕ} → bs ≡ f (mid_of 0 (length A - 0) (put_mid 0 (length A - 0) out cs))
-      → Leaves (done (f A)) out r (put_mid 0 (length A - 0) (put_mid 0 (length A - 0) out cs) bs)
-  copied_leaves f same {r} e {bs} q =
-      let front = front_leaves (f A) out same room e (q ∙ ap f copy_is) in
-      let rest : drop (length A - 0) (cs ++ drop (length A - 0) out) ≡ drop (length A - 0) out =
-      drop_at cs _ (length A - 0) long in
-      (front.0, ap (λ (l : List ℕ). bs ++ l) rest ∙ front.1)
+  pub copied_puts : (f : List ℕ → List ℕ) → length (f A) ≡ length A → length A ≤ length out → {r : Result ℕ Answer}
+      → r ≡ Ok (length A) → {bs : List ℕ} → bs ≡ f (mid_of 0 (length A - 0) (put_mid 0 (length A - 0) out cs))
+      → Puts (done (f A)) out r (put_mid 0 (length A - 0) (put_mid 0 (length A - 0) out cs) bs)
+  copied_puts f same room e {bs} q =
+      let front = front_puts (f A) out same room e (q ∙ ap f (copy_is A out c)) in
+      (front.0, ap (λ (l : List ℕ). bs ++ l) (copy_rest A out c) ∙ front.1)

@@ -8,14 +8,14 @@ use Rattle.history.specs.Changes.{list_bytes}
 use Rattle.heads.specs.Heads.{elements_in}
 use Rattle.heads.specs.Written.{with_elements}
 use Rattle.steps.specs.declared.Walk.{Walk}
-use Rattle.tables.specs.Outlines.{kinds_of, plan_as}
+use Rattle.tables.specs.Plans.{plan_with}
 use Rattle.forms.specs.Places.{place_in, over}
 use Rattle.walks.specs.Walks.{walked, renewal}
 
 -- the list of a walk's changes
-unfoldable pub walk_list : Walk → ℕ → ℕ → List ℕ → ℕ → ℕ → List ℕ → List ℕ → List ℕ
-walk_list walk x y ns from to f s =
-    list_bytes (plan_as x y ns) (record { from = from; to = to; each = walked walk 0 (kinds_of ns) f s })
+unfoldable pub walk_list : Walk → ℕ → ℕ → List Kind → ℕ → ℕ → List ℕ → List ℕ → List ℕ
+walk_list walk x y ks from to f s =
+    list_bytes (plan_with x y ks) (record { from = from; to = to; each = walked walk 0 ks f s })
 
 -- the image b after the entries e, at the position to
 unfoldable pub image_after : List Kind → ℕ → List ℕ → List ℕ → List ℕ

@@ -1,78 +1,81 @@
 // An image changed in place: a list's entries are taken into it, or one element is put; then its position is set. An
 // image for an output is first copied to its front, and the copy is changed.
 ghost use Rattle.std.specs.Prelude.{◌≡◌, ◌+◌, ◌≤◌, ◌<◌, length};
-ghost use Rattle.history.specs.Verdict.{done, Leaves};
+ghost use Rattle.history.specs.Verdict.{done, Puts};
 ghost use Rattle.history.specs.Image.{widths};
 ghost use Rattle.heads.specs.Heads.{image_head, elements_in};
 ghost use Rattle.heads.specs.Written.{with_elements};
-ghost use Rattle.tables.specs.Outlines.{kinds_of};
 ghost use Rattle.outputs.specs.Outputs.{image_after, image_with};
 
-use forms::{kind_at, place_of};
+use forms::place_of;
 use history::Answer;
-use tables::{short, written};
+use tables::{Plan, short};
 
 // Writes the image after the entries, at position `to`, to the front of the output.
-pub fn write_image(kinds: &[u8], image: &[u8], to: u32, entries: &[u8], out: &mut [u8]) -> Answer
-    requires kinds_len_bound { length kinds.now ≤ 1024 }
-    requires image_len { length image.now ≡ image_head image.now + widths (kinds_of kinds.now) }
-    ensures { Leaves (done (image_after (kinds_of kinds.now) to entries.now image.now))
+pub fn write_image(
+    plan: Plan<'_>,
+    image: &[u8],
+    to: u32,
+    entries: &[u8],
+    out: &mut [u8],
+) -> Result<u32, Answer>
+    requires image_len { length image.now ≡ image_head image.now + widths plan.kinds.now }
+    ensures { Puts (done (image_after plan.entry.kinds.now to entries.now image.now))
         out.old result out.new }
 {
     let size = image.len();
     if out.len() < size {
-        return short(size as u32);
+        return Err(short(size as u32));
     }
     octets::copy(&mut out[0..size], image);
-    take_entries(&mut out[0..size], kinds, to, entries);
-    written(size as u32)
+    take_entries(&mut out[0..size], plan, to, entries);
+    Ok(size as u32)
 }
 
 // Writes the image with a new element for one object, at position `to`, to the front of the output.
 pub fn write_element(
-    kinds: &[u8],
+    plan: Plan<'_>,
     image: &[u8],
     to: u32,
     object: usize,
     word: u32,
     out: &mut [u8],
-) -> Answer
-    requires object_in_bounds { (object < length kinds.now) × (length kinds.now ≤ 1024) }
-    requires image_len { length image.now ≡ image_head image.now + widths (kinds_of kinds.now) }
-    ensures { Leaves (done (image_with (kinds_of kinds.now) to object word image.now))
+) -> Result<u32, Answer>
+    requires object_in_bounds { object < length plan.kinds.now }
+    requires image_len { length image.now ≡ image_head image.now + widths plan.kinds.now }
+    ensures { Puts (done (image_with plan.entry.kinds.now to object word image.now))
         out.old result out.new }
 {
     let size = image.len();
     if out.len() < size {
-        return short(size as u32);
+        return Err(short(size as u32));
     }
     octets::copy(&mut out[0..size], image);
-    put_element(&mut out[0..size], kinds, to, object, word);
-    written(size as u32)
+    put_element(&mut out[0..size], plan, to, object, word);
+    Ok(size as u32)
 }
 
 // Takes a list's entries, and the position that it reaches, into the image.
-pub fn take_entries(image: &mut [u8], kinds: &[u8], to: u32, entries: &[u8])
-    requires kinds_len_bound { length kinds.now ≤ 1024 }
-    requires image_len { length image.old ≡ image_head image.old + widths (kinds_of kinds.now) }
+pub fn take_entries(image: &mut [u8], plan: Plan<'_>, to: u32, entries: &[u8])
+    requires image_len { length image.old ≡ image_head image.old + widths plan.kinds.now }
     ensures { image.new
-        ≡ image_after (kinds_of kinds.now) to entries.now image.old }
+        ≡ image_after plan.entry.kinds.now to entries.now image.old }
 {
     let place = heads::image_head(&image[..]);
     let size = image.len();
-    walks::renew(&mut image[place..size], kinds, entries);
+    walks::renew(&mut image[place..size], plan, entries);
     finish(image, to);
 }
 
 // Puts an object's element, and a position, into the image.
-pub fn put_element(image: &mut [u8], kinds: &[u8], to: u32, object: usize, word: u32)
-    requires object_in_bounds { (object < length kinds.now) × (length kinds.now ≤ 1024) }
-    requires image_len { length image.old ≡ image_head image.old + widths (kinds_of kinds.now) }
-    ensures { image.new ≡ image_with (kinds_of kinds.now) to object word image.old }
+pub fn put_element(image: &mut [u8], plan: Plan<'_>, to: u32, object: usize, word: u32)
+    requires object_in_bounds { object < length plan.kinds.now }
+    requires image_len { length image.old ≡ image_head image.old + widths plan.kinds.now }
+    ensures { image.new ≡ image_with plan.entry.kinds.now to object word image.old }
 {
     let place = heads::image_head(&image[..]);
-    let at = place + place_of(kinds, object);
-    let end = at + elements::width(kind_at(kinds, object));
+    let at = place + place_of(plan.kinds, object);
+    let end = at + elements::width(plan.kinds[object]);
     octets::put(&mut image[at..end], word);
     finish(image, to);
 }

@@ -8,12 +8,11 @@ ghost use Rattle.std.specs.Prelude.{◌≡◌, ◌+◌, ◌≤◌, ◌<◌, leng
 ghost use Rattle.kinds.specs.Kinds.{width_of};
 ghost use Rattle.history.specs.Table.{kind_at};
 ghost use Rattle.history.specs.Changes.{differ, fits, meets, joined, back};
-ghost use Rattle.tables.specs.Outlines.{kinds_of};
 ghost use Rattle.steps.specs.Steps.{span, entry_bytes, names, count_if, size_if, said_if, change_at, is_swap, Silent};
 ghost use Rattle.steps.specs.Steps.{AllIdle, renewed};
 
-use forms::kind_at;
 use history::Change;
+use kinds::Kind;
 
 // The operations that make a list; each is a walk over the objects.
 #[derive(Clone, Copy)]
@@ -203,11 +202,11 @@ pub fn join_change(
 }
 
 // How many bytes the object's element takes.
-pub fn width_at(kinds: &[u8], object: usize) -> usize
+pub fn width_at(kinds: &[Kind], object: usize) -> usize
     requires { object < length kinds.now }
-    ensures { (result ≡ width_of (kind_at (kinds_of kinds.now) object)) × (result ≤ 4) }
+    ensures { (result ≡ width_of (kind_at kinds.now object)) × (result ≤ 4) }
 {
-    elements::width(kind_at(kinds, object))
+    elements::width(kinds[object])
 }
 
 // Fills the part with the object's entry; for a kept object the part is empty.

@@ -21,7 +21,6 @@ use Rattle.history.specs.Image.{widths}
 use Rattle.history.specs.Changes.{fits}
 use Rattle.octets.proofs.NumberLaws.{length_bytes}
 use Rattle.octets.proofs.Writing.{Filling, begin, along, keeps, write, ended, untouched}
-use Rattle.tables.specs.Outlines.{kinds_of}
 use Rattle.forms.proofs.KindLaws.{kinds_next, kinds_end}
 use Rattle.steps.specs.Steps.{span, change_at, Silent, renewed}
 use Rattle.steps.proofs.StepLaws.{said_inside}
@@ -30,19 +29,19 @@ use Rattle.walks.proofs.Runs.{pass}
 
 -- ---- the places, where the elements take n bytes
 
-pub record Places (ns e : List ℕ) (n at p i : ℕ) : Type 0 where
-  pub inside : i ≤ length ns
+pub record Places (ks : List Kind) (e : List ℕ) (n at p i : ℕ) : Type 0 where
+  pub inside : i ≤ length ks
   pub near : p ≤ length e
-  pub room : at + widths (drop i (kinds_of ns)) ≡ n
+  pub room : at + widths (drop i ks) ≡ n
 
-first_places : (ns e : List ℕ) {n : ℕ} → n ≡ widths (kinds_of ns) → Places ns e n 0 0 0
-first_places ns e h = record { inside = omega arith; near = omega arith; room = omega arith }
+first_places : (ks : List Kind) (e : List ℕ) {n : ℕ} → n ≡ widths ks → Places ks e n 0 0 0
+first_places ks e h = record { inside = omega arith; near = omega arith; room = omega arith }
 
-module _ {ns e : List ℕ} {n at p i : ℕ} (z : Places ns e n at p i) where
-  module _ (h : i < length ns) {w : ℕ} (ew : w ≡ width_of (kind_at (kinds_of ns) i)) where
+module _ {ks : List Kind} {e : List ℕ} {n at p i : ℕ} (z : Places ks e n at p i) where
+  module _ (h : i < length ks) {w : ℕ} (ew : w ≡ width_of (kind_at ks i)) where
     -- the element ends within the elements
     pub element_inside : at + w ≤ n
-    element_inside = omega (arith, z.room, ap widths (kinds_next ns i h))
+    element_inside = omega (arith, z.room, ap widths (kinds_next ks i h))
 
     pub element_fits : n < 2 ^ 64 → at + w < 2 ^ 64
     element_fits k = omega (arith, element_inside)
@@ -52,77 +51,79 @@ module _ {ns e : List ℕ} {n at p i : ℕ} (z : Places ns e n at p i) where
       pub entry_inside : p + m ≤ length e
       entry_inside = said_inside e p i w z.near ec em
 
-      next_places : Places ns e n (at + w) (p + m) (i + 1)
+      next_places : Places ks e n (at + w) (p + m) (i + 1)
       next_places =
           record {
             inside = omega arith;
             near = entry_inside;
-            room = omega (arith, z.room, ap widths (kinds_next ns i h));
+            room = omega (arith, z.room, ap widths (kinds_next ks i h));
           }
 
   -- past an object that is not named
-  pass_places : i < length ns → Places ns e n (at + width_of (kind_at (kinds_of ns) i)) p (i + 1)
+  pass_places : i < length ks → Places ks e n (at + width_of (kind_at ks i)) p (i + 1)
   pass_places h =
-      record { inside = omega arith; near = z.near; room = omega (arith, z.room, ap widths (kinds_next ns i h)) }
+      record { inside = omega arith; near = z.near; room = omega (arith, z.room, ap widths (kinds_next ks i h)) }
 
 -- after the objects passed the place is still inside
-pub run_fits : {ns e : List ℕ} {n at p i : ℕ} → Places ns e n at p i → i < length ns → {w m : ℕ} {c : Change}
-    → w ≡ width_of (kind_at (kinds_of ns) i)
-    → c ≡ change_at i w (drop p e) → m ≡ span w c → {j v : ℕ} → Silent (i + 1) j (length ns) (drop (p + m) e)
-    → (v ≡ widths (kinds_of (take (j - (i + 1)) (drop (i + 1) ns)))) × (v ≤ 4096) → n < 2 ^ 64 → at + w + v < 2 ^ 64
-run_fits {ns} {e} {n} {p = p} z h {m = m} ew ec em d ev k =
+pub run_fits : {ks : List Kind} {e : List ℕ} {n at p i : ℕ} → Places ks e n at p i → i < length ks
+    → {w m : ℕ} {c : Change}
+    → w ≡ width_of (kind_at ks i)
+    → c ≡ change_at i w (drop p e) → m ≡ span w c → {j v : ℕ} → Silent (i + 1) j (length ks) (drop (p + m) e)
+    → (v ≡ widths (take (j - (i + 1)) (drop (i + 1) ks))) × (v ≤ 4096) → n < 2 ^ 64 → at + w + v < 2 ^ 64
+run_fits {ks} {e} {n} {p = p} z h {m = m} ew ec em d ev k =
     let last =
-    pass ns (λ k a. Places ns e n a (p + m) k) d ev.0 (λ k a l _ g. pass_places g l)
+    pass ks (λ k a. Places ks e n a (p + m) k) d ev.0 (λ k a l _ g. pass_places g l)
     (next_places z h ew ec em) in
     omega (arith, last.room)
 
 -- ---- the lowest object whose element is not its entry's old one
 
 -- every object passed fits
-pub record Fitting (ns e b : List ℕ) (at p i : ℕ) : Type 0 where
-  pub place : Places ns e (length b) at p i
-  pub same : unfit 0 (kinds_of ns) e b ≡ unfit i (drop i (kinds_of ns)) (drop p e) (drop at b)
+pub record Fitting (ks : List Kind) (e b : List ℕ) (at p i : ℕ) : Type 0 where
+  pub place : Places ks e (length b) at p i
+  pub same : unfit 0 ks e b ≡ unfit i (drop i ks) (drop p e) (drop at b)
 
-pub none_fitted : (ns e b : List ℕ) → length b ≡ widths (kinds_of ns) → Fitting ns e b 0 0 0
-none_fitted ns e b h = record { place = first_places ns e h; same = refl }
+pub none_fitted : (ks : List Kind) (e b : List ℕ) → length b ≡ widths ks → Fitting ks e b 0 0 0
+none_fitted ks e b h = record { place = first_places ks e h; same = refl }
 
-module _ {ns e b : List ℕ} {at p i : ℕ} (z : Fitting ns e b at p i) where
-  module _ (h : i < length ns) {w : ℕ} {c : Change} (ew : w ≡ width_of (kind_at (kinds_of ns) i))
+module _ {ks : List Kind} {e b : List ℕ} {at p i : ℕ} (z : Fitting ks e b at p i) where
+  module _ (h : i < length ks) {w : ℕ} {c : Change} (ew : w ≡ width_of (kind_at ks i))
       (ec : c ≡ change_at i w (drop p e)) where
     unfit_next : {m : ℕ} → m ≡ span w c
-        → unfit 0 (kinds_of ns) e b
+        → unfit 0 ks e b
         ≡ cond (fits c (number (take w (drop at b))))
-        (unfit (i + 1) (drop (i + 1) (kinds_of ns)) (drop (p + m) e) (drop (at + w) b)) i
+        (unfit (i + 1) (drop (i + 1) ks) (drop (p + m) e) (drop (at + w) b)) i
     unfolding unfit
     unfit_next {m} em =
-        z.same ∙ rw (kinds_next ns i h, ← ew, ← ec, ← em, add-one i, drop-drop m p e, drop-drop w at b)
+        z.same ∙ rw (kinds_next ks i h, ← ew, ← ec, ← em, add-one i, drop-drop m p e, drop-drop w at b)
 
     module _ {a : ℕ} (ea : a ≡ number (take w (drop at b))) {t : Bool} (et : t ≡ fits c a) where
-      pub unfit_here : t ≡ false → i ≡ unfit 0 (kinds_of ns) e b
+      pub unfit_here : t ≡ false → i ≡ unfit 0 ks e b
       unfit_here q = sym (unfit_next refl ∙ rw (← ea, ← et, q))
 
-      step_fitted : t ≡ true → {m : ℕ} → m ≡ span w c → Fitting ns e b (at + w) (p + m) (i + 1)
+      step_fitted : t ≡ true → {m : ℕ} → m ≡ span w c → Fitting ks e b (at + w) (p + m) (i + 1)
       step_fitted q em = record { place = next_places z.place h ew ec em; same = unfit_next em ∙ rw (← ea, ← et, q) }
 
   -- past an object that is not named
-  pass_fitted : i < length ns → change_at i (width_of (kind_at (kinds_of ns) i)) (drop p e) ≡ keep
-      → Fitting ns e b (at + width_of (kind_at (kinds_of ns) i)) p (i + 1)
+  pass_fitted : i < length ks → change_at i (width_of (kind_at ks i)) (drop p e) ≡ keep
+      → Fitting ks e b (at + width_of (kind_at ks i)) p (i + 1)
   pass_fitted h k = rw (add-zero p) at (step_fitted h {c = keep} refl (sym k) refl refl refl {m = 0} refl)
 
-  pub all_fitted : length ns ≤ i → i ≡ unfit 0 (kinds_of ns) e b
+  pub all_fitted : length ks ≤ i → i ≡ unfit 0 ks e b
   unfolding unfit
-  all_fitted h = sym (z.same ∙ rw (kinds_end ns i h))
+  all_fitted h = sym (z.same ∙ rw (kinds_end ks i h))
 
-module _ {ns e b : List ℕ} {at p i : ℕ} (z : Fitting ns e b at p i) (h : i < length ns) {w : ℕ} {c : Change}
-    (ew : w ≡ width_of (kind_at (kinds_of ns) i)) (ec : c ≡ change_at i w (drop p e)) where
+module _ {ks : List Kind} {e b : List ℕ} {at p i : ℕ} (z : Fitting ks e b at p i) (h : i < length ks) {w : ℕ}
+    {c : Change}
+    (ew : w ≡ width_of (kind_at ks i)) (ec : c ≡ change_at i w (drop p e)) where
   -- past the object's own element, to the next object that is named
   pub one_fitted : {a : ℕ} → a ≡ number (take w (drop at b)) → {t : Bool} → t ≡ fits c a → t ≡ true → {m j v : ℕ}
       → m ≡ span w c
-      → Silent (i + 1) j (length ns) (drop (p + m) e)
-      → (v ≡ widths (kinds_of (take (j - (i + 1)) (drop (i + 1) ns)))) × (v ≤ 4096)
-      → Fitting ns e b (at + w + v) (p + m) j
+      → Silent (i + 1) j (length ks) (drop (p + m) e)
+      → (v ≡ widths (take (j - (i + 1)) (drop (i + 1) ks))) × (v ≤ 4096)
+      → Fitting ks e b (at + w + v) (p + m) j
   one_fitted ea et q {m} em d ev =
-      pass ns (λ k a. Fitting ns e b a (p + m) k) d ev.0 (λ k a l s g. pass_fitted g l s)
+      pass ks (λ k a. Fitting ks e b a (p + m) k) d ev.0 (λ k a l s g. pass_fitted g l s)
       (step_fitted z h ew ec ea et q em)
 
 -- ---- the elements after the entries
@@ -143,38 +144,38 @@ length_renewal (k ∷ ks) i e b h =
     ∙ ap₂ ◌+◌ first (length_renewal ks (suc i) (drop (span w c) e) (drop w b) (length-drop w b ∙ (omega arith)))
 
 -- the elements renewed, and those still to be renewed
-pub record Renewing (ns e part₀ part : List ℕ) (at p i : ℕ) : Type 0 where
-  pub place : Places ns e (length part₀) at p i
-  pub fill : Filling (renewal 0 (kinds_of ns) e part₀) part₀
-      (renewal i (drop i (kinds_of ns)) (drop p e) (drop at part₀)) at part
+pub record Renewing (ks : List Kind) (e part₀ part : List ℕ) (at p i : ℕ) : Type 0 where
+  pub place : Places ks e (length part₀) at p i
+  pub fill : Filling (renewal 0 ks e part₀) part₀
+      (renewal i (drop i ks) (drop p e) (drop at part₀)) at part
 
-pub none_renewed : (ns e part : List ℕ) → length part ≡ widths (kinds_of ns) → Renewing ns e part part 0 0 0
-none_renewed ns e part h = record {
-  place = first_places ns e h;
-  fill = begin _ part (h ∙ sym (length_renewal (kinds_of ns) 0 e part h));
+pub none_renewed : (ks : List Kind) (e part : List ℕ) → length part ≡ widths ks → Renewing ks e part part 0 0 0
+none_renewed ks e part h = record {
+  place = first_places ks e h;
+  fill = begin _ part (h ∙ sym (length_renewal ks 0 e part h));
 }
 
-renewal_next : (ns e part : List ℕ) (at p i w n : ℕ) (c : Change) → i < length ns
-    → w ≡ width_of (kind_at (kinds_of ns) i)
+renewal_next : (ks : List Kind) (e part : List ℕ) (at p i w n : ℕ) (c : Change) → i < length ks
+    → w ≡ width_of (kind_at ks i)
     → c ≡ change_at i w (drop p e) → n ≡ span w c
-    → renewal i (drop i (kinds_of ns)) (drop p e) (drop at part)
+    → renewal i (drop i ks) (drop p e) (drop at part)
     ≡ renewed c (take w (drop at part))
-    ++ renewal (i + 1) (drop (i + 1) (kinds_of ns)) (drop (p + n) e) (drop (at + w) part)
+    ++ renewal (i + 1) (drop (i + 1) ks) (drop (p + n) e) (drop (at + w) part)
 unfolding renewal
-renewal_next ns e part at p i w n c h ew ec en =
-    rw (kinds_next ns i h, ← ew, ← ec, ← en, add-one i, drop-drop n p e, drop-drop w at part)
+renewal_next ks e part at p i w n c h ew ec en =
+    rw (kinds_next ks i h, ← ew, ← ec, ← en, add-one i, drop-drop n p e, drop-drop w at part)
 
-module _ {ns e part₀ part : List ℕ} {at p i : ℕ} (z : Renewing ns e part₀ part at p i) where
+module _ {ks : List Kind} {e part₀ part : List ℕ} {at p i : ℕ} (z : Renewing ks e part₀ part at p i) where
   pub renew_keeps : length part ≡ length part₀
   renew_keeps = keeps z.fill
 
-  module _ (h : i < length ns) {w : ℕ} (ew : w ≡ width_of (kind_at (kinds_of ns) i)) where
+  module _ (h : i < length ks) {w : ℕ} (ew : w ≡ width_of (kind_at ks i)) where
     pub renew_inside : at + w ≤ length part
     renew_inside = omega (arith, element_inside z.place h ew, renew_keeps)
 
     step_renewed : {n : ℕ} {c : Change} {ys : List ℕ} → c ≡ change_at i w (drop p e) → n ≡ span w c
         → ys ≡ renewed c (mid_of at (at + w - at) part)
-        → Renewing ns e part₀ (put_mid at (at + w - at) part ys) (at + w) (p + n) (i + 1)
+        → Renewing ks e part₀ (put_mid at (at + w - at) part ys) (at + w) (p + n) (i + 1)
     step_renewed {n} {c} ec en q =
         let s : at + w - at ≡ w = omega arith in
         let here : mid_of at (at + w - at) part ≡ take w (drop at part₀) =
@@ -185,31 +186,32 @@ module _ {ns e part₀ part : List ℕ} {at p i : ℕ} (z : Renewing ns e part�
         record {
           place = next_places z.place h ew ec en;
           fill =
-              write (along z.fill (renewal_next ns e part₀ at p i w n c h ew ec en)) (q ∙ ap (renewed c) here)
+              write (along z.fill (renewal_next ks e part₀ at p i w n c h ew ec en)) (q ∙ ap (renewed c) here)
               (at + w) (ap (λ (m : ℕ). at + m) long);
         }
 
   -- past an object that is not named
-  pass_renewed : i < length ns → change_at i (width_of (kind_at (kinds_of ns) i)) (drop p e) ≡ keep
-      → Renewing ns e part₀ part (at + width_of (kind_at (kinds_of ns) i)) p (i + 1)
+  pass_renewed : i < length ks → change_at i (width_of (kind_at ks i)) (drop p e) ≡ keep
+      → Renewing ks e part₀ part (at + width_of (kind_at ks i)) p (i + 1)
   pass_renewed h c =
-      let w : ℕ = width_of (kind_at (kinds_of ns) i) in
+      let w : ℕ = width_of (kind_at ks i) in
       rw (put_same at (at + w - at) part, add-zero p) at (step_renewed h refl {n = 0} {c = keep} (sym c) refl refl)
 
-  pub all_renewed : length ns ≤ i → part ≡ renewal 0 (kinds_of ns) e part₀
+  pub all_renewed : length ks ≤ i → part ≡ renewal 0 ks e part₀
   unfolding renewal
   all_renewed h =
-      let nothing : renewal i (drop i (kinds_of ns)) (drop p e) (drop at part₀) ≡ [] = rw (kinds_end ns i h) in
+      let nothing : renewal i (drop i ks) (drop p e) (drop at part₀) ≡ [] = rw (kinds_end ks i h) in
       ended (along z.fill nothing)
 
 -- past the object's own element, to the next object that is named
-pub one_renewed : {ns e part₀ part : List ℕ} {at p i : ℕ} → Renewing ns e part₀ part at p i → i < length ns
+pub one_renewed : {ks : List Kind} {e part₀ part : List ℕ} {at p i : ℕ} → Renewing ks e part₀ part at p i
+    → i < length ks
     → {w n : ℕ} {c : Change} {ys : List ℕ}
-    → w ≡ width_of (kind_at (kinds_of ns) i) → c ≡ change_at i w (drop p e) → n ≡ span w c
+    → w ≡ width_of (kind_at ks i) → c ≡ change_at i w (drop p e) → n ≡ span w c
     → ys ≡ renewed c (mid_of at (at + w - at) part)
-    → {j v : ℕ} → Silent (i + 1) j (length ns) (drop (p + n) e)
-    → (v ≡ widths (kinds_of (take (j - (i + 1)) (drop (i + 1) ns)))) × (v ≤ 4096)
-    → Renewing ns e part₀ (put_mid at (at + w - at) part ys) (at + w + v) (p + n) j
-one_renewed {ns} {e} {part₀} {part} {at} {p} z h {w} {n} {ys = ys} ew ec en q d ev =
-    pass ns (λ k a. Renewing ns e part₀ (put_mid at (at + w - at) part ys) a (p + n) k) d ev.0
+    → {j v : ℕ} → Silent (i + 1) j (length ks) (drop (p + n) e)
+    → (v ≡ widths (take (j - (i + 1)) (drop (i + 1) ks))) × (v ≤ 4096)
+    → Renewing ks e part₀ (put_mid at (at + w - at) part ys) (at + w + v) (p + n) j
+one_renewed {ks} {e} {part₀} {part} {at} {p} z h {w} {n} {ys = ys} ew ec en q d ev =
+    pass ks (λ k a. Renewing ks e part₀ (put_mid at (at + w - at) part ys) a (p + n) k) d ev.0
     (λ k a l s g. pass_renewed g l s) (step_renewed z h ew ec en q)

@@ -16,7 +16,6 @@ use Rattle.history.specs.declared.Change.{Change}
 use Rattle.history.specs.Table.{kind_at}
 use Rattle.history.specs.Image.{widths}
 use Rattle.history.specs.Changes.{entries_bytes, differ, meets, joined, back}
-use Rattle.tables.specs.Outlines.{kinds_of}
 use Rattle.forms.proofs.KindLaws.{kinds_next}
 use Rattle.steps.specs.declared.Walk.{Walk}
 use Rattle.steps.specs.Steps.{span, entry_bytes, names, count_if, size_if, said_if, change_at, is_swap, step_of}
@@ -27,43 +26,44 @@ use Rattle.walks.specs.Walks.{walked, walk_bytes, ElementsLong, Asked, Surveyed}
 use Rattle.walks.proofs.Rounds.{Sizing, sized_until, one_sized, Putting, put_fits, put_inside, put_long, one_put}
 
 -- a difference asks that both forms are an image's elements
-pub asked : {walk : Walk} {ns f s : List ℕ} → walk ≡ Walk.Difference → Asked walk ns f s → ElementsLong ns f s
-asked {ns = ns} {f = f} {s = s} e a = subst (λ (walk : Walk). Asked walk ns f s) e a
+pub asked : {walk : Walk} {ks : List Kind} {f s : List ℕ} → walk ≡ Walk.Difference → Asked walk ks f s
+    → ElementsLong ks f s
+asked {ks = ks} {f = f} {s = s} e a = subst (λ (walk : Walk). Asked walk ks f s) e a
 
 -- room and bytes, once it is known which walk it is
-module _ {walk which : Walk} (e : walk ≡ which) (ns f s : List ℕ) where
-  pub room_as : {n : ℕ} → n ≡ length (walk_bytes walk 0 (kinds_of ns) f s)
-      → n ≡ length (walk_bytes which 0 (kinds_of ns) f s)
+module _ {walk which : Walk} (e : walk ≡ which) (ks : List Kind) (f s : List ℕ) where
+  pub room_as : {n : ℕ} → n ≡ length (walk_bytes walk 0 ks f s)
+      → n ≡ length (walk_bytes which 0 ks f s)
   room_as l = rw e at l
 
-  pub bytes_as : {b : List ℕ} → b ≡ walk_bytes which 0 (kinds_of ns) f s → b ≡ walk_bytes walk 0 (kinds_of ns) f s
+  pub bytes_as : {b : List ℕ} → b ≡ walk_bytes which 0 ks f s → b ≡ walk_bytes walk 0 ks f s
   bytes_as p = rw e p
 
 -- ---- a difference: both images have the element at the same place
 
-pub record Comparing (ns f s : List ℕ) (p i : ℕ) : Type 0 where
-  pub old : p + widths (drop i (kinds_of ns)) ≡ length f
-  pub new : p + widths (drop i (kinds_of ns)) ≡ length s
+pub record Comparing (ks : List Kind) (f s : List ℕ) (p i : ℕ) : Type 0 where
+  pub old : p + widths (drop i ks) ≡ length f
+  pub new : p + widths (drop i ks) ≡ length s
 
-pub none_compared : {ns f s : List ℕ} → ElementsLong ns f s → Comparing ns f s 0 0
+pub none_compared : {ks : List Kind} {f s : List ℕ} → ElementsLong ks f s → Comparing ks f s 0 0
 none_compared e = record { old = omega (arith, e.first); new = omega (arith, e.second) }
 
-module _ {ns f s : List ℕ} {p i : ℕ} (z : Comparing ns f s p i) (h : i < length ns) {w : ℕ}
-    (ew : w ≡ width_of (kind_at (kinds_of ns) i)) where
+module _ {ks : List Kind} {f s : List ℕ} {p i : ℕ} (z : Comparing ks f s p i) (h : i < length ks) {w : ℕ}
+    (ew : w ≡ width_of (kind_at ks i)) where
   pub old_inside : p + w ≤ length f
-  old_inside = omega (arith, z.old, ap widths (kinds_next ns i h))
+  old_inside = omega (arith, z.old, ap widths (kinds_next ks i h))
 
   pub new_inside : p + w ≤ length s
-  new_inside = omega (arith, z.new, ap widths (kinds_next ns i h))
+  new_inside = omega (arith, z.new, ap widths (kinds_next ks i h))
 
   pub place_fits : length f < 2 ^ 64 → p + w < 2 ^ 64
   place_fits k = omega (arith, old_inside)
 
-  pub one_compared : Comparing ns f s (p + w) (i + 1)
+  pub one_compared : Comparing ks f s (p + w) (i + 1)
   one_compared =
       record {
-        old = omega (arith, z.old, ap widths (kinds_next ns i h));
-        new = omega (arith, z.new, ap widths (kinds_next ns i h));
+        old = omega (arith, z.old, ap widths (kinds_next ks i h));
+        new = omega (arith, z.new, ap widths (kinds_next ks i h));
       }
 
   module _ {a b : ℕ} (ea : a ≡ number (take w (drop p f))) (eb : b ≡ number (take w (drop p s))) where
@@ -71,16 +71,16 @@ module _ {ns f s : List ℕ} {p i : ℕ} (z : Comparing ns f s p i) (h : i < len
         → Stepped Walk.Difference i w f p s p (record { change = c; agrees = true; first = w; second = w })
     step ec = difference_step old_inside new_inside ea eb ec
 
-    onward : AllIdle Walk.Difference (i + 1) (i + 1) (length ns) (drop (p + w) f) (drop (p + w) s)
-    onward = idle_none Walk.Difference (i + 1) (length ns) (drop (p + w) f) (drop (p + w) s) (omega arith)
+    onward : AllIdle Walk.Difference (i + 1) (i + 1) (length ks) (drop (p + w) f) (drop (p + w) s)
+    onward = idle_none Walk.Difference (i + 1) (length ks) (drop (p + w) f) (drop (p + w) s) (omega arith)
 
-    pub difference_sized : {count size m n : ℕ} → Sizing Walk.Difference ns f s count size p p i
+    pub difference_sized : {count size m n : ℕ} → Sizing Walk.Difference ks f s count size p p i
         → (m ≡ count_if (not (eqb a b))) × (m ≤ 1) → (n ≡ size_if (not (eqb a b)) w) × (n ≤ 10)
-        → Sizing Walk.Difference ns f s (count + m) (size + n) (p + w) (p + w) (i + 1)
+        → Sizing Walk.Difference ks f s (count + m) (size + n) (p + w) (p + w) (i + 1)
     difference_sized y em en = one_sized y h ew (step refl) refl (differ_swap a b) em en onward
 
     module _ {c : Change} (ec : c ≡ differ a b) {part₀ part : List ℕ} {at n : ℕ}
-        (y : Putting Walk.Difference ns f s part₀ part at p p i) (en : n ≡ span w c) where
+        (y : Putting Walk.Difference ks f s part₀ part at p p i) (en : n ≡ span w c) where
       pub difference_fits : length part₀ < 2 ^ 64 → at + n < 2 ^ 64
       difference_fits k = put_fits y h ew (step ec) en k
 
@@ -91,7 +91,7 @@ module _ {ns f s : List ℕ} {p i : ℕ} (z : Comparing ns f s p i) (h : i < len
       difference_long = put_long y h ew (step ec) en
 
       pub difference_put : {ys : List ℕ} → ys ≡ entry_bytes i w c
-          → Putting Walk.Difference ns f s part₀ (put_mid at (at + n - at) part ys) (at + n) (p + w) (p + w) (i + 1)
+          → Putting Walk.Difference ks f s part₀ (put_mid at (at + n - at) part ys) (at + n) (p + w) (p + w) (i + 1)
       difference_put q = one_put y h ew (step ec) en q onward
 
 -- ---- a join: what each list says of the object
@@ -105,12 +105,12 @@ module _ (l : List ℕ) (p i w : ℕ) {t : Bool} {m : ℕ} (h : p ≤ length l) 
   pub cursor_fits : length l < 2 ^ 64 → p + m < 2 ^ 64
   cursor_fits k = omega (arith, cursor_inside)
 
-module _ {ns f s : List ℕ} {p q i w : ℕ} {one other : Bool} (h : i < length ns)
-    (ew : w ≡ width_of (kind_at (kinds_of ns) i)) (eo : one ≡ names i w (drop p f))
+module _ {ks : List Kind} {f s : List ℕ} {p q i w : ℕ} {one other : Bool} (h : i < length ks)
+    (ew : w ≡ width_of (kind_at ks i)) (eo : one ≡ names i w (drop p f))
     (es : other ≡ names i w (drop q s)) where
-  module _ {count size : ℕ} (z : Sizing Walk.Join ns f s count size p q i) {t : Bool}
+  module _ {count size : ℕ} (z : Sizing Walk.Join ks f s count size p q i) {t : Bool}
       (et : t ≡ meets (said_if one w (drop p f)) (said_if other w (drop q s))) where
-    pub join_until : t ≡ false → Surveyed ns f s (record { misfit = i; size = record { count = count; bytes = size } })
+    pub join_until : t ≡ false → Surveyed ks f s (record { misfit = i; size = record { count = count; bytes = size } })
     join_until b = sized_until z h ew (join_step z.seek.near z.seek.far eo es refl et refl refl) b
 
     pub join_sized : t ≡ true → {kept : Bool}
@@ -118,12 +118,12 @@ module _ {ns f s : List ℕ} {p q i w : ℕ} {one other : Bool} (h : i < length 
         → {m n k l : ℕ} → (m ≡ count_if kept) × (m ≤ 1) → (n ≡ size_if kept w) × (n ≤ 10)
         → (k ≡ size_if one w) × (k ≤ 10)
         → (l ≡ size_if other w) × (l ≤ 10)
-        → {j : ℕ} → AllIdle Walk.Join (i + 1) j (length ns) (drop (p + k) f) (drop (q + l) s)
-        → Sizing Walk.Join ns f s (count + m) (size + n) (p + k) (q + l) j
+        → {j : ℕ} → AllIdle Walk.Join (i + 1) j (length ks) (drop (p + k) f) (drop (q + l) s)
+        → Sizing Walk.Join ks f s (count + m) (size + n) (p + k) (q + l) j
     join_sized b e em en ek el d =
         one_sized z h ew (join_step z.seek.near z.seek.far eo es refl et ek.0 el.0) b e em en d
 
-  module _ {part₀ part : List ℕ} {at n : ℕ} (z : Putting Walk.Join ns f s part₀ part at p q i) {c : Change}
+  module _ {part₀ part : List ℕ} {at n : ℕ} (z : Putting Walk.Join ks f s part₀ part at p q i) {c : Change}
       (ec : c ≡ joined (said_if one w (drop p f)) (said_if other w (drop q s))) (en : n ≡ span w c) where
     joint : Stepped Walk.Join i w f p s q
         (record {
@@ -145,8 +145,8 @@ module _ {ns f s : List ℕ} {p q i w : ℕ} {one other : Bool} (h : i < length 
 
     pub join_put : {ys : List ℕ} → ys ≡ entry_bytes i w c → {k l : ℕ} → (k ≡ size_if one w) × (k ≤ 10)
         → (l ≡ size_if other w) × (l ≤ 10)
-        → {j : ℕ} → AllIdle Walk.Join (i + 1) j (length ns) (drop (p + k) f) (drop (q + l) s)
-        → Putting Walk.Join ns f s part₀ (put_mid at (at + n - at) part ys) (at + n) (p + k) (q + l) j
+        → {j : ℕ} → AllIdle Walk.Join (i + 1) j (length ks) (drop (p + k) f) (drop (q + l) s)
+        → Putting Walk.Join ks f s part₀ (put_mid at (at + n - at) part ys) (at + n) (p + k) (q + l) j
     join_put y ek el d = one_put z h ew (join_step z.near z.far eo es ec refl ek.0 el.0) en y d
 
 -- ---- turning back: what the list says of the object
@@ -160,21 +160,21 @@ alone i (k ∷ ks) f s t = rw (alone (suc i) ks (drop (span (width_of k) (change
 bytes_alone : (ks : List Kind) (f s t : List ℕ) → walk_bytes Walk.Turn 0 ks f s ≡ walk_bytes Walk.Turn 0 ks f t
 bytes_alone ks f s t = ap (entries_bytes 0 ks) (alone 0 ks f s t)
 
-module _ {walk : Walk} (e : walk ≡ Walk.Turn) (ns f s : List ℕ) where
-  pub room_alone : {n : ℕ} → n ≡ length (walk_bytes walk 0 (kinds_of ns) f s)
-      → n ≡ length (walk_bytes Walk.Turn 0 (kinds_of ns) f [])
-  room_alone l = room_as e ns f s l ∙ ap length (bytes_alone (kinds_of ns) f s [])
+module _ {walk : Walk} (e : walk ≡ Walk.Turn) (ks : List Kind) (f s : List ℕ) where
+  pub room_alone : {n : ℕ} → n ≡ length (walk_bytes walk 0 ks f s)
+      → n ≡ length (walk_bytes Walk.Turn 0 ks f [])
+  room_alone l = room_as e ks f s l ∙ ap length (bytes_alone ks f s [])
 
-  pub bytes_turned : {b : List ℕ} → b ≡ walk_bytes Walk.Turn 0 (kinds_of ns) f []
-      → b ≡ walk_bytes walk 0 (kinds_of ns) f s
-  bytes_turned p = bytes_as e ns f s (p ∙ bytes_alone (kinds_of ns) f [] s)
+  pub bytes_turned : {b : List ℕ} → b ≡ walk_bytes Walk.Turn 0 ks f []
+      → b ≡ walk_bytes walk 0 ks f s
+  bytes_turned p = bytes_as e ks f s (p ∙ bytes_alone ks f [] s)
 
 pub said_fits : (l : List ℕ) (p i w : ℕ) {c : Change} {m : ℕ} → p ≤ length l → c ≡ change_at i w (drop p l)
     → (m ≡ span w c) × (m ≤ 10) → length l < 2 ^ 64 → p + m < 2 ^ 64
 said_fits l p i w h ec em k = omega (arith, said_inside l p i w h ec em.0)
 
-module _ {ns f s part₀ part : List ℕ} {at p i w n : ℕ} (z : Putting Walk.Turn ns f s part₀ part at p 0 i)
-    (h : i < length ns) (ew : w ≡ width_of (kind_at (kinds_of ns) i)) {c d : Change} (ec : c ≡ change_at i w (drop p f))
+module _ {ks : List Kind} {f s part₀ part : List ℕ} {at p i w n : ℕ} (z : Putting Walk.Turn ks f s part₀ part at p 0 i)
+    (h : i < length ks) (ew : w ≡ width_of (kind_at ks i)) {c d : Change} (ec : c ≡ change_at i w (drop p f))
     (ed : d ≡ back c) (en : n ≡ span w d) where
   turned : {m : ℕ} → m ≡ span w c
       → Stepped Walk.Turn i w f p s 0 (record { change = d; agrees = true; first = m; second = 0 })
@@ -190,6 +190,6 @@ module _ {ns f s part₀ part : List ℕ} {at p i w n : ℕ} (z : Putting Walk.T
   turn_long = put_long z h ew (turned refl) en
 
   pub turn_put : {ys : List ℕ} → ys ≡ entry_bytes i w d → {m : ℕ} → (m ≡ span w c) × (m ≤ 10) → {j : ℕ}
-      → Silent (i + 1) j (length ns) (drop (p + m) f)
-      → Putting Walk.Turn ns f s part₀ (put_mid at (at + n - at) part ys) (at + n) (p + m) 0 j
+      → Silent (i + 1) j (length ks) (drop (p + m) f)
+      → Putting Walk.Turn ks f s part₀ (put_mid at (at + n - at) part ys) (at + n) (p + m) 0 j
   turn_put y em v = one_put z h ew (turned em.0) en y (idle_turn s v)

@@ -1,6 +1,7 @@
 -- To pass a run of objects at once is to pass them one by one: what each turn keeps, the run keeps.
 -- Assumes nothing.
 use Prim.Native.Nat.{ℕ, zero, suc, ◌+◌, ◌-◌, ◌≤◌, ◌<◌}
+use Rattle.kinds.specs.declared.Kind.{Kind}
 use native.Mathlib.Omega.{arith}
 use native.Mathlib.Nat.{add-zero}
 use native.Mathlib.Numerals.{add-one}
@@ -12,9 +13,7 @@ use Rattle.kinds.specs.Kinds.{width_of}
 use Rattle.history.specs.declared.Change.TheVariants.{Keep as keep}
 use Rattle.history.specs.Table.{kind_at}
 use Rattle.history.specs.Image.{widths}
-use Rattle.tables.specs.Outlines.{kinds_of}
 use Rattle.steps.specs.Steps.{change_at, Silent}
-use Rattle.forms.proofs.KindLaws.{kind_is_lem}
 
 -- ---- where the cursors stay
 
@@ -32,38 +31,36 @@ run g {i} {j} h step =
 
 -- ---- where a place moves by the objects' widths
 
-widths_first : (ns : List ℕ) (i d : ℕ) → i < length ns
-    → widths (kinds_of (take (suc d) (drop i ns)))
-    ≡ width_of (kind_at (kinds_of ns) i) + widths (kinds_of (take d (drop (i + 1) ns)))
-unfolding kinds_of
-widths_first ns i d h = rw (drop-cons ns i 0 h, add-one i, ← kind_is_lem ns i)
+widths_first : (ks : List Kind) (i d : ℕ) → i < length ks
+    → widths (take (suc d) (drop i ks))
+    ≡ width_of (kind_at ks i) + widths (take d (drop (i + 1) ks))
+widths_first ks i d h = rw (drop-cons ks i Kind.Signal h, add-one i)
 
-pass_by : (ns : List ℕ) (g : ℕ → ℕ → Type 0) (d i a : ℕ) → i + d ≤ length ns
-    → ((k b : ℕ) → i ≤ k → k < i + d → g k b → g (k + 1) (b + width_of (kind_at (kinds_of ns) k)))
-    → g i a → g (i + d) (a + widths (kinds_of (take d (drop i ns))))
-unfolding kinds_of
-pass_by ns g zero i a h step z = rw (add-zero i, add-zero a) z
-pass_by ns g (suc d) i a h step z =
-    let w : ℕ = width_of (kind_at (kinds_of ns) i) in
+pass_by : (ks : List Kind) (g : ℕ → ℕ → Type 0) (d i a : ℕ) → i + d ≤ length ks
+    → ((k b : ℕ) → i ≤ k → k < i + d → g k b → g (k + 1) (b + width_of (kind_at ks k)))
+    → g i a → g (i + d) (a + widths (take d (drop i ks)))
+pass_by ks g zero i a h step z = rw (add-zero i, add-zero a) z
+pass_by ks g (suc d) i a h step z =
+    let w : ℕ = width_of (kind_at ks i) in
     let e : i + 1 + d ≡ i + suc d = omega arith in
-    let l : a + w + widths (kinds_of (take d (drop (i + 1) ns))) ≡ a + widths (kinds_of (take (suc d) (drop i ns))) =
-    omega (arith, widths_first ns i d (omega arith)) in
+    let l : a + w + widths (take d (drop (i + 1) ks)) ≡ a + widths (take (suc d) (drop i ks)) =
+    omega (arith, widths_first ks i d (omega arith)) in
     rw (e, l) at
-    (pass_by ns g d (i + 1) (a + w) (omega arith) (λ k b x y. step k b (omega arith) (omega arith))
+    (pass_by ks g d (i + 1) (a + w) (omega arith) (λ k b x y. step k b (omega arith) (omega arith))
     (step i a (omega arith) (omega arith) z))
 
 -- past all objects of which the entries e say nothing
-pub pass : (ns : List ℕ) {e : List ℕ} (g : ℕ → ℕ → Type 0) {i j a m : ℕ} → Silent i j (length ns) e
-    → m ≡ widths (kinds_of (take (j - i) (drop i ns)))
-    → ((k b : ℕ) → k < length ns → change_at k (width_of (kind_at (kinds_of ns) k)) e ≡ keep → g k b
-    → g (k + 1) (b + width_of (kind_at (kinds_of ns) k)))
+pub pass : (ks : List Kind) {e : List ℕ} (g : ℕ → ℕ → Type 0) {i j a m : ℕ} → Silent i j (length ks) e
+    → m ≡ widths (take (j - i) (drop i ks))
+    → ((k b : ℕ) → k < length ks → change_at k (width_of (kind_at ks k)) e ≡ keep → g k b
+    → g (k + 1) (b + width_of (kind_at ks k)))
     → g i a → g j (a + m)
-pass ns g {i} {j} {a} {m} d q step z =
+pass ks g {i} {j} {a} {m} d q step z =
     let l : i + (j - i) ≡ j = omega (arith, d.on) in
     rw (l, ← q)
-    at (pass_by ns g (j - i) i a (omega (arith, d.on, d.within))
+    at (pass_by ks g (j - i) i a (omega (arith, d.on, d.within))
     (λ k b x y. step k b (omega (arith, d.on, d.within)) (d.says k _ x (omega (arith, d.on)))) z)
 
--- a part of at most 1,024 layout numbers has at most 1,024
-pub few_part : (ns : List ℕ) (i m : ℕ) → length ns ≤ 1024 → length (take m (drop i ns)) ≤ 1024
-few_part ns i m h = simp (length-take, length-drop) (omega arith)
+-- a part of at most 1,024 kinds has at most 1,024
+pub few_part : (ks : List Kind) (i m : ℕ) → length ks ≤ 1024 → length (take m (drop i ks)) ≤ 1024
+few_part ks i m h = simp (length-take, length-drop) (omega arith)

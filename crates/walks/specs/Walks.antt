@@ -8,7 +8,6 @@ use Rattle.kinds.specs.declared.Kind.{Kind}
 use Rattle.history.specs.declared.Change.{Change}
 use Rattle.history.specs.Changes.{entries_bytes, entries, fits}
 use Rattle.history.specs.Image.{widths}
-use Rattle.tables.specs.Outlines.{kinds_of}
 use Rattle.steps.specs.declared.Walk.{Walk}
 use Rattle.steps.specs.Steps.{span, change_at, step_of, renewed}
 use Rattle.walks.specs.declared.Survey.{Survey}
@@ -25,15 +24,15 @@ abbrev pub walk_bytes : Walk → ℕ → List Kind → List ℕ → List ℕ →
 walk_bytes walk i ks f s = entries_bytes i ks (walked walk i ks f s)
 
 -- f and s are as long as the objects' elements together, as those of an image are
-pub record ElementsLong (ns f s : List ℕ) : Type 0 where
-  pub first : length f ≡ widths (kinds_of ns)
-  pub second : length s ≡ widths (kinds_of ns)
+pub record ElementsLong (ks : List Kind) (f s : List ℕ) : Type 0 where
+  pub first : length f ≡ widths ks
+  pub second : length s ≡ widths ks
 
 -- what a walk asks of the two forms
-abbrev pub Asked : Walk → List ℕ → List ℕ → List ℕ → Type 0
-Asked Walk.Difference ns f s = ElementsLong ns f s
-Asked Walk.Join ns f s = Unit {0}
-Asked Walk.Turn ns f s = Unit {0}
+abbrev pub Asked : Walk → List Kind → List ℕ → List ℕ → Type 0
+Asked Walk.Difference ks f s = ElementsLong ks f s
+Asked Walk.Join ks f s = Unit {0}
+Asked Walk.Turn ks f s = Unit {0}
 
 -- the count of a walk's entries, and the bytes that they take
 pub record Measured (walk : Walk) (ks : List Kind) (f s : List ℕ) (count size : ℕ) : Type 0 where
@@ -52,10 +51,10 @@ misfit walk i (k ∷ ks) f s =
     i
 
 -- what is found of a join: that object; and the size, if there is none
-pub record Surveyed (ns f s : List ℕ) (r : Survey) : Type 0 where
-  pub found : r.misfit ≡ misfit Walk.Join 0 (kinds_of ns) f s
-  pub inside : r.misfit ≤ length ns
-  pub measured : length ns ≤ r.misfit → Measured Walk.Join (kinds_of ns) f s r.size.count r.size.bytes
+pub record Surveyed (ks : List Kind) (f s : List ℕ) (r : Survey) : Type 0 where
+  pub found : r.misfit ≡ misfit Walk.Join 0 ks f s
+  pub inside : r.misfit ≤ length ks
+  pub measured : length ks ≤ r.misfit → Measured Walk.Join ks f s r.size.count r.size.bytes
 
 -- ---- the elements b under the entries e
 

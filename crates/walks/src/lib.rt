@@ -6,10 +6,10 @@
 
 ghost use Rattle.std.specs.Prelude.{◌≡◌, ◌≤◌, [], length};
 ghost use Rattle.history.specs.Image.{widths};
-ghost use Rattle.tables.specs.Outlines.{kinds_of};
 ghost use Rattle.walks.specs.Walks.{walk_bytes, ElementsLong, Asked, Measured, Surveyed, unfit, renewal};
 
 use steps::Walk;
+use tables::Plan;
 
 // How many entries a list has, and how many bytes they take.
 #[derive(Clone, Copy)]
@@ -29,18 +29,17 @@ pub struct Survey {
 // ---- a list measured
 
 // The size of the list from the elements of one image to those of another.
-pub fn measure_difference(kinds: &[u8], old: &[u8], new: &[u8]) -> Size
-    requires kinds_len_bound { length kinds.now ≤ 1024 }
-    requires elements_long { ElementsLong kinds.now old.now new.now }
-    ensures { Measured Walk.Difference (kinds_of kinds.now) old.now new.now result.count
+pub fn measure_difference(plan: Plan<'_>, old: &[u8], new: &[u8]) -> Size
+    requires elements_long { ElementsLong plan.kinds.now old.now new.now }
+    ensures { Measured Walk.Difference plan.entry.kinds.now old.now new.now result.count
         result.bytes }
 {
     let mut count: usize = 0;
     let mut bytes: usize = 0;
     let mut at: usize = 0;
     let mut i: usize = 0;
-    while i < kinds.len() {
-        let width = steps::width_at(kinds, i);
+    while i < plan.kinds.len() {
+        let width = steps::width_at(plan.kinds, i);
         let before = octets::get_at(old, at, width);
         let after = octets::get_at(new, at, width);
         let differs = before != after;
@@ -53,17 +52,16 @@ pub fn measure_difference(kinds: &[u8], old: &[u8], new: &[u8]) -> Size
 }
 
 // Looks for the lowest misfit of two lists and measures their join, in one pass.
-pub fn measure_join(kinds: &[u8], first: &[u8], second: &[u8]) -> Survey
-    requires { length kinds.now ≤ 1024 }
-    ensures { Surveyed kinds.now first.now second.now result }
+pub fn measure_join(plan: Plan<'_>, first: &[u8], second: &[u8]) -> Survey
+    ensures { Surveyed plan.entry.kinds.now first.now second.now result }
 {
     let mut count: usize = 0;
     let mut bytes: usize = 0;
     let mut near: usize = 0;
     let mut far: usize = 0;
     let mut i: usize = 0;
-    while i < kinds.len() {
-        let width = steps::width_at(kinds, i);
+    while i < plan.kinds.len() {
+        let width = steps::width_at(plan.kinds, i);
         let one = steps::names(first, near, i, width);
         let other = steps::names(second, far, i, width);
         if !steps::meet_at(one, other, width, first, near, second, far) {
@@ -77,7 +75,7 @@ pub fn measure_join(kinds: &[u8], first: &[u8], second: &[u8]) -> Survey
         bytes += steps::size_if(kept, width);
         near += steps::size_if(one, width);
         far += steps::size_if(other, width);
-        i = steps::next(i + 1, kinds.len(), first, near, second, far);
+        i = steps::next(i + 1, plan.kinds.len(), first, near, second, far);
     }
     Survey {
         misfit: i,
@@ -88,33 +86,31 @@ pub fn measure_join(kinds: &[u8], first: &[u8], second: &[u8]) -> Survey
 // ---- a list written
 
 // Fills the part with the entries of the walk's changes.
-pub fn put_changes(part: &mut [u8], walk: Walk, kinds: &[u8], first: &[u8], second: &[u8])
-    requires kinds_len_bound { length kinds.now ≤ 1024 }
-    requires asked { Asked walk kinds.now first.now second.now }
-    requires part_len { length part.old ≡ length (walk_bytes walk 0 (kinds_of kinds.now) first.now second.now) }
+pub fn put_changes(part: &mut [u8], walk: Walk, plan: Plan<'_>, first: &[u8], second: &[u8])
+    requires asked { Asked walk plan.kinds.now first.now second.now }
+    requires part_len { length part.old ≡ length (walk_bytes walk 0 plan.kinds.now first.now second.now) }
     ensures { part.new
-        ≡ walk_bytes walk 0 (kinds_of kinds.now) first.now second.now }
+        ≡ walk_bytes walk 0 plan.entry.kinds.now first.now second.now }
 {
     match walk {
-        Walk::Difference => put_difference(part, kinds, first, second),
-        Walk::Join => put_joined(part, kinds, first, second),
-        Walk::Turn => put_turned(part, kinds, first),
+        Walk::Difference => put_difference(part, plan, first, second),
+        Walk::Join => put_joined(part, plan, first, second),
+        Walk::Turn => put_turned(part, plan, first),
     }
 }
 
 // The entries from the elements of one image to those of another.
-fn put_difference(part: &mut [u8], kinds: &[u8], old: &[u8], new: &[u8])
-    requires kinds_len_bound { length kinds.now ≤ 1024 }
-    requires elements_long { ElementsLong kinds.now old.now new.now }
-    requires part_len { length part.old ≡ length (walk_bytes Walk.Difference 0 (kinds_of kinds.now) old.now new.now) }
+fn put_difference(part: &mut [u8], plan: Plan<'_>, old: &[u8], new: &[u8])
+    requires elements_long { ElementsLong plan.kinds.now old.now new.now }
+    requires part_len { length part.old ≡ length (walk_bytes Walk.Difference 0 plan.kinds.now old.now new.now) }
     ensures { part.new
-        ≡ walk_bytes Walk.Difference 0 (kinds_of kinds.now) old.now new.now }
+        ≡ walk_bytes Walk.Difference 0 plan.entry.kinds.now old.now new.now }
 {
     let mut at: usize = 0;
     let mut place: usize = 0;
     let mut i: usize = 0;
-    while i < kinds.len() {
-        let width = steps::width_at(kinds, i);
+    while i < plan.kinds.len() {
+        let width = steps::width_at(plan.kinds, i);
         let before = octets::get_at(old, place, width);
         let after = octets::get_at(new, place, width);
         let change = steps::differ(before, after);
@@ -127,18 +123,17 @@ fn put_difference(part: &mut [u8], kinds: &[u8], old: &[u8], new: &[u8])
 }
 
 // The entries of the join of two lists.
-fn put_joined(part: &mut [u8], kinds: &[u8], first: &[u8], second: &[u8])
-    requires kinds_len_bound { length kinds.now ≤ 1024 }
-    requires part_len { length part.old ≡ length (walk_bytes Walk.Join 0 (kinds_of kinds.now) first.now second.now) }
+fn put_joined(part: &mut [u8], plan: Plan<'_>, first: &[u8], second: &[u8])
+    requires part_len { length part.old ≡ length (walk_bytes Walk.Join 0 plan.kinds.now first.now second.now) }
     ensures { part.new
-        ≡ walk_bytes Walk.Join 0 (kinds_of kinds.now) first.now second.now }
+        ≡ walk_bytes Walk.Join 0 plan.entry.kinds.now first.now second.now }
 {
     let mut at: usize = 0;
     let mut near: usize = 0;
     let mut far: usize = 0;
     let mut i: usize = 0;
-    while i < kinds.len() {
-        let width = steps::width_at(kinds, i);
+    while i < plan.kinds.len() {
+        let width = steps::width_at(plan.kinds, i);
         let one = steps::names(first, near, i, width);
         let other = steps::names(second, far, i, width);
         let change = steps::join_change(one, other, width, first, near, second, far);
@@ -147,45 +142,43 @@ fn put_joined(part: &mut [u8], kinds: &[u8], first: &[u8], second: &[u8])
         at = end;
         near += steps::size_if(one, width);
         far += steps::size_if(other, width);
-        i = steps::next(i + 1, kinds.len(), first, near, second, far);
+        i = steps::next(i + 1, plan.kinds.len(), first, near, second, far);
     }
 }
 
 // The entries of the list turned back; there is no second form.
-fn put_turned(part: &mut [u8], kinds: &[u8], entries: &[u8])
-    requires kinds_len_bound { length kinds.now ≤ 1024 }
-    requires part_len { length part.old ≡ length (walk_bytes Walk.Turn 0 (kinds_of kinds.now) entries.now []) }
-    ensures { part.new ≡ walk_bytes Walk.Turn 0 (kinds_of kinds.now) entries.now [] }
+fn put_turned(part: &mut [u8], plan: Plan<'_>, entries: &[u8])
+    requires part_len { length part.old ≡ length (walk_bytes Walk.Turn 0 plan.kinds.now entries.now []) }
+    ensures { part.new ≡ walk_bytes Walk.Turn 0 plan.entry.kinds.now entries.now [] }
 {
     let mut at: usize = 0;
     let mut entry_at: usize = 0;
     let mut i: usize = 0;
-    while i < kinds.len() {
-        let width = steps::width_at(kinds, i);
+    while i < plan.kinds.len() {
+        let width = steps::width_at(plan.kinds, i);
         let said = steps::change_at(entries, entry_at, i, width);
         let change = steps::back(said);
         let end = at + steps::span(width, change);
         steps::put_change(&mut part[at..end], i as u32, width, change);
         at = end;
         entry_at += steps::span(width, said);
-        i = steps::first_named(entries, entry_at, i + 1, kinds.len());
+        i = steps::first_named(entries, entry_at, i + 1, plan.kinds.len());
     }
 }
 
 // ---- a list taken into an image
 
 // The lowest object whose element is not its entry's old one, or the count of objects.
-pub fn find_unfit(kinds: &[u8], entries: &[u8], elements: &[u8]) -> usize
-    requires kinds_len_bound { length kinds.now ≤ 1024 }
-    requires elements_len { length elements.now ≡ widths (kinds_of kinds.now) }
-    ensures { (result ≡ unfit 0 (kinds_of kinds.now) entries.now elements.now)
-        × (result ≤ length kinds.now) }
+pub fn find_unfit(plan: Plan<'_>, entries: &[u8], elements: &[u8]) -> usize
+    requires elements_len { length elements.now ≡ widths plan.kinds.now }
+    ensures { (result ≡ unfit 0 plan.entry.kinds.now entries.now elements.now)
+        × (result ≤ length plan.entry.kinds.now) }
 {
     let mut at: usize = 0;
     let mut entry_at: usize = 0;
     let mut i: usize = 0;
-    while i < kinds.len() {
-        let width = steps::width_at(kinds, i);
+    while i < plan.kinds.len() {
+        let width = steps::width_at(plan.kinds, i);
         let end = at + width;
         let change = steps::change_at(entries, entry_at, i, width);
         if !steps::fits(change, octets::get_at(elements, at, width)) {
@@ -193,29 +186,28 @@ pub fn find_unfit(kinds: &[u8], entries: &[u8], elements: &[u8]) -> usize
         }
         entry_at += steps::span(width, change);
         let after = i + 1;
-        i = steps::first_named(entries, entry_at, after, kinds.len());
-        at = end + forms::widths_of(&kinds[after..i]);
+        i = steps::first_named(entries, entry_at, after, plan.kinds.len());
+        at = end + forms::widths_of(&plan.kinds[after..i]);
     }
     i
 }
 
 // Writes each entry's new element over the object's, in place.
-pub fn renew(part: &mut [u8], kinds: &[u8], entries: &[u8])
-    requires kinds_len_bound { length kinds.now ≤ 1024 }
-    requires part_len { length part.old ≡ widths (kinds_of kinds.now) }
-    ensures { part.new ≡ renewal 0 (kinds_of kinds.now) entries.now part.old }
+pub fn renew(part: &mut [u8], plan: Plan<'_>, entries: &[u8])
+    requires part_len { length part.old ≡ widths plan.kinds.now }
+    ensures { part.new ≡ renewal 0 plan.entry.kinds.now entries.now part.old }
 {
     let mut at: usize = 0;
     let mut entry_at: usize = 0;
     let mut i: usize = 0;
-    while i < kinds.len() {
-        let width = steps::width_at(kinds, i);
+    while i < plan.kinds.len() {
+        let width = steps::width_at(plan.kinds, i);
         let end = at + width;
         let change = steps::change_at(entries, entry_at, i, width);
         steps::put_new(&mut part[at..end], change);
         entry_at += steps::span(width, change);
         let after = i + 1;
-        i = steps::first_named(entries, entry_at, after, kinds.len());
-        at = end + forms::widths_of(&kinds[after..i]);
+        i = steps::first_named(entries, entry_at, after, plan.kinds.len());
+        at = end + forms::widths_of(&plan.kinds[after..i]);
     }
 }

@@ -6,7 +6,7 @@ use Rattle.walks.proofs.Application.{Fitting}
 use Rattle.walks.proofs.find_unfit.Given as goal
 
 abbrev pub invariant-loop-i : goal.invariant-loop-i
-invariant-loop-i l = Fitting l.kinds l.entries l.elements l.at l.entry_at l.i
+invariant-loop-i l = Fitting l.plan.kinds.now l.entries l.elements l.at l.entry_at l.i
 
 abbrev pub decreases-loop-i : goal.decreases-loop-i
-decreases-loop-i l = length l.kinds - l.i
+decreases-loop-i l = length l.plan.kinds.now - l.i

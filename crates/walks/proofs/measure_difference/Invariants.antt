@@ -10,7 +10,8 @@ use Rattle.walks.proofs.measure_difference.Given as goal
 
 abbrev pub invariant-loop-i : goal.invariant-loop-i
 invariant-loop-i l =
-    Sizing Walk.Difference l.kinds l.old l.new l.count l.bytes l.at l.at l.i × Comparing l.kinds l.old l.new l.at l.i
+    Sizing Walk.Difference l.plan.kinds.now l.old l.new l.count l.bytes l.at l.at l.i
+    × Comparing l.plan.kinds.now l.old l.new l.at l.i
 
 abbrev pub decreases-loop-i : goal.decreases-loop-i
-decreases-loop-i l = length l.kinds - l.i
+decreases-loop-i l = length l.plan.kinds.now - l.i

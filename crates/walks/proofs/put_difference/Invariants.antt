@@ -10,8 +10,8 @@ use Rattle.walks.proofs.put_difference.Given as goal
 
 abbrev pub invariant-loop-i : goal.invariant-loop-i
 invariant-loop-i l =
-    Putting Walk.Difference l.kinds l.old l.new l.initial.part l.part l.at l.place l.place l.i
-    × Comparing l.kinds l.old l.new l.place l.i
+    Putting Walk.Difference l.plan.kinds.now l.old l.new l.initial.part l.part l.at l.place l.place l.i
+    × Comparing l.plan.kinds.now l.old l.new l.place l.i
 
 abbrev pub decreases-loop-i : goal.decreases-loop-i
-decreases-loop-i l = length l.kinds - l.i
+decreases-loop-i l = length l.plan.kinds.now - l.i

@@ -8,7 +8,7 @@ use Rattle.walks.proofs.Rounds.{Putting}
 use Rattle.walks.proofs.put_joined.Given as goal
 
 abbrev pub invariant-loop-i : goal.invariant-loop-i
-invariant-loop-i l = Putting Walk.Join l.kinds l.first l.second l.initial.part l.part l.at l.near l.far l.i
+invariant-loop-i l = Putting Walk.Join l.plan.kinds.now l.first l.second l.initial.part l.part l.at l.near l.far l.i
 
 abbrev pub decreases-loop-i : goal.decreases-loop-i
-decreases-loop-i l = length l.kinds - l.i
+decreases-loop-i l = length l.plan.kinds.now - l.i

@@ -9,7 +9,7 @@ use Rattle.walks.proofs.Rounds.{Putting}
 use Rattle.walks.proofs.put_turned.Given as goal
 
 abbrev pub invariant-loop-i : goal.invariant-loop-i
-invariant-loop-i l = Putting Walk.Turn l.kinds l.entries [] l.initial.part l.part l.at l.entry_at 0 l.i
+invariant-loop-i l = Putting Walk.Turn l.plan.kinds.now l.entries [] l.initial.part l.part l.at l.entry_at 0 l.i
 
 abbrev pub decreases-loop-i : goal.decreases-loop-i
-decreases-loop-i l = length l.kinds - l.i
+decreases-loop-i l = length l.plan.kinds.now - l.i

@@ -7,7 +7,7 @@ use Rattle.walks.proofs.Application.{Renewing}
 use Rattle.walks.proofs.renew.Given as goal
 
 abbrev pub invariant-loop-i : goal.invariant-loop-i
-invariant-loop-i l = Renewing l.kinds l.entries l.initial.part l.part l.at l.entry_at l.i
+invariant-loop-i l = Renewing l.plan.kinds.now l.entries l.initial.part l.part l.at l.entry_at l.i
 
 abbrev pub decreases-loop-i : goal.decreases-loop-i
-decreases-loop-i l = length l.kinds - l.i
+decreases-loop-i l = length l.plan.kinds.now - l.i

@@ -8,7 +8,7 @@ pub returns-then-out-need : goal.returns-then-out-need
 returns-then-out-need c = search (short_answer, short_output)
 
 pub put_changes-requires : goal.put_changes-requires
-put_changes-requires c = record { kinds_len_bound = search rules; asked = search rules; part_len = search rules }
+put_changes-requires c = record { asked = search rules; part_len = search rules }
 
 pub returns : goal.returns
 returns c = search (list_answer, list_output)
