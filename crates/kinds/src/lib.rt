@@ -300,26 +300,18 @@ pub fn element_of(kind: Kind, values: [u32; 24]) -> Element
     ensures { result ≡ element_of kind values }
 {
     match kind {
-        Kind::Signal => return Element::Signal(Signal::of_values(values)),
-        Kind::ChangerSignal => return Element::ChangerSignal(ChangerSignal::of_values(values)),
-        Kind::VirtualBoard => return Element::VirtualBoard(VirtualBoard::of_values(values)),
-        Kind::LineTrackCircuit => return Element::LineTrackCircuit(LineTrackCircuit::of_values(
-            values,
-        )),
-        Kind::PointsTrackCircuit => return Element::PointsTrackCircuit(
-            PointsTrackCircuit::of_values(values),
-        ),
-        Kind::CrossingTrackCircuit => return Element::CrossingTrackCircuit(
-            CrossingTrackCircuit::of_values(values),
-        ),
-        Kind::DualDetection => return Element::DualDetection(DualDetection::of_values(values)),
-        Kind::Points => return Element::Points(Points::of_values(values)),
-        Kind::ElectricLock => return Element::ElectricLock(ElectricLock::of_values(values)),
-        Kind::GeneralNotices => return Element::GeneralNotices(GeneralNotices::of_values(values)),
-        Kind::ControlBoundary => return Element::ControlBoundary(ControlBoundary::of_values(
-            values,
-        )),
-        Kind::SignalV3 => return Element::SignalV3(SignalV3::of_values(values)),
+        Kind::Signal => return Element::Signal(values.into()),
+        Kind::ChangerSignal => return Element::ChangerSignal(values.into()),
+        Kind::VirtualBoard => return Element::VirtualBoard(values.into()),
+        Kind::LineTrackCircuit => return Element::LineTrackCircuit(values.into()),
+        Kind::PointsTrackCircuit => return Element::PointsTrackCircuit(values.into()),
+        Kind::CrossingTrackCircuit => return Element::CrossingTrackCircuit(values.into()),
+        Kind::DualDetection => return Element::DualDetection(values.into()),
+        Kind::Points => return Element::Points(values.into()),
+        Kind::ElectricLock => return Element::ElectricLock(values.into()),
+        Kind::GeneralNotices => return Element::GeneralNotices(values.into()),
+        Kind::ControlBoundary => return Element::ControlBoundary(values.into()),
+        Kind::SignalV3 => return Element::SignalV3(values.into()),
     }
 }
 
@@ -328,17 +320,17 @@ pub fn values_of(element: Element) -> [u32; 24]
     ensures { result ≡ padded (element_values element) }
 {
     match element {
-        Element::Signal(state) => return state.values(),
-        Element::ChangerSignal(state) => return state.values(),
-        Element::VirtualBoard(state) => return state.values(),
-        Element::LineTrackCircuit(state) => return state.values(),
-        Element::PointsTrackCircuit(state) => return state.values(),
-        Element::CrossingTrackCircuit(state) => return state.values(),
-        Element::DualDetection(state) => return state.values(),
-        Element::Points(state) => return state.values(),
-        Element::ElectricLock(state) => return state.values(),
-        Element::GeneralNotices(state) => return state.values(),
-        Element::ControlBoundary(state) => return state.values(),
-        Element::SignalV3(state) => return state.values(),
+        Element::Signal(state) => return state.into(),
+        Element::ChangerSignal(state) => return state.into(),
+        Element::VirtualBoard(state) => return state.into(),
+        Element::LineTrackCircuit(state) => return state.into(),
+        Element::PointsTrackCircuit(state) => return state.into(),
+        Element::CrossingTrackCircuit(state) => return state.into(),
+        Element::DualDetection(state) => return state.into(),
+        Element::Points(state) => return state.into(),
+        Element::ElectricLock(state) => return state.into(),
+        Element::GeneralNotices(state) => return state.into(),
+        Element::ControlBoundary(state) => return state.into(),
+        Element::SignalV3(state) => return state.into(),
     }
 }
