@@ -415,7 +415,7 @@ use Rattle.rows.proofs.Listed.{listed_from, bit_listed, bit_back, reserved_liste
 
 def kinds_source():
     def match(on, value, arm):
-        return f'    match {on} {{\n' + ''.join(f'        {arm(l)} => return {value(l)},\n' for l in LAYOUTS) + '    }\n}\n'
+        return f'    match {on} {{\n' + ''.join(f'        {arm(l)} => {value(l)},\n' for l in LAYOUTS) + '    }\n}\n'
 
     kind = lambda l: f'Kind::{l.struct}'
     text = f'''// The floor of kinds: the kinds of element, one for each layout, the state of any kind, and every function that has an arm
