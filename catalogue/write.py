@@ -136,7 +136,6 @@ ENUMS = read_enums(LAYOUTS)
 CATALOGUES = read_types(LAYOUTS)
 TOTAL = sum(len(l.rows) for l in LAYOUTS)
 STRUCTS = [l.struct for l in LAYOUTS]
-BITS = sorted({r.place for l in LAYOUTS for r in l.fields if r.bit})
 
 
 def names(words):
@@ -230,9 +229,9 @@ rows_from i (suc n) = row_at i ∷ rows_from (suc i) n
 # ---- cases: an enum for each field wider than one bit
 
 def cases_source():
-    text = f'''// The floor of cases: the named cases of every field wider than one bit. Each enum has `of`, the case of a value, and `number`, the
-// value of a case. Written by catalogue/write.py from catalogue/cases.tsv. It checks nothing: a value without a case is read as the
-// first. Each arm of a match returns, which spares the check a local and a step.
+    text = f'''// The floor of cases: the named cases of every field wider than one bit, in the order of their values from 0 up. From a value comes its
+// case, and from a case its value. Written by catalogue/write.py from catalogue/cases.tsv. It checks nothing: a value without a case is
+// read as the first.
 #![tactic(auto)]
 
 ghost use Rattle.std.specs.Prelude.{{◌≡◌}};
@@ -241,20 +240,21 @@ ghost use Rattle.cases.specs.Cases.{{{by_enum('_of', '_no')}}};
     for e, cases in ENUMS.items():
         text += f'\n#[derive(Clone, Copy)]\npub enum {e} {{\n' + ''.join(f'    {c}, // {m}\n' for c, m in cases) + '}\n'
         text += f'''
-impl {e} {{
-    pub fn of(value: u32) -> {e}
-        ensures {{ result ≡ {snake(e)}_of value }}
-    {{
+impl From<u32> for {e} {{
+    ghost from_gives = {{ λ value case. case ≡ {snake(e)}_of value }};
+
+    fn from(value: u32) -> {e} {{
         match value {{
-{''.join(f"            {i} => return {e}::{c},{chr(10)}" for i, (c, _) in enumerate(cases))}            _ => return {e}::{cases[0][0]},
+{''.join(f"            {i} => {e}::{c},{chr(10)}" for i, (c, _) in enumerate(cases))}            _ => {e}::{cases[0][0]},
         }}
     }}
+}}
 
-    pub fn number(self) -> u32
-        ensures {{ result ≡ {snake(e)}_no self }}
-    {{
-        match self {{
-{''.join(f"            {e}::{c} => return {i},{chr(10)}" for i, (c, _) in enumerate(cases))}        }}
+impl From<{e}> for u32 {{
+    ghost from_gives = {{ λ case value. value ≡ {snake(e)}_no case }};
+
+    fn from(case: {e}) -> u32 {{
+        case as u32
     }}
 }}
 '''
@@ -299,49 +299,13 @@ use Rattle.rows.proofs.Listed.{listed, named}
 
 def states_source():
     text = '''// The floor of states: for each layout a module with its struct of named fields, its width in bytes, its state without data if bit 0
-// is DAT, and the way from a state to its fields' values in the rows' order and back. Written by catalogue/write.py from
-// catalogue/fields.tsv. It checks nothing. The comment beside a field is its mnemonic in the first annex that prints the layout. All
-// bits are read in one place, `bits_of`: the check of a function takes its steps times its locals, and a field copied from there adds
-// to neither.
+// is DAT, and the way from its fields' values in the rows' order to a state and back. Written by catalogue/write.py from
+// catalogue/fields.tsv. It checks nothing. The comment beside a field is its mnemonic in the first annex that prints the layout.
 #![tactic(auto)]
 
 '''
-    text += ''.join(f'mod {snake(s)};\n' for s in sorted(STRUCTS))
-    text += '''
-ghost use Rattle.std.specs.Prelude.{◌≡◌, ◌<◌, eqb, get_or};
-ghost use Rattle.states.specs.States.{bits_of};
-
-'''
-    text += ''.join(f'pub use {snake(s)}::{s};\n' for s in sorted(STRUCTS))
-    return text + f'''
-// The value of the row at a place among its layout's rows.
-fn value(values: [u32; 24], place: usize) -> u32
-    requires {{ place < 24 }}
-    ensures {{ result ≡ get_or values place 0 }}
-{{
-    values[place]
-}}
-
-// Whether that value is 1.
-fn bit(values: [u32; 24], place: usize) -> bool
-    requires {{ place < 24 }}
-    ensures {{ result ≡ eqb (get_or values place 0) 1 }}
-{{
-    values[place] == 1
-}}
-
-// The fields of one bit by their place among the rows, for each place at which some layout has one.
-#[derive(Clone, Copy)]
-struct Bits {{
-{''.join(f"    b{k}: bool,{chr(10)}" for k in BITS)}}}
-
-fn bits_of(values: [u32; 24]) -> Bits
-    ensures {{ result ≡ bits_of values }}
-{{
-    Bits {{
-{''.join(f"        b{k}: bit(values, {k}),{chr(10)}" for k in BITS)}    }}
-}}
-'''
+    text += ''.join(f'mod {snake(s)};\n' for s in sorted(STRUCTS)) + '\n'
+    return text + ''.join(f'pub use {snake(s)}::{s};\n' for s in sorted(STRUCTS))
 
 
 def state_source(l):
@@ -351,7 +315,6 @@ def state_source(l):
 ghost use Rattle.rows.specs.Values.{{padded}};
 ghost use Rattle.states.specs.States.{{{l.key}_of, {l.key}_values}};
 
-use crate::{"{bits_of, value}" if l.named else "bits_of"};
 '''
     text += ''.join(f'use cases::{e};\n' for e in sorted({r.type for r in l.named}))
     text += f'''
@@ -371,16 +334,29 @@ pub struct {l.struct} {{
         {l.struct}::WITHOUT_DATA
     }}
 '''
-    text += f'\n    pub fn of_values(values: [u32; 24]) -> {l.struct}\n        ensures {{ result ≡ {l.key}_of values }}\n    {{\n'
-    text += '        let bits = bits_of(values);\n'
-    text += ''.join(f'        let {r.name} = {r.type}::of(value(values, {r.place}));\n' for r in l.named)
-    text += f'        {l.struct} {{\n'
-    text += ''.join(f'            {r.name}: bits.b{r.place},\n' if r.bit else f'            {r.name},\n' for r in l.fields)
-    text += f'        }}\n    }}\n\n    pub fn values(self) -> [u32; 24]\n        ensures {{ result ≡ padded ({l.key}_values self) }}\n    {{\n'
-    text += ''.join(f'        let {r.name} = self.{r.name};\n' for r in l.named)
-    text += '        [\n'
+    text += f'''}}
+
+impl From<[u32; 24]> for {l.struct} {{
+    ghost from_gives = {{ λ values state. state ≡ {l.key}_of values }};
+
+    fn from(values: [u32; 24]) -> {l.struct} {{
+        {l.struct} {{
+'''
+    for r in l.fields:
+        value = f'values[{r.place}] == 1' if r.bit else f'{r.type}::from(values[{r.place}])'
+        text += f'            {r.name}: {value},\n'
+    text += f'''        }}
+    }}
+}}
+
+impl From<{l.struct}> for [u32; 24] {{
+    ghost from_gives = {{ λ state values. values ≡ padded ({l.key}_values state) }};
+
+    fn from(state: {l.struct}) -> [u32; 24] {{
+        [
+'''
     for r in l.rows:
-        value = '0' if r.reserved else f'self.{r.name} as u32' if r.bit else f'{r.name}.number()'
+        value = '0' if r.reserved else f'state.{r.name} as u32' if r.bit else f'u32::from(state.{r.name})'
         text += f'            {value},\n'
     return text + '            0,\n' * (24 - len(l.rows)) + '        ]\n    }\n}\n'
 
@@ -392,11 +368,8 @@ use Rattle.std.specs.Prelude.{List, [], ◌∷◌, ℕ, get_or, eqb}
 use Rattle.rows.specs.Values.{bit_no}
 '''
     text += f'use Rattle.cases.specs.Cases.{{{by_enum("_of", "_no")}}}\n'
-    text += 'use Rattle.states.specs.declared.Bits.{Bits}\n'
     for s in STRUCTS:
         text += f'use Rattle.states.specs.declared.{snake(s)}.{s}.{{{s}}}\n'
-    text += '\n-- b3 says whether the value at place 3 is 1, and so for each place at which some layout has a field of one bit\nabbrev pub bits_of : List ℕ → Bits\nbits_of vs = record {\n'
-    text += ''.join(f'  b{k} = eqb (get_or vs {k} 0) 1;\n' for k in BITS) + '}\n'
     for l in LAYOUTS:
         text += f'\nabbrev pub {l.key}_of : List ℕ → {l.struct}\n{l.key}_of vs = record {{\n'
         for r in l.fields:
@@ -442,7 +415,7 @@ use Rattle.rows.proofs.Listed.{listed_from, bit_listed, bit_back, reserved_liste
 
 def kinds_source():
     def match(on, value, arm):
-        return f'    match {on} {{\n' + ''.join(f'        {arm(l)} => return {value(l)},\n' for l in LAYOUTS) + '    }\n}\n'
+        return f'    match {on} {{\n' + ''.join(f'        {arm(l)} => {value(l)},\n' for l in LAYOUTS) + '    }\n}\n'
 
     kind = lambda l: f'Kind::{l.struct}'
     text = f'''// The floor of kinds: the kinds of element, one for each layout, the state of any kind, and every function that has an arm
@@ -539,12 +512,12 @@ pub fn kind_in(element: Element) -> Kind
 pub fn element_of(kind: Kind, values: [u32; 24]) -> Element
     ensures { result ≡ element_of kind values }
 {
-''' + match('kind', lambda l: f'Element::{l.struct}({l.struct}::of_values(values))', kind) + '''
+''' + match('kind', lambda l: f'Element::{l.struct}(values.into())', kind) + '''
 // A state's fields' values in the rows' order, padded with zeros.
 pub fn values_of(element: Element) -> [u32; 24]
     ensures { result ≡ padded (element_values element) }
 {
-''' + match('element', lambda l: 'state.values()', lambda l: f'Element::{l.struct}(state)')
+''' + match('element', lambda l: 'state.into()', lambda l: f'Element::{l.struct}(state)')
     return text
 
 

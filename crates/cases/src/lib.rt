@@ -1,6 +1,6 @@
-// The floor of cases: the named cases of every field wider than one bit. Each enum has `of`, the case of a value, and
-// `number`, the value of a case. Written by catalogue/write.py from catalogue/cases.tsv. It checks nothing: a value
-// without a case is read as the first. Each arm of a match returns, which spares the check a local and a step.
+// The floor of cases: the named cases of every field wider than one bit, in the order of their values from 0 up. From a
+// value comes its case, and from a case its value. Written by catalogue/write.py from catalogue/cases.tsv. It checks
+// nothing: a value without a case is read as the first.
 #![tactic(auto)]
 
 ghost use Rattle.std.specs.Prelude.{◌≡◌};
@@ -24,28 +24,25 @@ pub enum SignalKind {
     Low, // Low (ground) signal (prose 'Tipo2')
 }
 
-impl SignalKind {
-    pub fn of(value: u32) -> SignalKind
-        ensures { result ≡ signal_kind_of value }
-    {
+impl From<u32> for SignalKind {
+    ghost from_gives = { λ value case. case ≡ signal_kind_of value };
+
+    fn from(value: u32) -> SignalKind {
         match value {
-            0 => return SignalKind::Unknown,
-            1 => return SignalKind::HighNoWhiteNoBlue,
-            2 => return SignalKind::HighWhiteOrBlue,
-            3 => return SignalKind::Low,
-            _ => return SignalKind::Unknown,
+            0 => SignalKind::Unknown,
+            1 => SignalKind::HighNoWhiteNoBlue,
+            2 => SignalKind::HighWhiteOrBlue,
+            3 => SignalKind::Low,
+            _ => SignalKind::Unknown,
         }
     }
+}
 
-    pub fn number(self) -> u32
-        ensures { result ≡ signal_kind_no self }
-    {
-        match self {
-            SignalKind::Unknown => return 0,
-            SignalKind::HighNoWhiteNoBlue => return 1,
-            SignalKind::HighWhiteOrBlue => return 2,
-            SignalKind::Low => return 3,
-        }
+impl From<SignalKind> for u32 {
+    ghost from_gives = { λ case value. value ≡ signal_kind_no case };
+
+    fn from(case: SignalKind) -> u32 {
+        case as u32
     }
 }
 
@@ -66,46 +63,34 @@ pub enum SignalAspect {
     GreenFlashing, // Green flashing
 }
 
-impl SignalAspect {
-    pub fn of(value: u32) -> SignalAspect
-        ensures { result ≡ signal_aspect_of value }
-    {
+impl From<u32> for SignalAspect {
+    ghost from_gives = { λ value case. case ≡ signal_aspect_of value };
+
+    fn from(value: u32) -> SignalAspect {
         match value {
-            0 => return SignalAspect::Dark,
-            1 => return SignalAspect::Red,
-            2 => return SignalAspect::RedBlue,
-            3 => return SignalAspect::RedBlueFlashing,
-            4 => return SignalAspect::RedWhite,
-            5 => return SignalAspect::RedWhiteFlashing,
-            6 => return SignalAspect::White,
-            7 => return SignalAspect::WhiteFlashing,
-            8 => return SignalAspect::Yellow,
-            9 => return SignalAspect::YellowFlashing,
-            10 => return SignalAspect::GreenYellow,
-            11 => return SignalAspect::Green,
-            12 => return SignalAspect::GreenFlashing,
-            _ => return SignalAspect::Dark,
+            0 => SignalAspect::Dark,
+            1 => SignalAspect::Red,
+            2 => SignalAspect::RedBlue,
+            3 => SignalAspect::RedBlueFlashing,
+            4 => SignalAspect::RedWhite,
+            5 => SignalAspect::RedWhiteFlashing,
+            6 => SignalAspect::White,
+            7 => SignalAspect::WhiteFlashing,
+            8 => SignalAspect::Yellow,
+            9 => SignalAspect::YellowFlashing,
+            10 => SignalAspect::GreenYellow,
+            11 => SignalAspect::Green,
+            12 => SignalAspect::GreenFlashing,
+            _ => SignalAspect::Dark,
         }
     }
+}
 
-    pub fn number(self) -> u32
-        ensures { result ≡ signal_aspect_no self }
-    {
-        match self {
-            SignalAspect::Dark => return 0,
-            SignalAspect::Red => return 1,
-            SignalAspect::RedBlue => return 2,
-            SignalAspect::RedBlueFlashing => return 3,
-            SignalAspect::RedWhite => return 4,
-            SignalAspect::RedWhiteFlashing => return 5,
-            SignalAspect::White => return 6,
-            SignalAspect::WhiteFlashing => return 7,
-            SignalAspect::Yellow => return 8,
-            SignalAspect::YellowFlashing => return 9,
-            SignalAspect::GreenYellow => return 10,
-            SignalAspect::Green => return 11,
-            SignalAspect::GreenFlashing => return 12,
-        }
+impl From<SignalAspect> for u32 {
+    ghost from_gives = { λ case value. value ≡ signal_aspect_no case };
+
+    fn from(case: SignalAspect) -> u32 {
+        case as u32
     }
 }
 
@@ -121,36 +106,29 @@ pub enum MixedGaugeIndication {
     ConventionalOccupancyConflict, // Occupancy incompatible with conventional gauge detected (C flashing red)
 }
 
-impl MixedGaugeIndication {
-    pub fn of(value: u32) -> MixedGaugeIndication
-        ensures { result ≡ mixed_gauge_indication_of value }
-    {
+impl From<u32> for MixedGaugeIndication {
+    ghost from_gives = { λ value case. case ≡ mixed_gauge_indication_of value };
+
+    fn from(value: u32) -> MixedGaugeIndication {
         match value {
-            0 => return MixedGaugeIndication::NoThirdRail,
-            1 => return MixedGaugeIndication::AtRest,
-            2 => return MixedGaugeIndication::UicMovementSet,
-            3 => return MixedGaugeIndication::UicShuntSet,
-            4 => return MixedGaugeIndication::UicOccupancyConflict,
-            5 => return MixedGaugeIndication::ConventionalMovementSet,
-            6 => return MixedGaugeIndication::ConventionalShuntSet,
-            7 => return MixedGaugeIndication::ConventionalOccupancyConflict,
-            _ => return MixedGaugeIndication::NoThirdRail,
+            0 => MixedGaugeIndication::NoThirdRail,
+            1 => MixedGaugeIndication::AtRest,
+            2 => MixedGaugeIndication::UicMovementSet,
+            3 => MixedGaugeIndication::UicShuntSet,
+            4 => MixedGaugeIndication::UicOccupancyConflict,
+            5 => MixedGaugeIndication::ConventionalMovementSet,
+            6 => MixedGaugeIndication::ConventionalShuntSet,
+            7 => MixedGaugeIndication::ConventionalOccupancyConflict,
+            _ => MixedGaugeIndication::NoThirdRail,
         }
     }
+}
 
-    pub fn number(self) -> u32
-        ensures { result ≡ mixed_gauge_indication_no self }
-    {
-        match self {
-            MixedGaugeIndication::NoThirdRail => return 0,
-            MixedGaugeIndication::AtRest => return 1,
-            MixedGaugeIndication::UicMovementSet => return 2,
-            MixedGaugeIndication::UicShuntSet => return 3,
-            MixedGaugeIndication::UicOccupancyConflict => return 4,
-            MixedGaugeIndication::ConventionalMovementSet => return 5,
-            MixedGaugeIndication::ConventionalShuntSet => return 6,
-            MixedGaugeIndication::ConventionalOccupancyConflict => return 7,
-        }
+impl From<MixedGaugeIndication> for u32 {
+    ghost from_gives = { λ case value. value ≡ mixed_gauge_indication_no case };
+
+    fn from(case: MixedGaugeIndication) -> u32 {
+        case as u32
     }
 }
 
@@ -162,28 +140,25 @@ pub enum AutoRouteIndication {
     RedFlashing, // F flashing red
 }
 
-impl AutoRouteIndication {
-    pub fn of(value: u32) -> AutoRouteIndication
-        ensures { result ≡ auto_route_indication_of value }
-    {
+impl From<u32> for AutoRouteIndication {
+    ghost from_gives = { λ value case. case ≡ auto_route_indication_of value };
+
+    fn from(value: u32) -> AutoRouteIndication {
         match value {
-            0 => return AutoRouteIndication::GreenSteady,
-            1 => return AutoRouteIndication::GreenFlashing,
-            2 => return AutoRouteIndication::RedSteady,
-            3 => return AutoRouteIndication::RedFlashing,
-            _ => return AutoRouteIndication::GreenSteady,
+            0 => AutoRouteIndication::GreenSteady,
+            1 => AutoRouteIndication::GreenFlashing,
+            2 => AutoRouteIndication::RedSteady,
+            3 => AutoRouteIndication::RedFlashing,
+            _ => AutoRouteIndication::GreenSteady,
         }
     }
+}
 
-    pub fn number(self) -> u32
-        ensures { result ≡ auto_route_indication_no self }
-    {
-        match self {
-            AutoRouteIndication::GreenSteady => return 0,
-            AutoRouteIndication::GreenFlashing => return 1,
-            AutoRouteIndication::RedSteady => return 2,
-            AutoRouteIndication::RedFlashing => return 3,
-        }
+impl From<AutoRouteIndication> for u32 {
+    ghost from_gives = { λ case value. value ≡ auto_route_indication_no case };
+
+    fn from(case: AutoRouteIndication) -> u32 {
+        case as u32
     }
 }
 
@@ -195,28 +170,25 @@ pub enum ChangerAspect {
     FlashingT, // Letter T, white, flashing
 }
 
-impl ChangerAspect {
-    pub fn of(value: u32) -> ChangerAspect
-        ensures { result ≡ changer_aspect_of value }
-    {
+impl From<u32> for ChangerAspect {
+    ghost from_gives = { λ value case. case ≡ changer_aspect_of value };
+
+    fn from(value: u32) -> ChangerAspect {
         match value {
-            0 => return ChangerAspect::Dark,
-            1 => return ChangerAspect::FixedT,
-            2 => return ChangerAspect::FixedC,
-            3 => return ChangerAspect::FlashingT,
-            _ => return ChangerAspect::Dark,
+            0 => ChangerAspect::Dark,
+            1 => ChangerAspect::FixedT,
+            2 => ChangerAspect::FixedC,
+            3 => ChangerAspect::FlashingT,
+            _ => ChangerAspect::Dark,
         }
     }
+}
 
-    pub fn number(self) -> u32
-        ensures { result ≡ changer_aspect_no self }
-    {
-        match self {
-            ChangerAspect::Dark => return 0,
-            ChangerAspect::FixedT => return 1,
-            ChangerAspect::FixedC => return 2,
-            ChangerAspect::FlashingT => return 3,
-        }
+impl From<ChangerAspect> for u32 {
+    ghost from_gives = { λ case value. value ≡ changer_aspect_no case };
+
+    fn from(case: ChangerAspect) -> u32 {
+        case as u32
     }
 }
 
@@ -227,26 +199,24 @@ pub enum BoardAspect {
     White, // Drawn white
 }
 
-impl BoardAspect {
-    pub fn of(value: u32) -> BoardAspect
-        ensures { result ≡ board_aspect_of value }
-    {
+impl From<u32> for BoardAspect {
+    ghost from_gives = { λ value case. case ≡ board_aspect_of value };
+
+    fn from(value: u32) -> BoardAspect {
         match value {
-            0 => return BoardAspect::Red,
-            1 => return BoardAspect::Blue,
-            2 => return BoardAspect::White,
-            _ => return BoardAspect::Red,
+            0 => BoardAspect::Red,
+            1 => BoardAspect::Blue,
+            2 => BoardAspect::White,
+            _ => BoardAspect::Red,
         }
     }
+}
 
-    pub fn number(self) -> u32
-        ensures { result ≡ board_aspect_no self }
-    {
-        match self {
-            BoardAspect::Red => return 0,
-            BoardAspect::Blue => return 1,
-            BoardAspect::White => return 2,
-        }
+impl From<BoardAspect> for u32 {
+    ghost from_gives = { λ case value. value ≡ board_aspect_no case };
+
+    fn from(case: BoardAspect) -> u32 {
+        case as u32
     }
 }
 
@@ -258,28 +228,25 @@ pub enum SectionOccupancy {
     Occupied, // Occupied (red)
 }
 
-impl SectionOccupancy {
-    pub fn of(value: u32) -> SectionOccupancy
-        ensures { result ≡ section_occupancy_of value }
-    {
+impl From<u32> for SectionOccupancy {
+    ghost from_gives = { λ value case. case ≡ section_occupancy_of value };
+
+    fn from(value: u32) -> SectionOccupancy {
         match value {
-            0 => return SectionOccupancy::ClearIdle,
-            1 => return SectionOccupancy::ClearMovementOrBlockSet,
-            2 => return SectionOccupancy::ClearShuntSet,
-            3 => return SectionOccupancy::Occupied,
-            _ => return SectionOccupancy::ClearIdle,
+            0 => SectionOccupancy::ClearIdle,
+            1 => SectionOccupancy::ClearMovementOrBlockSet,
+            2 => SectionOccupancy::ClearShuntSet,
+            3 => SectionOccupancy::Occupied,
+            _ => SectionOccupancy::ClearIdle,
         }
     }
+}
 
-    pub fn number(self) -> u32
-        ensures { result ≡ section_occupancy_no self }
-    {
-        match self {
-            SectionOccupancy::ClearIdle => return 0,
-            SectionOccupancy::ClearMovementOrBlockSet => return 1,
-            SectionOccupancy::ClearShuntSet => return 2,
-            SectionOccupancy::Occupied => return 3,
-        }
+impl From<SectionOccupancy> for u32 {
+    ghost from_gives = { λ case value. value ≡ section_occupancy_no case };
+
+    fn from(case: SectionOccupancy) -> u32 {
+        case as u32
     }
 }
 
@@ -290,26 +257,24 @@ pub enum Overlap {
     ShuntOverlap, // Overlap of a centralised shunt (blue)
 }
 
-impl Overlap {
-    pub fn of(value: u32) -> Overlap
-        ensures { result ≡ overlap_of value }
-    {
+impl From<u32> for Overlap {
+    ghost from_gives = { λ value case. case ≡ overlap_of value };
+
+    fn from(value: u32) -> Overlap {
         match value {
-            0 => return Overlap::NoOverlap,
-            1 => return Overlap::MovementOverlap,
-            2 => return Overlap::ShuntOverlap,
-            _ => return Overlap::NoOverlap,
+            0 => Overlap::NoOverlap,
+            1 => Overlap::MovementOverlap,
+            2 => Overlap::ShuntOverlap,
+            _ => Overlap::NoOverlap,
         }
     }
+}
 
-    pub fn number(self) -> u32
-        ensures { result ≡ overlap_no self }
-    {
-        match self {
-            Overlap::NoOverlap => return 0,
-            Overlap::MovementOverlap => return 1,
-            Overlap::ShuntOverlap => return 2,
-        }
+impl From<Overlap> for u32 {
+    ghost from_gives = { λ case value. value ≡ overlap_no case };
+
+    fn from(case: Overlap) -> u32 {
+        case as u32
     }
 }
 
@@ -322,30 +287,26 @@ pub enum GaugePresence {
     BothGauges, // Trains of both gauges present (U and C red)
 }
 
-impl GaugePresence {
-    pub fn of(value: u32) -> GaugePresence
-        ensures { result ≡ gauge_presence_of value }
-    {
+impl From<u32> for GaugePresence {
+    ghost from_gives = { λ value case. case ≡ gauge_presence_of value };
+
+    fn from(value: u32) -> GaugePresence {
         match value {
-            0 => return GaugePresence::NotShown,
-            1 => return GaugePresence::NoTrain,
-            2 => return GaugePresence::UicTrain,
-            3 => return GaugePresence::ConventionalTrain,
-            4 => return GaugePresence::BothGauges,
-            _ => return GaugePresence::NotShown,
+            0 => GaugePresence::NotShown,
+            1 => GaugePresence::NoTrain,
+            2 => GaugePresence::UicTrain,
+            3 => GaugePresence::ConventionalTrain,
+            4 => GaugePresence::BothGauges,
+            _ => GaugePresence::NotShown,
         }
     }
+}
 
-    pub fn number(self) -> u32
-        ensures { result ≡ gauge_presence_no self }
-    {
-        match self {
-            GaugePresence::NotShown => return 0,
-            GaugePresence::NoTrain => return 1,
-            GaugePresence::UicTrain => return 2,
-            GaugePresence::ConventionalTrain => return 3,
-            GaugePresence::BothGauges => return 4,
-        }
+impl From<GaugePresence> for u32 {
+    ghost from_gives = { λ case value. value ≡ gauge_presence_no case };
+
+    fn from(case: GaugePresence) -> u32 {
+        case as u32
     }
 }
 
@@ -355,24 +316,23 @@ pub enum PointsSectionOccupancy {
     Occupied, // Occupied
 }
 
-impl PointsSectionOccupancy {
-    pub fn of(value: u32) -> PointsSectionOccupancy
-        ensures { result ≡ points_section_occupancy_of value }
-    {
+impl From<u32> for PointsSectionOccupancy {
+    ghost from_gives = { λ value case. case ≡ points_section_occupancy_of value };
+
+    fn from(value: u32) -> PointsSectionOccupancy {
         match value {
-            0 => return PointsSectionOccupancy::Clear,
-            1 => return PointsSectionOccupancy::Occupied,
-            _ => return PointsSectionOccupancy::Clear,
+            0 => PointsSectionOccupancy::Clear,
+            1 => PointsSectionOccupancy::Occupied,
+            _ => PointsSectionOccupancy::Clear,
         }
     }
+}
 
-    pub fn number(self) -> u32
-        ensures { result ≡ points_section_occupancy_no self }
-    {
-        match self {
-            PointsSectionOccupancy::Clear => return 0,
-            PointsSectionOccupancy::Occupied => return 1,
-        }
+impl From<PointsSectionOccupancy> for u32 {
+    ghost from_gives = { λ case value. value ≡ points_section_occupancy_no case };
+
+    fn from(case: PointsSectionOccupancy) -> u32 {
+        case as u32
     }
 }
 
@@ -384,28 +344,25 @@ pub enum LegOccupancy {
     Occupied, // Occupied (red)
 }
 
-impl LegOccupancy {
-    pub fn of(value: u32) -> LegOccupancy
-        ensures { result ≡ leg_occupancy_of value }
-    {
+impl From<u32> for LegOccupancy {
+    ghost from_gives = { λ value case. case ≡ leg_occupancy_of value };
+
+    fn from(value: u32) -> LegOccupancy {
         match value {
-            0 => return LegOccupancy::ClearIdle,
-            1 => return LegOccupancy::ClearMovementSet,
-            2 => return LegOccupancy::ClearShuntSet,
-            3 => return LegOccupancy::Occupied,
-            _ => return LegOccupancy::ClearIdle,
+            0 => LegOccupancy::ClearIdle,
+            1 => LegOccupancy::ClearMovementSet,
+            2 => LegOccupancy::ClearShuntSet,
+            3 => LegOccupancy::Occupied,
+            _ => LegOccupancy::ClearIdle,
         }
     }
+}
 
-    pub fn number(self) -> u32
-        ensures { result ≡ leg_occupancy_no self }
-    {
-        match self {
-            LegOccupancy::ClearIdle => return 0,
-            LegOccupancy::ClearMovementSet => return 1,
-            LegOccupancy::ClearShuntSet => return 2,
-            LegOccupancy::Occupied => return 3,
-        }
+impl From<LegOccupancy> for u32 {
+    ghost from_gives = { λ case value. value ≡ leg_occupancy_no case };
+
+    fn from(case: LegOccupancy) -> u32 {
+        case as u32
     }
 }
 
@@ -416,26 +373,24 @@ pub enum LegShown {
     ReverseOnly, // Reverse direction only
 }
 
-impl LegShown {
-    pub fn of(value: u32) -> LegShown
-        ensures { result ≡ leg_shown_of value }
-    {
+impl From<u32> for LegShown {
+    ghost from_gives = { λ value case. case ≡ leg_shown_of value };
+
+    fn from(value: u32) -> LegShown {
         match value {
-            0 => return LegShown::NormalAndReverse,
-            1 => return LegShown::NormalOnly,
-            2 => return LegShown::ReverseOnly,
-            _ => return LegShown::NormalAndReverse,
+            0 => LegShown::NormalAndReverse,
+            1 => LegShown::NormalOnly,
+            2 => LegShown::ReverseOnly,
+            _ => LegShown::NormalAndReverse,
         }
     }
+}
 
-    pub fn number(self) -> u32
-        ensures { result ≡ leg_shown_no self }
-    {
-        match self {
-            LegShown::NormalAndReverse => return 0,
-            LegShown::NormalOnly => return 1,
-            LegShown::ReverseOnly => return 2,
-        }
+impl From<LegShown> for u32 {
+    ghost from_gives = { λ case value. value ≡ leg_shown_no case };
+
+    fn from(case: LegShown) -> u32 {
+        case as u32
     }
 }
 
@@ -448,30 +403,26 @@ pub enum PointsDetection {
     DetectedReverse, // Detected reverse
 }
 
-impl PointsDetection {
-    pub fn of(value: u32) -> PointsDetection
-        ensures { result ≡ points_detection_of value }
-    {
+impl From<u32> for PointsDetection {
+    ghost from_gives = { λ value case. case ≡ points_detection_of value };
+
+    fn from(value: u32) -> PointsDetection {
         match value {
-            0 => return PointsDetection::NotDetected,
-            1 => return PointsDetection::CalledNormal,
-            2 => return PointsDetection::CalledReverse,
-            3 => return PointsDetection::DetectedNormal,
-            4 => return PointsDetection::DetectedReverse,
-            _ => return PointsDetection::NotDetected,
+            0 => PointsDetection::NotDetected,
+            1 => PointsDetection::CalledNormal,
+            2 => PointsDetection::CalledReverse,
+            3 => PointsDetection::DetectedNormal,
+            4 => PointsDetection::DetectedReverse,
+            _ => PointsDetection::NotDetected,
         }
     }
+}
 
-    pub fn number(self) -> u32
-        ensures { result ≡ points_detection_no self }
-    {
-        match self {
-            PointsDetection::NotDetected => return 0,
-            PointsDetection::CalledNormal => return 1,
-            PointsDetection::CalledReverse => return 2,
-            PointsDetection::DetectedNormal => return 3,
-            PointsDetection::DetectedReverse => return 4,
-        }
+impl From<PointsDetection> for u32 {
+    ghost from_gives = { λ case value. value ≡ points_detection_no case };
+
+    fn from(case: PointsDetection) -> u32 {
+        case as u32
     }
 }
 
@@ -483,28 +434,25 @@ pub enum PointsLocking {
     ReleasedForMaintenance, // Points authorised for maintenance
 }
 
-impl PointsLocking {
-    pub fn of(value: u32) -> PointsLocking
-        ensures { result ≡ points_locking_of value }
-    {
+impl From<u32> for PointsLocking {
+    ghost from_gives = { λ value case. case ≡ points_locking_of value };
+
+    fn from(value: u32) -> PointsLocking {
         match value {
-            0 => return PointsLocking::Free,
-            1 => return PointsLocking::Locked,
-            2 => return PointsLocking::MovementRequired,
-            3 => return PointsLocking::ReleasedForMaintenance,
-            _ => return PointsLocking::Free,
+            0 => PointsLocking::Free,
+            1 => PointsLocking::Locked,
+            2 => PointsLocking::MovementRequired,
+            3 => PointsLocking::ReleasedForMaintenance,
+            _ => PointsLocking::Free,
         }
     }
+}
 
-    pub fn number(self) -> u32
-        ensures { result ≡ points_locking_no self }
-    {
-        match self {
-            PointsLocking::Free => return 0,
-            PointsLocking::Locked => return 1,
-            PointsLocking::MovementRequired => return 2,
-            PointsLocking::ReleasedForMaintenance => return 3,
-        }
+impl From<PointsLocking> for u32 {
+    ghost from_gives = { λ case value. value ≡ points_locking_no case };
+
+    fn from(case: PointsLocking) -> u32 {
+        case as u32
     }
 }
 
@@ -516,28 +464,25 @@ pub enum HeaterIndication {
     RedFlashing, // CF flashing red
 }
 
-impl HeaterIndication {
-    pub fn of(value: u32) -> HeaterIndication
-        ensures { result ≡ heater_indication_of value }
-    {
+impl From<u32> for HeaterIndication {
+    ghost from_gives = { λ value case. case ≡ heater_indication_of value };
+
+    fn from(value: u32) -> HeaterIndication {
         match value {
-            0 => return HeaterIndication::NotShown,
-            1 => return HeaterIndication::Yellow,
-            2 => return HeaterIndication::Green,
-            3 => return HeaterIndication::RedFlashing,
-            _ => return HeaterIndication::NotShown,
+            0 => HeaterIndication::NotShown,
+            1 => HeaterIndication::Yellow,
+            2 => HeaterIndication::Green,
+            3 => HeaterIndication::RedFlashing,
+            _ => HeaterIndication::NotShown,
         }
     }
+}
 
-    pub fn number(self) -> u32
-        ensures { result ≡ heater_indication_no self }
-    {
-        match self {
-            HeaterIndication::NotShown => return 0,
-            HeaterIndication::Yellow => return 1,
-            HeaterIndication::Green => return 2,
-            HeaterIndication::RedFlashing => return 3,
-        }
+impl From<HeaterIndication> for u32 {
+    ghost from_gives = { λ case value. value ≡ heater_indication_no case };
+
+    fn from(case: HeaterIndication) -> u32 {
+        case as u32
     }
 }
 
@@ -548,26 +493,24 @@ pub enum EarthFaultIndication {
     TestRunning, // DT flashing yellow: earth-fault check of insulated equipment running
 }
 
-impl EarthFaultIndication {
-    pub fn of(value: u32) -> EarthFaultIndication
-        ensures { result ≡ earth_fault_indication_of value }
-    {
+impl From<u32> for EarthFaultIndication {
+    ghost from_gives = { λ value case. case ≡ earth_fault_indication_of value };
+
+    fn from(value: u32) -> EarthFaultIndication {
         match value {
-            0 => return EarthFaultIndication::NotShown,
-            1 => return EarthFaultIndication::EarthFault,
-            2 => return EarthFaultIndication::TestRunning,
-            _ => return EarthFaultIndication::NotShown,
+            0 => EarthFaultIndication::NotShown,
+            1 => EarthFaultIndication::EarthFault,
+            2 => EarthFaultIndication::TestRunning,
+            _ => EarthFaultIndication::NotShown,
         }
     }
+}
 
-    pub fn number(self) -> u32
-        ensures { result ≡ earth_fault_indication_no self }
-    {
-        match self {
-            EarthFaultIndication::NotShown => return 0,
-            EarthFaultIndication::EarthFault => return 1,
-            EarthFaultIndication::TestRunning => return 2,
-        }
+impl From<EarthFaultIndication> for u32 {
+    ghost from_gives = { λ case value. value ≡ earth_fault_indication_no case };
+
+    fn from(case: EarthFaultIndication) -> u32 {
+        case as u32
     }
 }
 
@@ -582,34 +525,28 @@ pub enum BoundaryMovement {
     ShuntSignalOpen, // Centralised shunt called; the continuing signal has opened for the shunt
 }
 
-impl BoundaryMovement {
-    pub fn of(value: u32) -> BoundaryMovement
-        ensures { result ≡ boundary_movement_of value }
-    {
+impl From<u32> for BoundaryMovement {
+    ghost from_gives = { λ value case. case ≡ boundary_movement_of value };
+
+    fn from(value: u32) -> BoundaryMovement {
         match value {
-            0 => return BoundaryMovement::AtRest,
-            1 => return BoundaryMovement::RouteSignalPending,
-            2 => return BoundaryMovement::RouteSignalOpen,
-            3 => return BoundaryMovement::OverrideSignalPending,
-            4 => return BoundaryMovement::OverrideSignalOpen,
-            5 => return BoundaryMovement::ShuntSignalPending,
-            6 => return BoundaryMovement::ShuntSignalOpen,
-            _ => return BoundaryMovement::AtRest,
+            0 => BoundaryMovement::AtRest,
+            1 => BoundaryMovement::RouteSignalPending,
+            2 => BoundaryMovement::RouteSignalOpen,
+            3 => BoundaryMovement::OverrideSignalPending,
+            4 => BoundaryMovement::OverrideSignalOpen,
+            5 => BoundaryMovement::ShuntSignalPending,
+            6 => BoundaryMovement::ShuntSignalOpen,
+            _ => BoundaryMovement::AtRest,
         }
     }
+}
 
-    pub fn number(self) -> u32
-        ensures { result ≡ boundary_movement_no self }
-    {
-        match self {
-            BoundaryMovement::AtRest => return 0,
-            BoundaryMovement::RouteSignalPending => return 1,
-            BoundaryMovement::RouteSignalOpen => return 2,
-            BoundaryMovement::OverrideSignalPending => return 3,
-            BoundaryMovement::OverrideSignalOpen => return 4,
-            BoundaryMovement::ShuntSignalPending => return 5,
-            BoundaryMovement::ShuntSignalOpen => return 6,
-        }
+impl From<BoundaryMovement> for u32 {
+    ghost from_gives = { λ case value. value ≡ boundary_movement_no case };
+
+    fn from(case: BoundaryMovement) -> u32 {
+        case as u32
     }
 }
 
@@ -621,28 +558,25 @@ pub enum AutoRoute {
     RedFlashing, // F flashing red
 }
 
-impl AutoRoute {
-    pub fn of(value: u32) -> AutoRoute
-        ensures { result ≡ auto_route_of value }
-    {
+impl From<u32> for AutoRoute {
+    ghost from_gives = { λ value case. case ≡ auto_route_of value };
+
+    fn from(value: u32) -> AutoRoute {
         match value {
-            0 => return AutoRoute::NotShown,
-            1 => return AutoRoute::GreenSteady,
-            2 => return AutoRoute::GreenFlashing,
-            3 => return AutoRoute::RedFlashing,
-            _ => return AutoRoute::NotShown,
+            0 => AutoRoute::NotShown,
+            1 => AutoRoute::GreenSteady,
+            2 => AutoRoute::GreenFlashing,
+            3 => AutoRoute::RedFlashing,
+            _ => AutoRoute::NotShown,
         }
     }
+}
 
-    pub fn number(self) -> u32
-        ensures { result ≡ auto_route_no self }
-    {
-        match self {
-            AutoRoute::NotShown => return 0,
-            AutoRoute::GreenSteady => return 1,
-            AutoRoute::GreenFlashing => return 2,
-            AutoRoute::RedFlashing => return 3,
-        }
+impl From<AutoRoute> for u32 {
+    ghost from_gives = { λ case value. value ≡ auto_route_no case };
+
+    fn from(case: AutoRoute) -> u32 {
+        case as u32
     }
 }
 
@@ -653,25 +587,23 @@ pub enum RouterIndication {
     AutomaticBlock, // GRP or ARS router, automatic block
 }
 
-impl RouterIndication {
-    pub fn of(value: u32) -> RouterIndication
-        ensures { result ≡ router_indication_of value }
-    {
+impl From<u32> for RouterIndication {
+    ghost from_gives = { λ value case. case ≡ router_indication_of value };
+
+    fn from(value: u32) -> RouterIndication {
         match value {
-            0 => return RouterIndication::NotShown,
-            1 => return RouterIndication::ManualBlock,
-            2 => return RouterIndication::AutomaticBlock,
-            _ => return RouterIndication::NotShown,
+            0 => RouterIndication::NotShown,
+            1 => RouterIndication::ManualBlock,
+            2 => RouterIndication::AutomaticBlock,
+            _ => RouterIndication::NotShown,
         }
     }
+}
 
-    pub fn number(self) -> u32
-        ensures { result ≡ router_indication_no self }
-    {
-        match self {
-            RouterIndication::NotShown => return 0,
-            RouterIndication::ManualBlock => return 1,
-            RouterIndication::AutomaticBlock => return 2,
-        }
+impl From<RouterIndication> for u32 {
+    ghost from_gives = { λ case value. value ≡ router_indication_no case };
+
+    fn from(case: RouterIndication) -> u32 {
+        case as u32
     }
 }

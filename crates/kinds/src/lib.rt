@@ -62,84 +62,84 @@ pub fn layout(kind: Kind) -> Layout
     ensures { result ≡ layout_of kind }
 {
     match kind {
-        Kind::Signal => return Layout {
+        Kind::Signal => Layout {
             number: 1,
             first: 0,
             count: 24,
             bytes: Signal::WIDTH,
             dat: true,
         },
-        Kind::ChangerSignal => return Layout {
+        Kind::ChangerSignal => Layout {
             number: 2,
             first: 24,
             count: 3,
             bytes: ChangerSignal::WIDTH,
             dat: true,
         },
-        Kind::VirtualBoard => return Layout {
+        Kind::VirtualBoard => Layout {
             number: 3,
             first: 27,
             count: 4,
             bytes: VirtualBoard::WIDTH,
             dat: true,
         },
-        Kind::LineTrackCircuit => return Layout {
+        Kind::LineTrackCircuit => Layout {
             number: 4,
             first: 31,
             count: 11,
             bytes: LineTrackCircuit::WIDTH,
             dat: true,
         },
-        Kind::PointsTrackCircuit => return Layout {
+        Kind::PointsTrackCircuit => Layout {
             number: 5,
             first: 42,
             count: 11,
             bytes: PointsTrackCircuit::WIDTH,
             dat: true,
         },
-        Kind::CrossingTrackCircuit => return Layout {
+        Kind::CrossingTrackCircuit => Layout {
             number: 6,
             first: 53,
             count: 12,
             bytes: CrossingTrackCircuit::WIDTH,
             dat: true,
         },
-        Kind::DualDetection => return Layout {
+        Kind::DualDetection => Layout {
             number: 7,
             first: 65,
             count: 7,
             bytes: DualDetection::WIDTH,
             dat: true,
         },
-        Kind::Points => return Layout {
+        Kind::Points => Layout {
             number: 8,
             first: 72,
             count: 13,
             bytes: Points::WIDTH,
             dat: true,
         },
-        Kind::ElectricLock => return Layout {
+        Kind::ElectricLock => Layout {
             number: 9,
             first: 85,
             count: 5,
             bytes: ElectricLock::WIDTH,
             dat: true,
         },
-        Kind::GeneralNotices => return Layout {
+        Kind::GeneralNotices => Layout {
             number: 22,
             first: 90,
             count: 8,
             bytes: GeneralNotices::WIDTH,
             dat: false,
         },
-        Kind::ControlBoundary => return Layout {
+        Kind::ControlBoundary => Layout {
             number: 23,
             first: 98,
             count: 9,
             bytes: ControlBoundary::WIDTH,
             dat: true,
         },
-        Kind::SignalV3 => return Layout {
+        Kind::SignalV3 => Layout {
             number: 31,
             first: 107,
             count: 24,
@@ -154,51 +154,51 @@ fn marks(kind: Kind) -> Marks
     ensures { T (marked result.add result.carry (rows_of kind)) }
 {
     match kind {
-        Kind::Signal => return Marks {
+        Kind::Signal => Marks {
             add: 0x80000038,
             carry: 0x100000110,
         },
-        Kind::ChangerSignal => return Marks {
+        Kind::ChangerSignal => Marks {
             add: 0xf8,
             carry: 0x100,
         },
-        Kind::VirtualBoard => return Marks {
+        Kind::VirtualBoard => Marks {
             add: 0xf2,
             carry: 0x108,
         },
-        Kind::LineTrackCircuit => return Marks {
+        Kind::LineTrackCircuit => Marks {
             add: 0xcc40,
             carry: 0x12100,
         },
-        Kind::PointsTrackCircuit => return Marks {
+        Kind::PointsTrackCircuit => Marks {
             add: 0xcce4,
             carry: 0x12148,
         },
-        Kind::CrossingTrackCircuit => return Marks {
+        Kind::CrossingTrackCircuit => Marks {
             add: 0x8540,
             carry: 0x11500,
         },
-        Kind::DualDetection => return Marks {
+        Kind::DualDetection => Marks {
             add: 0xc0,
             carry: 0x100,
         },
-        Kind::Points => return Marks {
+        Kind::Points => Marks {
             add: 0xf83540,
             carry: 0x1009500,
         },
-        Kind::ElectricLock => return Marks {
+        Kind::ElectricLock => Marks {
             add: 0xf0,
             carry: 0x100,
         },
-        Kind::GeneralNotices => return Marks {
+        Kind::GeneralNotices => Marks {
             add: 0xfe80,
             carry: 0x10200,
         },
-        Kind::ControlBoundary => return Marks {
+        Kind::ControlBoundary => Marks {
             add: 0xf044,
             carry: 0x10220,
         },
-        Kind::SignalV3 => return Marks {
+        Kind::SignalV3 => Marks {
             add: 0x40000030,
             carry: 0x100000100,
         },
@@ -221,18 +221,18 @@ pub fn glance_at(s: &[u8], at: usize, kind: Kind) -> Glance
     ensures { Glanced kind s.now at result }
 {
     match kind {
-        Kind::Signal => return glance_by(s, at, kind, Signal::WIDTH),
-        Kind::ChangerSignal => return glance_by(s, at, kind, ChangerSignal::WIDTH),
-        Kind::VirtualBoard => return glance_by(s, at, kind, VirtualBoard::WIDTH),
-        Kind::LineTrackCircuit => return glance_by(s, at, kind, LineTrackCircuit::WIDTH),
-        Kind::PointsTrackCircuit => return glance_by(s, at, kind, PointsTrackCircuit::WIDTH),
-        Kind::CrossingTrackCircuit => return glance_by(s, at, kind, CrossingTrackCircuit::WIDTH),
-        Kind::DualDetection => return glance_by(s, at, kind, DualDetection::WIDTH),
-        Kind::Points => return glance_by(s, at, kind, Points::WIDTH),
-        Kind::ElectricLock => return glance_by(s, at, kind, ElectricLock::WIDTH),
-        Kind::GeneralNotices => return glance_by(s, at, kind, GeneralNotices::WIDTH),
-        Kind::ControlBoundary => return glance_by(s, at, kind, ControlBoundary::WIDTH),
-        Kind::SignalV3 => return glance_by(s, at, kind, SignalV3::WIDTH),
+        Kind::Signal => glance_by(s, at, kind, Signal::WIDTH),
+        Kind::ChangerSignal => glance_by(s, at, kind, ChangerSignal::WIDTH),
+        Kind::VirtualBoard => glance_by(s, at, kind, VirtualBoard::WIDTH),
+        Kind::LineTrackCircuit => glance_by(s, at, kind, LineTrackCircuit::WIDTH),
+        Kind::PointsTrackCircuit => glance_by(s, at, kind, PointsTrackCircuit::WIDTH),
+        Kind::CrossingTrackCircuit => glance_by(s, at, kind, CrossingTrackCircuit::WIDTH),
+        Kind::DualDetection => glance_by(s, at, kind, DualDetection::WIDTH),
+        Kind::Points => glance_by(s, at, kind, Points::WIDTH),
+        Kind::ElectricLock => glance_by(s, at, kind, ElectricLock::WIDTH),
+        Kind::GeneralNotices => glance_by(s, at, kind, GeneralNotices::WIDTH),
+        Kind::ControlBoundary => glance_by(s, at, kind, ControlBoundary::WIDTH),
+        Kind::SignalV3 => glance_by(s, at, kind, SignalV3::WIDTH),
     }
 }
 
@@ -273,18 +273,18 @@ pub fn kind_in(element: Element) -> Kind
     ensures { result ≡ kind_in element }
 {
     match element {
-        Element::Signal(_) => return Kind::Signal,
-        Element::ChangerSignal(_) => return Kind::ChangerSignal,
-        Element::VirtualBoard(_) => return Kind::VirtualBoard,
-        Element::LineTrackCircuit(_) => return Kind::LineTrackCircuit,
-        Element::PointsTrackCircuit(_) => return Kind::PointsTrackCircuit,
-        Element::CrossingTrackCircuit(_) => return Kind::CrossingTrackCircuit,
-        Element::DualDetection(_) => return Kind::DualDetection,
-        Element::Points(_) => return Kind::Points,
-        Element::ElectricLock(_) => return Kind::ElectricLock,
-        Element::GeneralNotices(_) => return Kind::GeneralNotices,
-        Element::ControlBoundary(_) => return Kind::ControlBoundary,
-        Element::SignalV3(_) => return Kind::SignalV3,
+        Element::Signal(_) => Kind::Signal,
+        Element::ChangerSignal(_) => Kind::ChangerSignal,
+        Element::VirtualBoard(_) => Kind::VirtualBoard,
+        Element::LineTrackCircuit(_) => Kind::LineTrackCircuit,
+        Element::PointsTrackCircuit(_) => Kind::PointsTrackCircuit,
+        Element::CrossingTrackCircuit(_) => Kind::CrossingTrackCircuit,
+        Element::DualDetection(_) => Kind::DualDetection,
+        Element::Points(_) => Kind::Points,
+        Element::ElectricLock(_) => Kind::ElectricLock,
+        Element::GeneralNotices(_) => Kind::GeneralNotices,
+        Element::ControlBoundary(_) => Kind::ControlBoundary,
+        Element::SignalV3(_) => Kind::SignalV3,
     }
 }
 
@@ -293,26 +293,18 @@ pub fn element_of(kind: Kind, values: [u32; 24]) -> Element
     ensures { result ≡ element_of kind values }
 {
     match kind {
-        Kind::Signal => return Element::Signal(Signal::of_values(values)),
-        Kind::ChangerSignal => return Element::ChangerSignal(ChangerSignal::of_values(values)),
-        Kind::VirtualBoard => return Element::VirtualBoard(VirtualBoard::of_values(values)),
-        Kind::LineTrackCircuit => return Element::LineTrackCircuit(LineTrackCircuit::of_values(
-            values,
-        )),
-        Kind::PointsTrackCircuit => return Element::PointsTrackCircuit(
-            PointsTrackCircuit::of_values(values),
-        ),
-        Kind::CrossingTrackCircuit => return Element::CrossingTrackCircuit(
-            CrossingTrackCircuit::of_values(values),
-        ),
-        Kind::DualDetection => return Element::DualDetection(DualDetection::of_values(values)),
-        Kind::Points => return Element::Points(Points::of_values(values)),
-        Kind::ElectricLock => return Element::ElectricLock(ElectricLock::of_values(values)),
-        Kind::GeneralNotices => return Element::GeneralNotices(GeneralNotices::of_values(values)),
-        Kind::ControlBoundary => return Element::ControlBoundary(ControlBoundary::of_values(
-            values,
-        )),
-        Kind::SignalV3 => return Element::SignalV3(SignalV3::of_values(values)),
+        Kind::Signal => Element::Signal(values.into()),
+        Kind::ChangerSignal => Element::ChangerSignal(values.into()),
+        Kind::VirtualBoard => Element::VirtualBoard(values.into()),
+        Kind::LineTrackCircuit => Element::LineTrackCircuit(values.into()),
+        Kind::PointsTrackCircuit => Element::PointsTrackCircuit(values.into()),
+        Kind::CrossingTrackCircuit => Element::CrossingTrackCircuit(values.into()),
+        Kind::DualDetection => Element::DualDetection(values.into()),
+        Kind::Points => Element::Points(values.into()),
+        Kind::ElectricLock => Element::ElectricLock(values.into()),
+        Kind::GeneralNotices => Element::GeneralNotices(values.into()),
+        Kind::ControlBoundary => Element::ControlBoundary(values.into()),
+        Kind::SignalV3 => Element::SignalV3(values.into()),
     }
 }
 
@@ -321,17 +313,17 @@ pub fn values_of(element: Element) -> [u32; 24]
     ensures { result ≡ padded (element_values element) }
 {
     match element {
-        Element::Signal(state) => return state.values(),
-        Element::ChangerSignal(state) => return state.values(),
-        Element::VirtualBoard(state) => return state.values(),
-        Element::LineTrackCircuit(state) => return state.values(),
-        Element::PointsTrackCircuit(state) => return state.values(),
-        Element::CrossingTrackCircuit(state) => return state.values(),
-        Element::DualDetection(state) => return state.values(),
-        Element::Points(state) => return state.values(),
-        Element::ElectricLock(state) => return state.values(),
-        Element::GeneralNotices(state) => return state.values(),
-        Element::ControlBoundary(state) => return state.values(),
-        Element::SignalV3(state) => return state.values(),
+        Element::Signal(state) => state.into(),
+        Element::ChangerSignal(state) => state.into(),
+        Element::VirtualBoard(state) => state.into(),
+        Element::LineTrackCircuit(state) => state.into(),
+        Element::PointsTrackCircuit(state) => state.into(),
+        Element::CrossingTrackCircuit(state) => state.into(),
+        Element::DualDetection(state) => state.into(),
+        Element::Points(state) => state.into(),
+        Element::ElectricLock(state) => state.into(),
+        Element::GeneralNotices(state) => state.into(),
+        Element::ControlBoundary(state) => state.into(),
+        Element::SignalV3(state) => state.into(),
     }
 }

@@ -12,7 +12,6 @@ use Rattle.cases.specs.Cases.{leg_shown_no, points_detection_of, points_detectio
 use Rattle.cases.specs.Cases.{points_locking_no, heater_indication_of, heater_indication_no, earth_fault_indication_of}
 use Rattle.cases.specs.Cases.{earth_fault_indication_no, boundary_movement_of, boundary_movement_no, auto_route_of}
 use Rattle.cases.specs.Cases.{auto_route_no, router_indication_of, router_indication_no}
-use Rattle.states.specs.declared.Bits.{Bits}
 use Rattle.states.specs.declared.signal.Signal.{Signal}
 use Rattle.states.specs.declared.changer_signal.ChangerSignal.{ChangerSignal}
 use Rattle.states.specs.declared.virtual_board.VirtualBoard.{VirtualBoard}
@@ -25,33 +24,6 @@ use Rattle.states.specs.declared.electric_lock.ElectricLock.{ElectricLock}
 use Rattle.states.specs.declared.general_notices.GeneralNotices.{GeneralNotices}
 use Rattle.states.specs.declared.control_boundary.ControlBoundary.{ControlBoundary}
 use Rattle.states.specs.declared.signal_v3.SignalV3.{SignalV3}
-
--- b3 says whether the value at place 3 is 1, and so for each place at which some layout has a field of one bit
-abbrev pub bits_of : List ℕ → Bits
-bits_of vs = record {
-  b0 = eqb (get_or vs 0 0) 1;
-  b1 = eqb (get_or vs 1 0) 1;
-  b2 = eqb (get_or vs 2 0) 1;
-  b3 = eqb (get_or vs 3 0) 1;
-  b4 = eqb (get_or vs 4 0) 1;
-  b5 = eqb (get_or vs 5 0) 1;
-  b6 = eqb (get_or vs 6 0) 1;
-  b7 = eqb (get_or vs 7 0) 1;
-  b8 = eqb (get_or vs 8 0) 1;
-  b9 = eqb (get_or vs 9 0) 1;
-  b10 = eqb (get_or vs 10 0) 1;
-  b11 = eqb (get_or vs 11 0) 1;
-  b12 = eqb (get_or vs 12 0) 1;
-  b13 = eqb (get_or vs 13 0) 1;
-  b14 = eqb (get_or vs 14 0) 1;
-  b15 = eqb (get_or vs 15 0) 1;
-  b16 = eqb (get_or vs 16 0) 1;
-  b17 = eqb (get_or vs 17 0) 1;
-  b18 = eqb (get_or vs 18 0) 1;
-  b19 = eqb (get_or vs 19 0) 1;
-  b20 = eqb (get_or vs 20 0) 1;
-  b21 = eqb (get_or vs 21 0) 1;
-}
 
 abbrev pub signal_of : List ℕ → Signal
 signal_of vs = record {

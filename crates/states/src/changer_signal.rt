@@ -3,7 +3,6 @@ ghost use Rattle.std.specs.Prelude.{◌≡◌, []};
 ghost use Rattle.rows.specs.Values.{padded};
 ghost use Rattle.states.specs.States.{changer_signal_of, changer_signal_values};
 
-use crate::{bits_of, value};
 use cases::ChangerAspect;
 
 #[derive(Clone, Copy)]
@@ -25,25 +24,26 @@ impl ChangerSignal {
     {
         ChangerSignal::WITHOUT_DATA
     }
+}
 
-    pub fn of_values(values: [u32; 24]) -> ChangerSignal
-        ensures { result ≡ changer_signal_of values }
-    {
-        let bits = bits_of(values);
-        let aspect = ChangerAspect::of(value(values, 1));
+impl From<[u32; 24]> for ChangerSignal {
+    ghost from_gives = { λ values state. state ≡ changer_signal_of values };
+
+    fn from(values: [u32; 24]) -> ChangerSignal {
         ChangerSignal {
-            current: bits.b0,
-            aspect,
+            current: values[0] == 1,
+            aspect: ChangerAspect::from(values[1]),
         }
     }
+}
 
-    pub fn values(self) -> [u32; 24]
-        ensures { result ≡ padded (changer_signal_values self) }
-    {
-        let aspect = self.aspect;
+impl From<ChangerSignal> for [u32; 24] {
+    ghost from_gives = { λ state values. values ≡ padded (changer_signal_values state) };
+
+    fn from(state: ChangerSignal) -> [u32; 24] {
         [
-            self.current as u32,
-            aspect.number(),
+            state.current as u32,
+            u32::from(state.aspect),
             0,
             0,
             0,

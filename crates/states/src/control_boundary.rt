@@ -3,7 +3,6 @@ ghost use Rattle.std.specs.Prelude.{◌≡◌, []};
 ghost use Rattle.rows.specs.Values.{padded};
 ghost use Rattle.states.specs.States.{control_boundary_of, control_boundary_values};
 
-use crate::{bits_of, value};
 use cases::BoundaryMovement;
 
 #[derive(Clone, Copy)]
@@ -37,39 +36,38 @@ impl ControlBoundary {
     {
         ControlBoundary::WITHOUT_DATA
     }
+}
 
-    pub fn of_values(values: [u32; 24]) -> ControlBoundary
-        ensures { result ≡ control_boundary_of values }
-    {
-        let bits = bits_of(values);
-        let entry_movement = BoundaryMovement::of(value(values, 2));
-        let exit_movement = BoundaryMovement::of(value(values, 4));
+impl From<[u32; 24]> for ControlBoundary {
+    ghost from_gives = { λ values state. state ≡ control_boundary_of values };
+
+    fn from(values: [u32; 24]) -> ControlBoundary {
         ControlBoundary {
-            current: bits.b0,
-            entry_active: bits.b1,
-            entry_movement,
-            exit_active: bits.b3,
-            exit_movement,
-            inc_inwards: bits.b5,
-            inc_shown: bits.b6,
-            neighbour_object_alarm: bits.b7,
+            current: values[0] == 1,
+            entry_active: values[1] == 1,
+            entry_movement: BoundaryMovement::from(values[2]),
+            exit_active: values[3] == 1,
+            exit_movement: BoundaryMovement::from(values[4]),
+            inc_inwards: values[5] == 1,
+            inc_shown: values[6] == 1,
+            neighbour_object_alarm: values[7] == 1,
         }
     }
+}
 
-    pub fn values(self) -> [u32; 24]
-        ensures { result ≡ padded (control_boundary_values self) }
-    {
-        let entry_movement = self.entry_movement;
-        let exit_movement = self.exit_movement;
+impl From<ControlBoundary> for [u32; 24] {
+    ghost from_gives = { λ state values. values ≡ padded (control_boundary_values state) };
+
+    fn from(state: ControlBoundary) -> [u32; 24] {
         [
-            self.current as u32,
-            self.entry_active as u32,
-            entry_movement.number(),
-            self.exit_active as u32,
-            exit_movement.number(),
-            self.inc_inwards as u32,
-            self.inc_shown as u32,
-            self.neighbour_object_alarm as u32,
+            state.current as u32,
+            state.entry_active as u32,
+            u32::from(state.entry_movement),
+            state.exit_active as u32,
+            u32::from(state.exit_movement),
+            state.inc_inwards as u32,
+            state.inc_shown as u32,
+            state.neighbour_object_alarm as u32,
             0,
             0,
             0,

@@ -3,7 +3,6 @@ ghost use Rattle.std.specs.Prelude.{◌≡◌, []};
 ghost use Rattle.rows.specs.Values.{padded};
 ghost use Rattle.states.specs.States.{crossing_track_circuit_of, crossing_track_circuit_values};
 
-use crate::{bits_of, value};
 use cases::{LegOccupancy, LegShown, Overlap};
 
 #[derive(Clone, Copy)]
@@ -43,49 +42,44 @@ impl CrossingTrackCircuit {
     {
         CrossingTrackCircuit::WITHOUT_DATA
     }
+}
 
-    pub fn of_values(values: [u32; 24]) -> CrossingTrackCircuit
-        ensures { result ≡ crossing_track_circuit_of values }
-    {
-        let bits = bits_of(values);
-        let occupancy = LegOccupancy::of(value(values, 4));
-        let leg_shown = LegShown::of(value(values, 5));
-        let overlap_normal = Overlap::of(value(values, 6));
-        let overlap_reverse = Overlap::of(value(values, 7));
+impl From<[u32; 24]> for CrossingTrackCircuit {
+    ghost from_gives = { λ values state. state ≡ crossing_track_circuit_of values };
+
+    fn from(values: [u32; 24]) -> CrossingTrackCircuit {
         CrossingTrackCircuit {
-            current: bits.b0,
-            special_command_pending: bits.b1,
-            movement_blocked: bits.b2,
-            unexpected_occupancy: bits.b3,
-            occupancy,
-            leg_shown,
-            overlap_normal,
-            overlap_reverse,
-            clearance_lost: bits.b8,
-            axle_counter_fault: bits.b9,
-            axle_counter_preset: bits.b10,
+            current: values[0] == 1,
+            special_command_pending: values[1] == 1,
+            movement_blocked: values[2] == 1,
+            unexpected_occupancy: values[3] == 1,
+            occupancy: LegOccupancy::from(values[4]),
+            leg_shown: LegShown::from(values[5]),
+            overlap_normal: Overlap::from(values[6]),
+            overlap_reverse: Overlap::from(values[7]),
+            clearance_lost: values[8] == 1,
+            axle_counter_fault: values[9] == 1,
+            axle_counter_preset: values[10] == 1,
         }
     }
+}
 
-    pub fn values(self) -> [u32; 24]
-        ensures { result ≡ padded (crossing_track_circuit_values self) }
-    {
-        let occupancy = self.occupancy;
-        let leg_shown = self.leg_shown;
-        let overlap_normal = self.overlap_normal;
-        let overlap_reverse = self.overlap_reverse;
+impl From<CrossingTrackCircuit> for [u32; 24] {
+    ghost from_gives = { λ state values. values ≡ padded (crossing_track_circuit_values state) };
+
+    fn from(state: CrossingTrackCircuit) -> [u32; 24] {
         [
-            self.current as u32,
-            self.special_command_pending as u32,
-            self.movement_blocked as u32,
-            self.unexpected_occupancy as u32,
-            occupancy.number(),
-            leg_shown.number(),
-            overlap_normal.number(),
-            overlap_reverse.number(),
-            self.clearance_lost as u32,
-            self.axle_counter_fault as u32,
-            self.axle_counter_preset as u32,
+            state.current as u32,
+            state.special_command_pending as u32,
+            state.movement_blocked as u32,
+            state.unexpected_occupancy as u32,
+            u32::from(state.occupancy),
+            u32::from(state.leg_shown),
+            u32::from(state.overlap_normal),
+            u32::from(state.overlap_reverse),
+            state.clearance_lost as u32,
+            state.axle_counter_fault as u32,
+            state.axle_counter_preset as u32,
             0,
             0,
             0,

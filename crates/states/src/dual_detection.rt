@@ -3,8 +3,6 @@ ghost use Rattle.std.specs.Prelude.{◌≡◌, []};
 ghost use Rattle.rows.specs.Values.{padded};
 ghost use Rattle.states.specs.States.{dual_detection_of, dual_detection_values};
 
-use crate::bits_of;
-
 #[derive(Clone, Copy)]
 pub struct DualDetection {
     pub current: bool, // DAT
@@ -32,31 +30,34 @@ impl DualDetection {
     {
         DualDetection::WITHOUT_DATA
     }
+}
 
-    pub fn of_values(values: [u32; 24]) -> DualDetection
-        ensures { result ≡ dual_detection_of values }
-    {
-        let bits = bits_of(values);
+impl From<[u32; 24]> for DualDetection {
+    ghost from_gives = { λ values state. state ≡ dual_detection_of values };
+
+    fn from(values: [u32; 24]) -> DualDetection {
         DualDetection {
-            current: bits.b0,
-            special_command_pending: bits.b1,
-            rearm_pending: bits.b2,
-            axle_counters_active: bits.b3,
-            track_circuit_failed: bits.b4,
-            axle_counters_failed: bits.b5,
+            current: values[0] == 1,
+            special_command_pending: values[1] == 1,
+            rearm_pending: values[2] == 1,
+            axle_counters_active: values[3] == 1,
+            track_circuit_failed: values[4] == 1,
+            axle_counters_failed: values[5] == 1,
         }
     }
+}
 
-    pub fn values(self) -> [u32; 24]
-        ensures { result ≡ padded (dual_detection_values self) }
-    {
+impl From<DualDetection> for [u32; 24] {
+    ghost from_gives = { λ state values. values ≡ padded (dual_detection_values state) };
+
+    fn from(state: DualDetection) -> [u32; 24] {
         [
-            self.current as u32,
-            self.special_command_pending as u32,
-            self.rearm_pending as u32,
-            self.axle_counters_active as u32,
-            self.track_circuit_failed as u32,
-            self.axle_counters_failed as u32,
+            state.current as u32,
+            state.special_command_pending as u32,
+            state.rearm_pending as u32,
+            state.axle_counters_active as u32,
+            state.track_circuit_failed as u32,
+            state.axle_counters_failed as u32,
             0,
             0,
             0,

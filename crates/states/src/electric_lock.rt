@@ -3,8 +3,6 @@ ghost use Rattle.std.specs.Prelude.{◌≡◌, []};
 ghost use Rattle.rows.specs.Values.{padded};
 ghost use Rattle.states.specs.States.{electric_lock_of, electric_lock_values};
 
-use crate::bits_of;
-
 #[derive(Clone, Copy)]
 pub struct ElectricLock {
     pub current: bool, // DAT
@@ -28,27 +26,30 @@ impl ElectricLock {
     {
         ElectricLock::WITHOUT_DATA
     }
+}
 
-    pub fn of_values(values: [u32; 24]) -> ElectricLock
-        ensures { result ≡ electric_lock_of values }
-    {
-        let bits = bits_of(values);
+impl From<[u32; 24]> for ElectricLock {
+    ghost from_gives = { λ values state. state ≡ electric_lock_of values };
+
+    fn from(values: [u32; 24]) -> ElectricLock {
         ElectricLock {
-            current: bits.b0,
-            locked: bits.b1,
-            key_detected: bits.b2,
-            release_authorised: bits.b3,
+            current: values[0] == 1,
+            locked: values[1] == 1,
+            key_detected: values[2] == 1,
+            release_authorised: values[3] == 1,
         }
     }
+}
 
-    pub fn values(self) -> [u32; 24]
-        ensures { result ≡ padded (electric_lock_values self) }
-    {
+impl From<ElectricLock> for [u32; 24] {
+    ghost from_gives = { λ state values. values ≡ padded (electric_lock_values state) };
+
+    fn from(state: ElectricLock) -> [u32; 24] {
         [
-            self.current as u32,
-            self.locked as u32,
-            self.key_detected as u32,
-            self.release_authorised as u32,
+            state.current as u32,
+            state.locked as u32,
+            state.key_detected as u32,
+            state.release_authorised as u32,
             0,
             0,
             0,

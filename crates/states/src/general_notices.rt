@@ -3,7 +3,6 @@ ghost use Rattle.std.specs.Prelude.{◌≡◌};
 ghost use Rattle.rows.specs.Values.{padded};
 ghost use Rattle.states.specs.States.{general_notices_of, general_notices_values};
 
-use crate::{bits_of, value};
 use cases::{EarthFaultIndication, HeaterIndication};
 
 #[derive(Clone, Copy)]
@@ -19,37 +18,36 @@ pub struct GeneralNotices {
 
 impl GeneralNotices {
     pub const WIDTH: usize = 2;
+}
 
-    pub fn of_values(values: [u32; 24]) -> GeneralNotices
-        ensures { result ≡ general_notices_of values }
-    {
-        let bits = bits_of(values);
-        let heaters = HeaterIndication::of(value(values, 4));
-        let earth_fault = EarthFaultIndication::of(value(values, 6));
+impl From<[u32; 24]> for GeneralNotices {
+    ghost from_gives = { λ values state. state ≡ general_notices_of values };
+
+    fn from(values: [u32; 24]) -> GeneralNotices {
         GeneralNotices {
-            power_in_order: bits.b0,
-            points_moving: bits.b1,
-            auto_routes_set: bits.b2,
-            points_group_blocked: bits.b3,
-            heaters,
-            station_closed: bits.b5,
-            earth_fault,
+            power_in_order: values[0] == 1,
+            points_moving: values[1] == 1,
+            auto_routes_set: values[2] == 1,
+            points_group_blocked: values[3] == 1,
+            heaters: HeaterIndication::from(values[4]),
+            station_closed: values[5] == 1,
+            earth_fault: EarthFaultIndication::from(values[6]),
         }
     }
+}
 
-    pub fn values(self) -> [u32; 24]
-        ensures { result ≡ padded (general_notices_values self) }
-    {
-        let heaters = self.heaters;
-        let earth_fault = self.earth_fault;
+impl From<GeneralNotices> for [u32; 24] {
+    ghost from_gives = { λ state values. values ≡ padded (general_notices_values state) };
+
+    fn from(state: GeneralNotices) -> [u32; 24] {
         [
-            self.power_in_order as u32,
-            self.points_moving as u32,
-            self.auto_routes_set as u32,
-            self.points_group_blocked as u32,
-            heaters.number(),
-            self.station_closed as u32,
-            earth_fault.number(),
+            state.power_in_order as u32,
+            state.points_moving as u32,
+            state.auto_routes_set as u32,
+            state.points_group_blocked as u32,
+            u32::from(state.heaters),
+            state.station_closed as u32,
+            u32::from(state.earth_fault),
             0,
             0,
             0,

@@ -3,7 +3,6 @@ ghost use Rattle.std.specs.Prelude.{◌≡◌, []};
 ghost use Rattle.rows.specs.Values.{padded};
 ghost use Rattle.states.specs.States.{points_of, points_values};
 
-use crate::{bits_of, value};
 use cases::{LegOccupancy, LegShown, Overlap, PointsDetection, PointsLocking};
 
 #[derive(Clone, Copy)]
@@ -45,55 +44,46 @@ impl Points {
     {
         Points::WITHOUT_DATA
     }
+}
 
-    pub fn of_values(values: [u32; 24]) -> Points
-        ensures { result ≡ points_of values }
-    {
-        let bits = bits_of(values);
-        let occupancy = LegOccupancy::of(value(values, 4));
-        let leg_shown = LegShown::of(value(values, 5));
-        let overlap_normal = Overlap::of(value(values, 6));
-        let overlap_reverse = Overlap::of(value(values, 7));
-        let detection = PointsDetection::of(value(values, 8));
-        let locking = PointsLocking::of(value(values, 10));
+impl From<[u32; 24]> for Points {
+    ghost from_gives = { λ values state. state ≡ points_of values };
+
+    fn from(values: [u32; 24]) -> Points {
         Points {
-            current: bits.b0,
-            special_command_pending: bits.b1,
-            movement_blocked: bits.b2,
-            unexpected_occupancy: bits.b3,
-            occupancy,
-            leg_shown,
-            overlap_normal,
-            overlap_reverse,
-            detection,
-            command_blocked: bits.b9,
-            locking,
-            clearance_lost: bits.b11,
+            current: values[0] == 1,
+            special_command_pending: values[1] == 1,
+            movement_blocked: values[2] == 1,
+            unexpected_occupancy: values[3] == 1,
+            occupancy: LegOccupancy::from(values[4]),
+            leg_shown: LegShown::from(values[5]),
+            overlap_normal: Overlap::from(values[6]),
+            overlap_reverse: Overlap::from(values[7]),
+            detection: PointsDetection::from(values[8]),
+            command_blocked: values[9] == 1,
+            locking: PointsLocking::from(values[10]),
+            clearance_lost: values[11] == 1,
         }
     }
+}
 
-    pub fn values(self) -> [u32; 24]
-        ensures { result ≡ padded (points_values self) }
-    {
-        let occupancy = self.occupancy;
-        let leg_shown = self.leg_shown;
-        let overlap_normal = self.overlap_normal;
-        let overlap_reverse = self.overlap_reverse;
-        let detection = self.detection;
-        let locking = self.locking;
+impl From<Points> for [u32; 24] {
+    ghost from_gives = { λ state values. values ≡ padded (points_values state) };
+
+    fn from(state: Points) -> [u32; 24] {
         [
-            self.current as u32,
-            self.special_command_pending as u32,
-            self.movement_blocked as u32,
-            self.unexpected_occupancy as u32,
-            occupancy.number(),
-            leg_shown.number(),
-            overlap_normal.number(),
-            overlap_reverse.number(),
-            detection.number(),
-            self.command_blocked as u32,
-            locking.number(),
-            self.clearance_lost as u32,
+            state.current as u32,
+            state.special_command_pending as u32,
+            state.movement_blocked as u32,
+            state.unexpected_occupancy as u32,
+            u32::from(state.occupancy),
+            u32::from(state.leg_shown),
+            u32::from(state.overlap_normal),
+            u32::from(state.overlap_reverse),
+            u32::from(state.detection),
+            state.command_blocked as u32,
+            u32::from(state.locking),
+            state.clearance_lost as u32,
             0,
             0,
             0,

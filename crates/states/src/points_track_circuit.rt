@@ -3,7 +3,6 @@ ghost use Rattle.std.specs.Prelude.{◌≡◌, []};
 ghost use Rattle.rows.specs.Values.{padded};
 ghost use Rattle.states.specs.States.{points_track_circuit_of, points_track_circuit_values};
 
-use crate::{bits_of, value};
 use cases::{GaugePresence, PointsSectionOccupancy};
 
 #[derive(Clone, Copy)]
@@ -37,41 +36,40 @@ impl PointsTrackCircuit {
     {
         PointsTrackCircuit::WITHOUT_DATA
     }
+}
 
-    pub fn of_values(values: [u32; 24]) -> PointsTrackCircuit
-        ensures { result ≡ points_track_circuit_of values }
-    {
-        let bits = bits_of(values);
-        let occupancy = PointsSectionOccupancy::of(value(values, 4));
-        let gauge = GaugePresence::of(value(values, 8));
+impl From<[u32; 24]> for PointsTrackCircuit {
+    ghost from_gives = { λ values state. state ≡ points_track_circuit_of values };
+
+    fn from(values: [u32; 24]) -> PointsTrackCircuit {
         PointsTrackCircuit {
-            current: bits.b0,
-            special_command_pending: bits.b1,
-            unexpected_occupancy: bits.b3,
-            occupancy,
-            axle_counter_fault: bits.b6,
-            axle_counter_preset: bits.b7,
-            gauge,
-            sequence_lost: bits.b9,
+            current: values[0] == 1,
+            special_command_pending: values[1] == 1,
+            unexpected_occupancy: values[3] == 1,
+            occupancy: PointsSectionOccupancy::from(values[4]),
+            axle_counter_fault: values[6] == 1,
+            axle_counter_preset: values[7] == 1,
+            gauge: GaugePresence::from(values[8]),
+            sequence_lost: values[9] == 1,
         }
     }
+}
 
-    pub fn values(self) -> [u32; 24]
-        ensures { result ≡ padded (points_track_circuit_values self) }
-    {
-        let occupancy = self.occupancy;
-        let gauge = self.gauge;
+impl From<PointsTrackCircuit> for [u32; 24] {
+    ghost from_gives = { λ state values. values ≡ padded (points_track_circuit_values state) };
+
+    fn from(state: PointsTrackCircuit) -> [u32; 24] {
         [
-            self.current as u32,
-            self.special_command_pending as u32,
+            state.current as u32,
+            state.special_command_pending as u32,
             0,
-            self.unexpected_occupancy as u32,
-            occupancy.number(),
+            state.unexpected_occupancy as u32,
+            u32::from(state.occupancy),
             0,
-            self.axle_counter_fault as u32,
-            self.axle_counter_preset as u32,
-            gauge.number(),
-            self.sequence_lost as u32,
+            state.axle_counter_fault as u32,
+            state.axle_counter_preset as u32,
+            u32::from(state.gauge),
+            state.sequence_lost as u32,
             0,
             0,
             0,

@@ -3,7 +3,6 @@ ghost use Rattle.std.specs.Prelude.{◌≡◌, []};
 ghost use Rattle.rows.specs.Values.{padded};
 ghost use Rattle.states.specs.States.{signal_of, signal_values};
 
-use crate::{bits_of, value};
 use cases::{AutoRouteIndication, MixedGaugeIndication, SignalAspect, SignalKind};
 
 #[derive(Clone, Copy)]
@@ -67,73 +66,68 @@ impl Signal {
     {
         Signal::WITHOUT_DATA
     }
+}
 
-    pub fn of_values(values: [u32; 24]) -> Signal
-        ensures { result ≡ signal_of values }
-    {
-        let bits = bits_of(values);
-        let kind = SignalKind::of(value(values, 1));
-        let aspect = SignalAspect::of(value(values, 2));
-        let mixed_gauge = MixedGaugeIndication::of(value(values, 19));
-        let auto_route_indication = AutoRouteIndication::of(value(values, 22));
+impl From<[u32; 24]> for Signal {
+    ghost from_gives = { λ values state. state ≡ signal_of values };
+
+    fn from(values: [u32; 24]) -> Signal {
         Signal {
-            current: bits.b0,
-            kind,
-            aspect,
-            red_fitted: bits.b3,
-            red_blown: bits.b4,
-            white_fitted: bits.b5,
-            white_blown: bits.b6,
-            vertical_white_fitted: bits.b7,
-            vertical_white_blown: bits.b8,
-            horizontal_white_fitted: bits.b9,
-            horizontal_white_blown: bits.b10,
-            blue_fitted: bits.b11,
-            blue_blown: bits.b12,
-            yellow_fitted: bits.b13,
-            yellow_blown: bits.b14,
-            green_fitted: bits.b15,
-            green_blown: bits.b16,
-            special_command_pending: bits.b17,
-            command_blocked: bits.b18,
-            mixed_gauge,
-            automatic_succession: bits.b20,
-            auto_route_set: bits.b21,
-            auto_route_indication,
+            current: values[0] == 1,
+            kind: SignalKind::from(values[1]),
+            aspect: SignalAspect::from(values[2]),
+            red_fitted: values[3] == 1,
+            red_blown: values[4] == 1,
+            white_fitted: values[5] == 1,
+            white_blown: values[6] == 1,
+            vertical_white_fitted: values[7] == 1,
+            vertical_white_blown: values[8] == 1,
+            horizontal_white_fitted: values[9] == 1,
+            horizontal_white_blown: values[10] == 1,
+            blue_fitted: values[11] == 1,
+            blue_blown: values[12] == 1,
+            yellow_fitted: values[13] == 1,
+            yellow_blown: values[14] == 1,
+            green_fitted: values[15] == 1,
+            green_blown: values[16] == 1,
+            special_command_pending: values[17] == 1,
+            command_blocked: values[18] == 1,
+            mixed_gauge: MixedGaugeIndication::from(values[19]),
+            automatic_succession: values[20] == 1,
+            auto_route_set: values[21] == 1,
+            auto_route_indication: AutoRouteIndication::from(values[22]),
         }
     }
+}
 
-    pub fn values(self) -> [u32; 24]
-        ensures { result ≡ padded (signal_values self) }
-    {
-        let kind = self.kind;
-        let aspect = self.aspect;
-        let mixed_gauge = self.mixed_gauge;
-        let auto_route_indication = self.auto_route_indication;
+impl From<Signal> for [u32; 24] {
+    ghost from_gives = { λ state values. values ≡ padded (signal_values state) };
+
+    fn from(state: Signal) -> [u32; 24] {
         [
-            self.current as u32,
-            kind.number(),
-            aspect.number(),
-            self.red_fitted as u32,
-            self.red_blown as u32,
-            self.white_fitted as u32,
-            self.white_blown as u32,
-            self.vertical_white_fitted as u32,
-            self.vertical_white_blown as u32,
-            self.horizontal_white_fitted as u32,
-            self.horizontal_white_blown as u32,
-            self.blue_fitted as u32,
-            self.blue_blown as u32,
-            self.yellow_fitted as u32,
-            self.yellow_blown as u32,
-            self.green_fitted as u32,
-            self.green_blown as u32,
-            self.special_command_pending as u32,
-            self.command_blocked as u32,
-            mixed_gauge.number(),
-            self.automatic_succession as u32,
-            self.auto_route_set as u32,
-            auto_route_indication.number(),
+            state.current as u32,
+            u32::from(state.kind),
+            u32::from(state.aspect),
+            state.red_fitted as u32,
+            state.red_blown as u32,
+            state.white_fitted as u32,
+            state.white_blown as u32,
+            state.vertical_white_fitted as u32,
+            state.vertical_white_blown as u32,
+            state.horizontal_white_fitted as u32,
+            state.horizontal_white_blown as u32,
+            state.blue_fitted as u32,
+            state.blue_blown as u32,
+            state.yellow_fitted as u32,
+            state.yellow_blown as u32,
+            state.green_fitted as u32,
+            state.green_blown as u32,
+            state.special_command_pending as u32,
+            state.command_blocked as u32,
+            u32::from(state.mixed_gauge),
+            state.automatic_succession as u32,
+            state.auto_route_set as u32,
+            u32::from(state.auto_route_indication),
             0,
         ]
     }

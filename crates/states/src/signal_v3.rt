@@ -3,7 +3,6 @@ ghost use Rattle.std.specs.Prelude.{◌≡◌, []};
 ghost use Rattle.rows.specs.Values.{padded};
 ghost use Rattle.states.specs.States.{signal_v3_of, signal_v3_values};
 
-use crate::{bits_of, value};
 use cases::{AutoRoute, MixedGaugeIndication, RouterIndication, SignalAspect, SignalKind};
 
 #[derive(Clone, Copy)]
@@ -69,77 +68,70 @@ impl SignalV3 {
     {
         SignalV3::WITHOUT_DATA
     }
+}
 
-    pub fn of_values(values: [u32; 24]) -> SignalV3
-        ensures { result ≡ signal_v3_of values }
-    {
-        let bits = bits_of(values);
-        let kind = SignalKind::of(value(values, 1));
-        let aspect = SignalAspect::of(value(values, 3));
-        let mixed_gauge = MixedGaugeIndication::of(value(values, 20));
-        let auto_route = AutoRoute::of(value(values, 22));
-        let router = RouterIndication::of(value(values, 23));
+impl From<[u32; 24]> for SignalV3 {
+    ghost from_gives = { λ values state. state ≡ signal_v3_of values };
+
+    fn from(values: [u32; 24]) -> SignalV3 {
         SignalV3 {
-            current: bits.b0,
-            kind,
-            high_speed_auto_route: bits.b2,
-            aspect,
-            red_fitted: bits.b4,
-            red_blown: bits.b5,
-            white_fitted: bits.b6,
-            white_blown: bits.b7,
-            vertical_white_fitted: bits.b8,
-            vertical_white_blown: bits.b9,
-            horizontal_white_fitted: bits.b10,
-            horizontal_white_blown: bits.b11,
-            blue_fitted: bits.b12,
-            blue_blown: bits.b13,
-            yellow_fitted: bits.b14,
-            yellow_blown: bits.b15,
-            green_fitted: bits.b16,
-            green_blown: bits.b17,
-            special_command_pending: bits.b18,
-            command_blocked: bits.b19,
-            mixed_gauge,
-            automatic_succession: bits.b21,
-            auto_route,
-            router,
+            current: values[0] == 1,
+            kind: SignalKind::from(values[1]),
+            high_speed_auto_route: values[2] == 1,
+            aspect: SignalAspect::from(values[3]),
+            red_fitted: values[4] == 1,
+            red_blown: values[5] == 1,
+            white_fitted: values[6] == 1,
+            white_blown: values[7] == 1,
+            vertical_white_fitted: values[8] == 1,
+            vertical_white_blown: values[9] == 1,
+            horizontal_white_fitted: values[10] == 1,
+            horizontal_white_blown: values[11] == 1,
+            blue_fitted: values[12] == 1,
+            blue_blown: values[13] == 1,
+            yellow_fitted: values[14] == 1,
+            yellow_blown: values[15] == 1,
+            green_fitted: values[16] == 1,
+            green_blown: values[17] == 1,
+            special_command_pending: values[18] == 1,
+            command_blocked: values[19] == 1,
+            mixed_gauge: MixedGaugeIndication::from(values[20]),
+            automatic_succession: values[21] == 1,
+            auto_route: AutoRoute::from(values[22]),
+            router: RouterIndication::from(values[23]),
         }
     }
+}
 
-    pub fn values(self) -> [u32; 24]
-        ensures { result ≡ padded (signal_v3_values self) }
-    {
-        let kind = self.kind;
-        let aspect = self.aspect;
-        let mixed_gauge = self.mixed_gauge;
-        let auto_route = self.auto_route;
-        let router = self.router;
+impl From<SignalV3> for [u32; 24] {
+    ghost from_gives = { λ state values. values ≡ padded (signal_v3_values state) };
+
+    fn from(state: SignalV3) -> [u32; 24] {
         [
-            self.current as u32,
-            kind.number(),
-            self.high_speed_auto_route as u32,
-            aspect.number(),
-            self.red_fitted as u32,
-            self.red_blown as u32,
-            self.white_fitted as u32,
-            self.white_blown as u32,
-            self.vertical_white_fitted as u32,
-            self.vertical_white_blown as u32,
-            self.horizontal_white_fitted as u32,
-            self.horizontal_white_blown as u32,
-            self.blue_fitted as u32,
-            self.blue_blown as u32,
-            self.yellow_fitted as u32,
-            self.yellow_blown as u32,
-            self.green_fitted as u32,
-            self.green_blown as u32,
-            self.special_command_pending as u32,
-            self.command_blocked as u32,
-            mixed_gauge.number(),
-            self.automatic_succession as u32,
-            auto_route.number(),
-            router.number(),
+            state.current as u32,
+            u32::from(state.kind),
+            state.high_speed_auto_route as u32,
+            u32::from(state.aspect),
+            state.red_fitted as u32,
+            state.red_blown as u32,
+            state.white_fitted as u32,
+            state.white_blown as u32,
+            state.vertical_white_fitted as u32,
+            state.vertical_white_blown as u32,
+            state.horizontal_white_fitted as u32,
+            state.horizontal_white_blown as u32,
+            state.blue_fitted as u32,
+            state.blue_blown as u32,
+            state.yellow_fitted as u32,
+            state.yellow_blown as u32,
+            state.green_fitted as u32,
+            state.green_blown as u32,
+            state.special_command_pending as u32,
+            state.command_blocked as u32,
+            u32::from(state.mixed_gauge),
+            state.automatic_succession as u32,
+            u32::from(state.auto_route),
+            u32::from(state.router),
         ]
     }
 }

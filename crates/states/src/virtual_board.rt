@@ -3,7 +3,6 @@ ghost use Rattle.std.specs.Prelude.{◌≡◌, []};
 ghost use Rattle.rows.specs.Values.{padded};
 ghost use Rattle.states.specs.States.{virtual_board_of, virtual_board_values};
 
-use crate::{bits_of, value};
 use cases::BoardAspect;
 
 #[derive(Clone, Copy)]
@@ -27,27 +26,28 @@ impl VirtualBoard {
     {
         VirtualBoard::WITHOUT_DATA
     }
+}
 
-    pub fn of_values(values: [u32; 24]) -> VirtualBoard
-        ensures { result ≡ virtual_board_of values }
-    {
-        let bits = bits_of(values);
-        let aspect = BoardAspect::of(value(values, 1));
+impl From<[u32; 24]> for VirtualBoard {
+    ghost from_gives = { λ values state. state ≡ virtual_board_of values };
+
+    fn from(values: [u32; 24]) -> VirtualBoard {
         VirtualBoard {
-            current: bits.b0,
-            aspect,
-            closing_commanded: bits.b2,
+            current: values[0] == 1,
+            aspect: BoardAspect::from(values[1]),
+            closing_commanded: values[2] == 1,
         }
     }
+}
 
-    pub fn values(self) -> [u32; 24]
-        ensures { result ≡ padded (virtual_board_values self) }
-    {
-        let aspect = self.aspect;
+impl From<VirtualBoard> for [u32; 24] {
+    ghost from_gives = { λ state values. values ≡ padded (virtual_board_values state) };
+
+    fn from(state: VirtualBoard) -> [u32; 24] {
         [
-            self.current as u32,
-            aspect.number(),
-            self.closing_commanded as u32,
+            state.current as u32,
+            u32::from(state.aspect),
+            state.closing_commanded as u32,
             0,
             0,
             0,
