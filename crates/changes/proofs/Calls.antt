@@ -1,6 +1,7 @@
 -- The four calls, form by form: the first that is refused decides.
 -- Assumes nothing.
 use Prim.Native.Nat.{ℕ}
+use Rattle.kinds.specs.declared.Kind.{Kind}
 use mathlib.Core.Path.{◌≡◌, refl, ap, ◌∙◌}
 use mathlib.Core.List.{List}
 use lib.ListN.{take}
@@ -13,7 +14,7 @@ use Rattle.history.specs.Calls.{difference_under, difference_call, apply_under, 
 use Rattle.history.specs.Calls.{turn_under, turn_call}
 use Rattle.history.proofs.OutputLaws.{first_leaves}
 use Rattle.tables.specs.declared.answers.Outline.{Outline}
-use Rattle.tables.specs.Outlines.{plan_as, Outlined}
+use Rattle.tables.specs.Outlines.{plan_with, Outlined}
 use Rattle.tables.proofs.AnswerLaws.{told_first}
 use Rattle.forms.proofs.UnderPlan.{Starts, under_plan}
 use Rattle.changes.proofs.Outcomes.{stays}
@@ -39,19 +40,19 @@ turn_starts T L = record { is = refl }
 
 -- ---- under an accepted table the call depends on its plan
 
-module _ {T : List ℕ} {o : Outline} (k : Outlined T o) (good : o.answer.code ≡ 0) {ns : List ℕ}
+module _ {T : List ℕ} {o : Outline} (k : Outlined T o) (good : o.answer.code ≡ 0) {ns : List Kind}
     (n : ns ≡ take o.count o.kinds) where
   module _ (A B : List ℕ) where
-    pub difference_goes : difference_under (plan_as o.x o.y ns) A B ≡ difference_call T A B
+    pub difference_goes : difference_under (plan_with o.x o.y ns) A B ≡ difference_call T A B
     difference_goes = under_plan k good n (difference_starts T A B)
 
-    pub apply_goes : apply_under (plan_as o.x o.y ns) A B ≡ apply_call T A B
+    pub apply_goes : apply_under (plan_with o.x o.y ns) A B ≡ apply_call T A B
     apply_goes = under_plan k good n (apply_starts T A B)
 
-    pub join_goes : join_under (plan_as o.x o.y ns) A B ≡ join_call T A B
+    pub join_goes : join_under (plan_with o.x o.y ns) A B ≡ join_call T A B
     join_goes = under_plan k good n (join_starts T A B)
 
-  pub turn_goes : (L : List ℕ) → turn_under (plan_as o.x o.y ns) L ≡ turn_call T L
+  pub turn_goes : (L : List ℕ) → turn_under (plan_with o.x o.y ns) L ≡ turn_call T L
   turn_goes L = under_plan k good n (turn_starts T L)
 
 -- ---- then the other forms, in the order given
