@@ -10,22 +10,19 @@ use lib.Dec.{eqb, leb}
 use lib.ListN.{length}
 use borrow.Author.Tests.{eq-eqb, ne_eqb, le-leb, lt-leb}
 use Rattle.history.specs.declared.Answer.{Answer}
-use Rattle.history.specs.Verdict.{Verdict, refused, done, then, value_or, refusal, refusal_at, unnamed, told}
+use Rattle.history.specs.Verdict.{Refused, Verdict, refused, done, then, value_or, refusal, refusal_at, given, checked, numbers}
+use Rattle.std.specs.Prelude.{Ok, Err}
 use Rattle.history.specs.Image.{Image, widths, words_bytes, image_bytes, AcceptedImage}
 use Rattle.history.specs.Changes.{list_bytes, AcceptedList, after, result_of, joint_of, difference, applied, join}
 use Rattle.history.specs.Changes.{turned}
 use Rattle.history.specs.Calls.{difference_under, apply_under, join_under, turn_under}
-use Rattle.history.proofs.CodeLaws.{Coded, applied_coded, zero_told}
 use Rattle.history.proofs.ImageLaws.{length_words}
 use Rattle.history.proofs.OperationLaws.{takes}
-use Rattle.tables.proofs.AnswerLaws.{told_done, told_then}
 use Rattle.steps.specs.declared.Walk.{Walk}
 use Rattle.tables.specs.Plans.{plan_with}
-use Rattle.walks.specs.declared.Survey.{Survey}
-use Rattle.walks.specs.Walks.{Measured, Surveyed, misfit, unfit, renewal}
+use Rattle.walks.specs.Walks.{Measured, misfit, unfit, renewal}
 use Rattle.walks.proofs.Bridges.{difference_walk, join_walk, turn_walk, turn_measured, join_misfit, apply_unfit}
 use Rattle.walks.proofs.Bridges.{found_at, renewal_is}
-use Rattle.forms.proofs.KindLaws.{length_kinds}
 use Rattle.walks.proofs.Application.{length_renewal}
 use Rattle.heads.specs.Heads.{image_head, position_in, elements_in, from_in, to_in, entry_count_in, entries_in}
 use Rattle.heads.proofs.Parts.{position_in_lem, elements_in_lem, image_length, elements_length, from_in_lem, to_in_lem}
@@ -33,17 +30,21 @@ use Rattle.heads.proofs.Parts.{count_in_lem, entries_in_lem}
 use Rattle.heads.proofs.WrittenLaws.{image_again}
 use Rattle.outputs.specs.Outputs.{walk_list, image_after}
 
--- an answer of code 0 means that there was a value
-used_told : {A B : Type 0} (v : Verdict A) (f : A → B) → Coded v → {r : Answer} → r ≡ told (then v (λ a. done (f a)))
-    → r.code ≡ 0 → (a : A) × (v ≡ done a)
-used_told v f c e z = zero_told v c (ap (λ (r : Answer). r.code) (sym (told_then v f) ∙ sym e) ∙ z)
+-- a check that refuses
+pub refuses : {A : Type 0} (v : Verdict A) {x : Refused} {a : Answer} → v ≡ refused x → a ≡ numbers x 0
+    → Err a ≡ checked v
+refuses v e q = rw (e, q) refl
 
--- where the answer refuses, what there was before stays
-pub stays : {A : Type 0} (v : Verdict A) (before : A) {r : Answer} → r ≡ told v → (r.code ≡ 0 → ⊥)
+-- `Ok` means that there was a value
+used : {A B : Type 0} (v : Verdict A) (f : A → B) → Ok tt ≡ checked (then v (λ a. done (f a))) → (a : A) × (v ≡ done a)
+used (refused r) f e = absurd (let z : ◌≡◌ {A = ℕ} 0 1 = cc in omega arith)
+used (done a) f e = (a, refl)
+
+-- where a check refuses, what there was before stays
+pub stays : {A B : Type 0} (v : Verdict A) (before : A) (g : A → B) {a : Answer} → Err a ≡ given g v
     → before ≡ value_or before v
-unfolding told
-stays (refused x) before e bad = refl
-stays (done a) before e bad = absurd (bad (ap (λ (r : Answer). r.code) e))
+stays (refused x) before g e = refl
+stays (done b) before g e = absurd (let z : ◌≡◌ {A = ℕ} 0 1 = cc in omega arith)
 
 -- how long an accepted image is, from the layout numbers that the code has
 module _ {x y : ℕ} (ns : List Kind) {A : List ℕ} (a : AcceptedImage (plan_with x y ns) A) where
@@ -55,7 +56,7 @@ module _ {x y : ℕ} (ns : List Kind) {A : List ℕ} (a : AcceptedImage (plan_wi
 
 module _ (x y : ℕ) (ns : List Kind) (few : length ns ≤ 1024) where
   bound : 0 + length ns ≤ 65536
-  bound = omega (arith, length_kinds ns)
+  bound = omega arith
 
   -- ---- difference
 
@@ -93,15 +94,10 @@ module _ (x y : ℕ) (ns : List Kind) (few : length ns ≤ 1024) where
       → f ≡ entries_in L → count ≡ entry_count_in L → size ≡ length f
       → Measured Walk.Turn ns f s count size
   turn_size {L} l s e ec es =
-      let m = turn_measured s (omega (arith, length_kinds ns)) l.legal.each in
+      let m = turn_measured s (omega arith) l.legal.each in
       rw (es, e, ec, count_in_lem l m.few, entries_in_lem l) m
 
   -- ---- joining
-
-  -- the size measured is the join's if no object is a misfit
-  pub join_size : {f s : List ℕ} {r : Survey} → Surveyed ns f s r → length ns ≤ r.misfit
-      → Measured Walk.Join ns f s r.size.count r.size.bytes
-  join_size y h = y.measured h
 
   module _ {L M : List ℕ} (l : AcceptedList (plan_with x y ns) L) (m : AcceptedList (plan_with x y ns) M) where
     join_reads : join_under (plan_with x y ns) L M
@@ -133,7 +129,7 @@ module _ (x y : ℕ) (ns : List Kind) (few : length ns ≤ 1024) where
               e₂,
               entries_in_lem l,
               entries_in_lem m,
-              join_misfit 20 (joint_of l.list m.list) 0 (length ns) (omega (arith, length_kinds ns))
+              join_misfit 20 (joint_of l.list m.list) 0 (length ns) (omega arith)
                   (omega arith) l.legal.each m.legal.each,
             )
 
@@ -217,32 +213,32 @@ module _ (x y : ℕ) (ns : List Kind) (few : length ns ≤ 1024) where
               e₂,
               entries_in_lem l,
               elements_in_lem a,
-              apply_unfit 18 (result_of l.list a.image) 0 (length ns) (omega (arith, length_kinds ns))
+              apply_unfit 18 (result_of l.list a.image) 0 (length ns) (omega arith)
                   (omega arith) l.legal.each a.legal.words,
             )
 
         pub apply_misfits : n < length ns → apply_under (plan_with x y ns) A L ≡ refusal_at 18 n
         apply_misfits q = apply_found ∙ rw (lt-leb (length ns) n q)
 
-        pub apply_fits : length ns ≤ n → {r : Answer} → r ≡ unnamed 0 0 → r ≡ told (apply_under (plan_with x y ns) A L)
-        apply_fits q e =
-            told_done _ {a = image_bytes (plan_with x y ns) (result_of l.list a.image)}
-            (apply_found ∙ rw (le-leb (length ns) n q)) e
+        pub apply_fits : length ns ≤ n → Ok tt ≡ checked (apply_under (plan_with x y ns) A L)
+        apply_fits q =
+            let found : apply_under (plan_with x y ns) A L
+            ≡ done (image_bytes (plan_with x y ns) (result_of l.list a.image)) =
+            apply_found ∙ rw (le-leb (length ns) n q) in
+            ap checked (sym found)
 
     -- what is written where nothing is refused
-    pub apply_is : {r : Answer} → r ≡ told (apply_under (plan_with x y ns) A L) → r.code ≡ 0 → {f : List ℕ} {to : ℕ}
+    pub apply_is : Ok tt ≡ checked (apply_under (plan_with x y ns) A L) → {f : List ℕ} {to : ℕ}
         → f ≡ entries_in L → to ≡ to_in L
         → done (image_after ns to f A) ≡ apply_under (plan_with x y ns) A L
-    apply_is e z ee et =
-        let d =
-        used_told (applied l.list a.image) _ (applied_coded l.list a.image)
-        (e ∙ ap told apply_reads) z in
+    apply_is e ee et =
+        let d = used (applied l.list a.image) _ (e ∙ ap checked apply_reads) in
         ap done (after_is ee et)
         ∙ sym (apply_reads
         ∙ rw d.1 (ap (λ (b : Image). done (image_bytes (plan_with x y ns) b))
         (takes l.legal a.legal d.1).result))
 
-    pub apply_takes : {r : Answer} → r ≡ told (apply_under (plan_with x y ns) A L) → r.code ≡ 0 → {f : List ℕ} {to : ℕ}
+    pub apply_takes : Ok tt ≡ checked (apply_under (plan_with x y ns) A L) → {f : List ℕ} {to : ℕ}
         → f ≡ entries_in L → to ≡ to_in L → {m : List ℕ} → m ≡ image_after ns to f A
         → m ≡ value_or A (apply_under (plan_with x y ns) A L)
-    apply_takes e z ee et q = q ∙ ap (value_or A) (apply_is e z ee et)
+    apply_takes e ee et q = q ∙ ap (value_or A) (apply_is e ee et)
