@@ -6,11 +6,11 @@
 mod accepted;
 mod under;
 
-ghost use Rattle.history.specs.Verdict.{Leaves};
+ghost use Rattle.history.specs.Verdict.{Leaves, Puts};
 ghost use Rattle.history.specs.Calls.{difference_call, apply_call, join_call, turn_call};
 
 use history::Answer;
-use tables::{first_kinds, outline};
+use tables::outline;
 pub use under::{apply_under, difference_under, join_under, take_under, turn_under};
 
 // Writes the list from image a to image b.
@@ -18,15 +18,15 @@ pub fn difference(table: &[u8], a: &[u8], b: &[u8], out: &mut [u8]) -> Answer
     ensures { Leaves (difference_call table.now a.now b.now)
         out.old result out.new }
 {
-    let known = outline(table);
-    let answer = known.answer;
-    if answer.code != 0 {
-        return answer;
-    }
-    let x = known.x;
-    let y = known.y;
-    let count = known.count;
-    difference_under(x, y, first_kinds(&known.kinds, count), a, b, out)
+    put_difference(table, a, b, out).into()
+}
+
+fn put_difference(table: &[u8], a: &[u8], b: &[u8], out: &mut [u8]) -> Result<u32, Answer>
+    ensures { Puts (difference_call table.now a.now b.now)
+        out.old result out.new }
+{
+    let outline = outline(table)?;
+    difference_under(outline.plan(), a, b, out)
 }
 
 // Writes the image after the list: 16 if the list is late, 17 if there is a gap, 18 if an old
@@ -35,15 +35,15 @@ pub fn apply(table: &[u8], image: &[u8], list: &[u8], out: &mut [u8]) -> Answer
     ensures { Leaves (apply_call table.now image.now list.now)
         out.old result out.new }
 {
-    let known = outline(table);
-    let answer = known.answer;
-    if answer.code != 0 {
-        return answer;
-    }
-    let x = known.x;
-    let y = known.y;
-    let count = known.count;
-    apply_under(x, y, first_kinds(&known.kinds, count), image, list, out)
+    put_apply(table, image, list, out).into()
+}
+
+fn put_apply(table: &[u8], image: &[u8], list: &[u8], out: &mut [u8]) -> Result<u32, Answer>
+    ensures { Puts (apply_call table.now image.now list.now)
+        out.old result out.new }
+{
+    let outline = outline(table)?;
+    apply_under(outline.plan(), image, list, out)
 }
 
 // Writes the join of two lists: 19 if the second does not start where the first ends, 20 if
@@ -52,15 +52,15 @@ pub fn join(table: &[u8], first: &[u8], second: &[u8], out: &mut [u8]) -> Answer
     ensures { Leaves (join_call table.now first.now second.now)
         out.old result out.new }
 {
-    let known = outline(table);
-    let answer = known.answer;
-    if answer.code != 0 {
-        return answer;
-    }
-    let x = known.x;
-    let y = known.y;
-    let count = known.count;
-    join_under(x, y, first_kinds(&known.kinds, count), first, second, out)
+    put_join(table, first, second, out).into()
+}
+
+fn put_join(table: &[u8], first: &[u8], second: &[u8], out: &mut [u8]) -> Result<u32, Answer>
+    ensures { Puts (join_call table.now first.now second.now)
+        out.old result out.new }
+{
+    let outline = outline(table)?;
+    join_under(outline.plan(), first, second, out)
 }
 
 // Writes the list turned back.
@@ -68,13 +68,13 @@ pub fn turn_back(table: &[u8], list: &[u8], out: &mut [u8]) -> Answer
     ensures { Leaves (turn_call table.now list.now)
         out.old result out.new }
 {
-    let known = outline(table);
-    let answer = known.answer;
-    if answer.code != 0 {
-        return answer;
-    }
-    let x = known.x;
-    let y = known.y;
-    let count = known.count;
-    turn_under(x, y, first_kinds(&known.kinds, count), list, out)
+    put_turn_back(table, list, out).into()
+}
+
+fn put_turn_back(table: &[u8], list: &[u8], out: &mut [u8]) -> Result<u32, Answer>
+    ensures { Puts (turn_call table.now list.now)
+        out.old result out.new }
+{
+    let outline = outline(table)?;
+    turn_under(outline.plan(), list, out)
 }

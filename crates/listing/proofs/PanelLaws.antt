@@ -2,6 +2,7 @@
 -- answer if either is refused.
 -- Assumes nothing.
 use Prim.Native.Nat.{ℕ, ◌+◌, ◌-◌, ◌≤◌, ◌<◌}
+use Rattle.kinds.specs.declared.Kind.{Kind}
 use native.Mathlib.Omega.{arith}
 use mathlib.Core.Path.{◌≡◌, refl, sym, ap, ◌∙◌}
 use mathlib.Core.List.{List, ◌++◌}
@@ -25,7 +26,7 @@ use Rattle.heads.specs.Heads.{objects_place, image_head, position_in, elements_i
 use Rattle.heads.proofs.Places.{objects_place_lem}
 use Rattle.heads.proofs.Chains.{table_held, image_held}
 use Rattle.heads.proofs.Parts.{written_objects, position_in_lem, elements_in_lem}
-use Rattle.tables.specs.Outlines.{kinds_of, plan_as, Outlined}
+use Rattle.tables.specs.Plans.{plan_with}
 use Rattle.tables.specs.declared.answers.Outline.{Outline}
 use Rattle.tables.proofs.AnswerLaws.{told_then}
 use Rattle.forms.proofs.UnderPlan.{table_refused, image_starts, image_under}
@@ -69,32 +70,32 @@ table_told {b} o n a = table_refused o n (image_starts b a) ∙ both_told b a
 -- ---- an accepted table and image
 
 -- the table's X and Y and the image's position are inside, and the objects are few
-pub version_inside : {b a ns : List ℕ} → Ready b a ns → 6 < length b
+pub version_inside : {b a : List ℕ} {ns : List Kind} → Ready b a ns → 6 < length b
 unfolding read_plan
 version_inside {b} r = omega (arith, objects_place_lem, table_held b (used (read_table b) _ r.plan).1)
 
-pub position_inside : {b a ns : List ℕ} → Ready b a ns → image_head a ≤ length a
+pub position_inside : {b a : List ℕ} {ns : List Kind} → Ready b a ns → image_head a ≤ length a
 position_inside {a = a} {ns} r =
-    let p = plan_as r.x r.y ns in
+    let p = plan_with r.x r.y ns in
     image_held p a (zero_told (read_image p a) (image_coded p a) r.image).1
 
-pub few : {b a ns : List ℕ} → Ready b a ns → length ns ≤ 1024
+pub few : {b a : List ℕ} {ns : List Kind} → Ready b a ns → length ns ≤ 1024
 few {b} {ns = ns} r = omega (arith, (plan_fair b r.plan).count, length_kinds ns)
 
 -- the table and the image, and their parts in the bytes
-pub record Read (b a ns : List ℕ) : Type 0 where
+pub record Read (b a : List ℕ) (ns : List Kind) : Type 0 where
   pub table : Table
   pub image : Image
   pub reads : read_both b a ≡ done (record { table = table; image = image })
   pub legal : LegalTable table
-  pub kinds : (plan_of table).kinds ≡ kinds_of ns
+  pub kinds : (plan_of table).kinds ≡ ns
   pub count : length table.objects ≡ length ns
   pub x : get_or b 5 0 ≡ table.x
   pub y : get_or b 6 0 ≡ table.y
   pub position : position_in a ≡ image.position
   pub entries : drop objects_place b ≡ objects_bytes table.objects
-  pub elements : elements_in a ≡ words_bytes (kinds_of ns) image.words
-  pub each : Every admits (kinds_of ns) image.words
+  pub elements : elements_in a ≡ words_bytes ns image.words
+  pub each : Every admits ns image.words
 
 -- X and Y of a written table
 module _ (t : Table) where
@@ -120,15 +121,15 @@ plan_length t = sym (length-map t.objects (λ (o : Object). kind_of t.x o.type))
 abbrev pub Held : List ℕ → Type 0
 Held b = (i : ℕ) → Fits w8 (get_or b i 0)
 
-pub read_as : {b a ns : List ℕ} → Ready b a ns → Held b → Held a → Read b a ns
+pub read_as : {b a : List ℕ} {ns : List Kind} → Ready b a ns → Held b → Held a → Read b a ns
 unfolding read_plan
 read_as {b} {a} {ns} r hb ha =
     let t = used (read_table b) _ r.plan in
-    let plan : plan_of t.0 ≡ plan_as r.x r.y ns = cc t.2 in
+    let plan : plan_of t.0 ≡ plan_with r.x r.y ns = cc t.2 in
     let tab = table_is b t.1 in
     let b-is = tab.same (λ i. (hb i).fits) in
-    let i = image_accepted (plan_as r.x r.y ns) a ha r.image refl in
-    let kinds : (plan_of t.0).kinds ≡ kinds_of ns = ap (λ (p : Plan). p.kinds) plan in
+    let i = image_accepted (plan_with r.x r.y ns) a ha r.image refl in
+    let kinds : (plan_of t.0).kinds ≡ ns = ap (λ (p : Plan). p.kinds) plan in
     record {
       table = t.0;
       image = i.image;
@@ -151,10 +152,10 @@ module _ {b : List ℕ} {r : Outline} (o : Outlined b r) (z : r.answer.code ≡ 
   abbrev numbers : List ℕ
   numbers = take (r.count - 0) r.kinds
 
-  plan_known : read_plan b ≡ done (plan_as r.x r.y numbers)
+  plan_known : read_plan b ≡ done (plan_with r.x r.y numbers)
   plan_known = let e : r.count - 0 ≡ r.count = omega arith in rw e (o.plan z)
 
-  module _ (a : List ℕ) {c : Answer} (f : c ≡ told (read_image (plan_as r.x r.y numbers) a)) where
+  module _ (a : List ℕ) {c : Answer} (f : c ≡ told (read_image (plan_with r.x r.y numbers) a)) where
     pub image_told : c ≡ told (text_of (read_both b a))
     image_told =
         let e : r.count - 0 ≡ r.count = omega arith in
@@ -165,7 +166,7 @@ module _ {b : List ℕ} {r : Outline} (o : Outlined b r) (z : r.answer.code ≡ 
 
 -- ---- its text
 
-text_in : {b a ns : List ℕ} (r : Read b a ns)
+text_in : {b a : List ℕ} {ns : List Kind} (r : Read b a ns)
     → text_of (read_both b a)
     ≡ done (first_line (get_or b 5 0) (get_or b 6 0) (position_in a) (length ns) ++ lines_in (read_both b a))
 unfolding lines_in
@@ -184,7 +185,7 @@ wrote_leaves {text = text} {l} e w h q =
     leaves_as l (sym e) (written_leaves text l long h q here)
 
 -- the first line and those below it are all that is written
-module _ {b a ns : List ℕ} (ready : Ready b a ns) (hb : Held b) (ha : Held a) {position : ℕ}
+module _ {b a : List ℕ} {ns : List Kind} (ready : Ready b a ns) (hb : Held b) (ha : Held a) {position : ℕ}
     (e : position ≡ position_in a) {l m n : List ℕ} {p q : ℕ}
     (w : Wrote l 0 (first_line (get_or b 5 0) (get_or b 6 0) position (length ns)) m p)
     (v : Wrote m p (lines_in (read_both b a)) n q) (h : 65536 ≤ length l)

@@ -16,7 +16,6 @@ use Rattle.kinds.specs.declared.Kind.{Kind}
 use Rattle.history.specs.Table.{Object, objects_bytes, kind_at}
 use Rattle.history.specs.Image.{words_bytes, Every, and, admits}
 use Rattle.heads.specs.Heads.{objects_place, elements_in}
-use Rattle.tables.specs.Outlines.{kinds_of}
 use Rattle.forms.proofs.KindLaws.{length_kinds, kinds_next, kinds_end}
 use Rattle.text.specs.Wrote.{Wrote}
 use Rattle.text.proofs.Laws.{then}
@@ -99,14 +98,14 @@ two_each (o ∷ os) = omega (arith, two_each os, length-append o.label (objects_
 
 -- ---- the loop
 
-lines_in_lem : {b a ns : List ℕ} (r : Read b a ns)
-    → lines_in (read_both b a) ≡ lines_of 0 r.table.objects (kinds_of ns) r.image.words
+lines_in_lem : {b a : List ℕ} {ns : List Kind} (r : Read b a ns)
+    → lines_in (read_both b a) ≡ lines_of 0 r.table.objects ns r.image.words
 unfolding lines_in
 lines_in_lem r =
     ap lines_in r.reads ∙ ap (λ (ks : List Kind). lines_of 0 r.table.objects ks r.image.words) r.kinds
 
 -- the lines so far are written, and the objects from i on are ahead
-pub record Walked (b a ns elements out₀ : List ℕ) (at : ℕ) (out : List ℕ) (to entry place i : ℕ) : Type 0 where
+pub record Walked (b a : List ℕ) (ns : List Kind) (elements out₀ : List ℕ) (at : ℕ) (out : List ℕ) (to entry place i : ℕ) : Type 0 where
   pub written : List ℕ
   pub objects : List Object
   pub words : List ℕ
@@ -115,10 +114,10 @@ pub record Walked (b a ns elements out₀ : List ℕ) (at : ℕ) (out : List ℕ
   pub kept : length out ≡ length out₀
   pub space : at + length (lines_in (read_both b a)) ≤ length out₀
   pub so_far : Wrote out₀ at written out to
-  pub whole : lines_in (read_both b a) ≡ written ++ lines_of i objects (drop i (kinds_of ns)) words
-  pub ahead : Ahead b elements (drop i (kinds_of ns)) objects words entry place
+  pub whole : lines_in (read_both b a) ≡ written ++ lines_of i objects (drop i ns) words
+  pub ahead : Ahead b elements (drop i ns) objects words entry place
 
-pub begin : {b a ns : List ℕ} → Ready b a ns → Held b → Held a → (elements : List ℕ) → elements ≡ elements_in a
+pub begin : {b a : List ℕ} {ns : List Kind} → Ready b a ns → Held b → Held a → (elements : List ℕ) → elements ≡ elements_in a
     → (entry : ℕ) → entry ≡ objects_place
     → (out : List ℕ) (at : ℕ) → at + length (lines_in (read_both b a)) ≤ length out
     → Walked b a ns elements out at out at entry 0 0
@@ -144,11 +143,11 @@ begin {b} {a} {ns} ready hb ha elements e entry f out at h =
           };
     }
 
-module _ {b a ns elements out₀ : List ℕ} {at : ℕ} {out : List ℕ} {to entry place i : ℕ}
+module _ {b a : List ℕ} {ns : List Kind} {elements out₀ : List ℕ} {at : ℕ} {out : List ℕ} {to entry place i : ℕ}
     (l : Walked b a ns elements out₀ at out to entry place i) where
   pub ended : length ns ≤ i → Wrote out₀ at (lines_in (read_both b a)) out to
   ended h =
-      let last : lines_of i l.objects (drop i (kinds_of ns)) l.words ≡ [] =
+      let last : lines_of i l.objects (drop i ns) l.words ≡ [] =
       ap (λ (ks : List Kind). lines_of i l.objects ks l.words) (kinds_end ns i h)
       ∙ lines_none i l.objects l.words in
       let all : lines_in (read_both b a) ≡ l.written =
@@ -165,14 +164,14 @@ module _ {b a ns elements out₀ : List ℕ} {at : ℕ} {out : List ℕ} {to ent
         ap length l.ahead.entries,
         length-drop entry b,
         l.ahead.count,
-        length-drop i (kinds_of ns),
+        length-drop i ns,
         length_kinds ns,
       )
 
   module _ (h : i < length ns) where
     -- the next object
-    here : Next b elements (kind_at (kinds_of ns) i) (drop (i + 1) (kinds_of ns)) i entry place
-        (lines_of i l.objects (drop i (kinds_of ns)) l.words)
+    here : Next b elements (kind_at ns i) (drop (i + 1) ns) i entry place
+        (lines_of i l.objects (drop i ns) l.words)
     here = next b elements entry place i (kinds_next ns i h) l.ahead
 
     -- in terms of what the code has: where the label ends
@@ -180,8 +179,8 @@ module _ {b a ns elements out₀ : List ℕ} {at : ℕ} {out : List ℕ} {to ent
     label_inside e = omega (arith, here.entry_inside)
 
     -- the object's kind and its element's width
-    module _ {kind : Kind} (kind_is_lem : kind ≡ kind_at (kinds_of ns) i) {w : ℕ} (w-is : w ≡ width_of kind) where
-      width_is : w ≡ width_of (kind_at (kinds_of ns) i)
+    module _ {kind : Kind} (kind_is_lem : kind ≡ kind_at ns i) {w : ℕ} (w-is : w ≡ width_of kind) where
+      width_is : w ≡ width_of (kind_at ns i)
       width_is = w-is ∙ ap width_of kind_is_lem
 
       pub element_inside : place + w ≤ length elements
@@ -195,17 +194,17 @@ module _ {b a ns elements out₀ : List ℕ} {at : ℕ} {out : List ℕ} {to ent
         element = take (place + w - place) (drop place elements)
 
         abbrev later : List ℕ
-        later = lines_of (i + 1) here.objects (drop (i + 1) (kinds_of ns)) here.words
+        later = lines_of (i + 1) here.objects (drop (i + 1) ns) here.words
 
         lines_are : lines_in (read_both b a) ≡ l.written ++ (object_line i (get_or b entry 0) label element ++ later)
         lines_are =
             let size : end - (entry + 2) ≡ get_or b (entry + 1) 0 = omega arith in
-            let wide : place + w - place ≡ width_of (kind_at (kinds_of ns) i) = omega (arith, width_is) in
+            let wide : place + w - place ≡ width_of (kind_at ns i) = omega (arith, width_is) in
             l.whole ∙ ap (λ (r : List ℕ). l.written ++ r)
             (here.first
             ∙ (λ j. object_line i (get_or b entry 0) (take (sym size j) (drop (entry + 2) b))
             (take (sym wide j) (drop place elements))
-            ++ lines_of (sym (add-one i) j) here.objects (drop (i + 1) (kinds_of ns)) here.words))
+            ++ lines_of (sym (add-one i) j) here.objects (drop (i + 1) ns) here.words))
 
         pub has_room : to + line_size i (get_or b entry 0) label element ≤ length out
         has_room =

@@ -1,13 +1,14 @@
 -- For the contracts of the writers of lines and of the walk over an accepted table and image.
 -- The meaning is in `Listing`.
 use Rattle.std.specs.Prelude.{ℕ, ◌+◌, ◌*◌, ◌≤◌, ◌≡◌, List, [], ◌∷◌, ◌++◌, length}
+use Rattle.kinds.specs.declared.Kind.{Kind}
 use Rattle.text.specs.Decimal.{decimal}
 use Rattle.text.specs.Wrote.{Wrote}
 use Rattle.history.specs.Verdict.{Verdict, refused, done, told}
 use Rattle.history.specs.Table.{plan_of}
 use Rattle.history.specs.Image.{read_image}
 use Rattle.history.specs.Calls.{read_plan}
-use Rattle.tables.specs.Outlines.{plan_as}
+use Rattle.tables.specs.Outlines.{plan_with}
 use Rattle.listing.specs.Listing.{Panel, lines_of}
 
 -- a number and the byte after it were written
@@ -22,11 +23,11 @@ line_size i type label element =
     (length (decimal i) + 1) + ((length (decimal type) + 1) + (length label + (1 + (2 * length element + 1))))
 
 -- the table and the image are accepted, and these are the layout numbers of the table's objects
-pub record Ready (b a ns : List ℕ) : Type 0 where
+pub record Ready (b a : List ℕ) (ns : List Kind) : Type 0 where
   pub x : ℕ
   pub y : ℕ
-  pub plan : read_plan b ≡ done (plan_as x y ns)
-  pub image : (told (read_image (plan_as x y ns) a)).code ≡ 0
+  pub plan : read_plan b ≡ done (plan_with x y ns)
+  pub image : (told (read_image (plan_with x y ns) a)).code ≡ 0
 
 -- the lines below the first
 unfoldable pub lines_in : Verdict Panel → List ℕ

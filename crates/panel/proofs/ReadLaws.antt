@@ -23,7 +23,7 @@ use Rattle.history.specs.Image.{read_image, admits, Every, nil, and, AcceptedIma
 use Rattle.history.specs.Calls.{read_state_under, read_state_call}
 use Rattle.history.proofs.ElementLaws.{admits_read}
 use Rattle.history.proofs.StateLaws.{state_at}
-use Rattle.tables.specs.Outlines.{kinds_of, plan_as, Outlined}
+use Rattle.tables.specs.Plans.{plan_with}
 use Rattle.tables.specs.declared.answers.Outline.{Outline}
 use Rattle.tables.proofs.AnswerLaws.{told_first}
 use Rattle.forms.proofs.Accepted.{image_accepted}
@@ -63,8 +63,8 @@ module _ {T : List ℕ} {r : Outline} (o : Outlined T r) (A : List ℕ) (i : ℕ
   pub table_read : (r.answer.code ≡ 0 → ⊥) → Reading.Refused r.answer ≡ reading_of (read_state_call T A i)
   table_read bad = refusal_read _ (table_refused o bad (read_starts T A i)) bad
 
-  pub read_by_plan : r.answer.code ≡ 0 → {ns : List ℕ} → ns ≡ take r.count r.kinds
-      → reading_of (read_state_under (plan_as r.x r.y ns) A i) ≡ reading_of (read_state_call T A i)
+  pub read_by_plan : r.answer.code ≡ 0 → {ns : List Kind} → ns ≡ take r.count r.kinds
+      → reading_of (read_state_under (plan_with r.x r.y ns) A i) ≡ reading_of (read_state_call T A i)
   read_by_plan good n = ap reading_of (under_plan o good n (read_starts T A i))
 
 -- ---- the image
@@ -75,48 +75,48 @@ admitted_at nil i l = absurd (omega arith)
 admitted_at (and h r) zero l = h
 admitted_at (and h r) (suc i) l = admitted_at r i (omega arith)
 
-module _ (x y : ℕ) (ns A : List ℕ) (i : ℕ) {r : Answer} (r-is : r ≡ told (read_image (plan_as x y ns) A)) where
-  pub image_read : (r.code ≡ 0 → ⊥) → Reading.Refused r ≡ reading_of (read_state_under (plan_as x y ns) A i)
+module _ (x y : ℕ) (ns : List Kind) (A : List ℕ) (i : ℕ) {r : Answer} (r-is : r ≡ told (read_image (plan_with x y ns) A)) where
+  pub image_read : (r.code ≡ 0 → ⊥) → Reading.Refused r ≡ reading_of (read_state_under (plan_with x y ns) A i)
   unfolding read_state_under
-  image_read bad = refusal_read _ (first_told (read_image (plan_as x y ns) A) _ r-is bad) bad
+  image_read bad = refusal_read _ (first_told (read_image (plan_with x y ns) A) _ r-is bad) bad
 
   -- h: each number in A fits in a byte, as in any slice
   module _ (h : (n : ℕ) → Fits w8 (get_or A n 0)) (good : r.code ≡ 0) where
-    pub taken : AcceptedImage (plan_as x y ns) A
-    taken = image_accepted (plan_as x y ns) A h good r-is
+    pub taken : AcceptedImage (plan_with x y ns) A
+    taken = image_accepted (plan_with x y ns) A h good r-is
 
     pub head_inside : image_head A ≤ length A
     head_inside = image_inside taken
 
-    under : read_state_under (plan_as x y ns) A i
-        ≡ (refusal_at 13 i unless ltb i (length (kinds_of ns)) ⨾ done (state_at (plan_as x y ns) taken.image i))
+    under : read_state_under (plan_with x y ns) A i
+        ≡ (refusal_at 13 i unless ltb i (length ns) ⨾ done (state_at (plan_with x y ns) taken.image i))
     unfolding read_state_under
     under = rw taken.reads
 
     -- 13: there is no such object
     pub other_object : length ns ≤ i → {s : Answer} → s ≡ numbers (naming 13 i 255) 0
-        → Reading.Refused s ≡ reading_of (read_state_under (plan_as x y ns) A i)
+        → Reading.Refused s ≡ reading_of (read_state_under (plan_with x y ns) A i)
     unfolding reading_of
     other_object l {s} e =
-        let none : read_state_under (plan_as x y ns) A i ≡ refusal_at 13 i =
-        under ∙ rw (le-ltb i (length (kinds_of ns)) (omega (arith, length_kinds ns))) in
+        let none : read_state_under (plan_with x y ns) A i ≡ refusal_at 13 i =
+        under ∙ rw (le-ltb i (length ns) (omega (arith, length_kinds ns))) in
         ap Reading.Refused e ∙ sym (ap reading_of none)
 
     module _ (l : i < length ns) where
       pub image_sized : length ns ≤ 1024 → {es : List ℕ} → es ≡ elements_in A → Sized ns es i
       image_sized few e = record { below = l; few = few; long = elements_length taken e }
 
-      inside_kinds : i < length (kinds_of ns)
+      inside_kinds : i < length ns
       inside_kinds = omega (arith, length_kinds ns)
 
-      module _ {kind : Kind} (kind_is_lem : kind ≡ kind_at (kinds_of ns) i) {es : List ℕ} (es-is : es ≡ elements_in A)
+      module _ {kind : Kind} (kind_is_lem : kind ≡ kind_at ns i) {es : List ℕ} (es-is : es ≡ elements_in A)
           {word : ℕ}
           (word-is : word
-          ≡ number (take (width_of (kind_at (kinds_of ns) i)) (drop (place_in (kinds_of ns) i) es))) where
+          ≡ number (take (width_of (kind_at ns i)) (drop (place_in ns i) es))) where
         own_word : word ≡ get_or taken.image.words i 0
         own_word =
             word-is ∙ ap (λ (b : List ℕ). number
-            (take (width_of (kind_at (kinds_of ns) i)) (drop (place_in (kinds_of ns) i) b)))
+            (take (width_of (kind_at ns i)) (drop (place_in ns i) b)))
             (es-is ∙ elements_in_lem taken)
             ∙ words_number taken.legal.words i inside_kinds
 
@@ -124,10 +124,10 @@ module _ (x y : ℕ) (ns A : List ℕ) (i : ℕ) {r : Answer} (r-is : r ≡ told
         admitted = rw (kind_is_lem, own_word) (admitted_at taken.legal.words i inside_kinds)
 
         pub state_is : {e : Element} → e ≡ state_read kind word
-            → Reading.State e ≡ reading_of (read_state_under (plan_as x y ns) A i)
+            → Reading.State e ≡ reading_of (read_state_under (plan_with x y ns) A i)
         unfolding reading_of
         state_is {e} e-is =
-            let own : read_state_under (plan_as x y ns) A i ≡ done (state_at (plan_as x y ns) taken.image i) =
-            under ∙ rw (lt-ltb i (length (kinds_of ns)) inside_kinds) in
+            let own : read_state_under (plan_with x y ns) A i ≡ done (state_at (plan_with x y ns) taken.image i) =
+            under ∙ rw (lt-ltb i (length ns) inside_kinds) in
             ap Reading.State (e-is ∙ admits_read kind word admitted ∙ ap₂ state_of kind_is_lem own_word)
             ∙ sym (ap reading_of own)

@@ -30,7 +30,7 @@ use Rattle.heads.specs.Heads.{image_head}
 use Rattle.heads.specs.Written.{with_elements}
 use Rattle.heads.proofs.Parts.{elements_in_lem, image_length}
 use Rattle.heads.proofs.WrittenLaws.{image_again}
-use Rattle.tables.specs.Outlines.{kinds_of, plan_as, Outlined}
+use Rattle.tables.specs.Plans.{plan_with}
 use Rattle.tables.specs.declared.answers.Outline.{Outline}
 use Rattle.tables.proofs.AnswerLaws.{no, yes}
 use Rattle.forms.specs.Places.{place_in, over}
@@ -42,30 +42,30 @@ use Rattle.panel.proofs.ReadLaws.{first_told, taken}
 
 -- ---- the state handed in
 
-module _ (ns : List ℕ) (i : ℕ) (e : Element) where
+module _ (ns : List Kind) (i : ℕ) (e : Element) where
   -- 13: there is no such object
   pub no_object : length ns ≤ i → {s : Answer} → s ≡ numbers (naming 13 i 255) 0
-      → s ≡ told (check_state (kinds_of ns) i e)
+      → s ≡ told (check_state ns i e)
   unfolding check_state told
-  no_object l q = q ∙ rw (le-ltb i (length (kinds_of ns)) (omega (arith, length_kinds ns)))
+  no_object l q = q ∙ rw (le-ltb i (length ns) (omega (arith, length_kinds ns)))
 
-  module _ (l : i < length ns) {kind : Kind} (kind_is_lem : kind ≡ kind_at (kinds_of ns) i) {own : Kind}
+  module _ (l : i < length ns) {kind : Kind} (kind_is_lem : kind ≡ kind_at ns i) {own : Kind}
       (own_is : own ≡ kind_in e) where
-    inside : ltb i (length (kinds_of ns)) ≡ true
-    inside = lt-ltb i (length (kinds_of ns)) (omega (arith, length_kinds ns))
+    inside : ltb i (length ns) ≡ true
+    inside = lt-ltb i (length ns) (omega (arith, length_kinds ns))
 
-    alike : {t : Bool} → same_kind own kind ≡ t → same_kind (kind_in e) (kind_at (kinds_of ns) i) ≡ t
+    alike : {t : Bool} → same_kind own kind ≡ t → same_kind (kind_in e) (kind_at ns i) ≡ t
     alike h = ap₂ same_kind (sym own_is) (sym kind_is_lem) ∙ h
 
     -- 22: the state is of another kind
     pub other_kind : {t : Bool} → t ≡ same_kind own kind → not t ≡ true → {s : Answer} → s ≡ numbers (naming 22 i 255) 0
-        → s ≡ told (check_state (kinds_of ns) i e)
+        → s ≡ told (check_state ns i e)
     unfolding check_state told
     other_kind t-is h q = q ∙ rw (inside, alike (no t-is h))
 
     module _ {t : Bool} (t-is : t ≡ same_kind own kind) (h : not t ≡ false) {word : ℕ} (word-is : word ≡ word_of e)
         {found : Finding} (found-is : found ≡ element_check kind word) where
-      by_finding : told (found of i ⨾ done (word_of e)) ≡ told (check_state (kinds_of ns) i e)
+      by_finding : told (found of i ⨾ done (word_of e)) ≡ told (check_state ns i e)
       unfolding check_state element
       by_finding =
           ap (λ (n : Finding). told (n of i ⨾ done (word_of e))) (found-is ∙ ap₂ element_check kind_is_lem word-is)
@@ -73,12 +73,12 @@ module _ (ns : List ℕ) (i : ℕ) (e : Element) where
 
       -- 12: the element's check refuses the state's word
       pub bad_state : {f : Refusal} → found ≡ Finding.Refused f → {s : Answer} → s ≡ numbers (found_in f i) 0
-          → s ≡ told (check_state (kinds_of ns) i e)
+          → s ≡ told (check_state ns i e)
       unfolding told
       bad_state {f} n q = q ∙ sym (ap (λ (n : Finding). told (n of i ⨾ done (word_of e))) n) ∙ by_finding
 
       pub good_state : found ≡ Finding.Accepted → {s : Answer} → s ≡ unnamed 0 0
-          → s ≡ told (check_state (kinds_of ns) i e)
+          → s ≡ told (check_state ns i e)
       unfolding told
       good_state n q = q ∙ sym (ap (λ (n : Finding). told (n of i ⨾ done (word_of e))) n) ∙ by_finding
 
@@ -89,66 +89,66 @@ module _ (T A : List ℕ) (i : ℕ) (e : Element) (position : ℕ) where
   unfolding write_state_call
   write_starts = record { is = refl }
 
-  pub write_by_plan : {r : Outline} → Outlined T r → r.answer.code ≡ 0 → {ns : List ℕ}
+  pub write_by_plan : {r : Outline} → Outlined T r → r.answer.code ≡ 0 → {ns : List Kind}
       → ns ≡ take r.count r.kinds
-      → write_state_under (plan_as r.x r.y ns) A i e position ≡ write_state_call T A i e position
+      → write_state_under (plan_with r.x r.y ns) A i e position ≡ write_state_call T A i e position
   write_by_plan o good n = under_plan o good n write_starts
 
 -- ---- the image
 
 -- a state that is accepted is of an object of the table
-module _ (ns : List ℕ) (i : ℕ) (e : Element) {s : Answer} (s-is : s ≡ told (check_state (kinds_of ns) i e))
+module _ (ns : List Kind) (i : ℕ) (e : Element) {s : Answer} (s-is : s ≡ told (check_state ns i e))
     (fine : s.code ≡ 0) where
-  state : (w : ℕ) × (check_state (kinds_of ns) i e ≡ done w)
+  state : (w : ℕ) × (check_state ns i e ≡ done w)
   state =
-      zero_told (check_state (kinds_of ns) i e) (state_coded (kinds_of ns) i e)
+      zero_told (check_state ns i e) (state_coded ns i e)
       (ap (λ (a : Answer). a.code) (sym s-is) ∙ fine)
 
-  taken_state : Taken (kinds_of ns) i e state.0
-  taken_state = state_taken (kinds_of ns) i e state.1
+  taken_state : Taken ns i e state.0
+  taken_state = state_taken ns i e state.1
 
   pub state_object : i < length ns
   state_object = omega (arith, taken_state.inside, length_kinds ns)
 
-module _ (x y : ℕ) (ns A : List ℕ) (i : ℕ) (e : Element) (position : ℕ) {r : Answer}
-    (r-is : r ≡ told (read_image (plan_as x y ns) A)) where
-  pub image_writes : (r.code ≡ 0 → ⊥) → r ≡ told (write_state_under (plan_as x y ns) A i e position)
+module _ (x y : ℕ) (ns : List Kind) (A : List ℕ) (i : ℕ) (e : Element) (position : ℕ) {r : Answer}
+    (r-is : r ≡ told (read_image (plan_with x y ns) A)) where
+  pub image_writes : (r.code ≡ 0 → ⊥) → r ≡ told (write_state_under (plan_with x y ns) A i e position)
   unfolding write_state_under
-  image_writes bad = first_told (read_image (plan_as x y ns) A) _ r-is bad
+  image_writes bad = first_told (read_image (plan_with x y ns) A) _ r-is bad
 
   module _ (h : (n : ℕ) → Fits w8 (get_or A n 0)) (good : r.code ≡ 0) {s : Answer}
-      (s-is : s ≡ told (check_state (kinds_of ns) i e)) where
-    abbrev image : AcceptedImage (plan_as x y ns) A
+      (s-is : s ≡ told (check_state ns i e)) where
+    abbrev image : AcceptedImage (plan_with x y ns) A
     image = taken x y ns A i r-is h good
 
-    under : write_state_under (plan_as x y ns) A i e position
-        ≡ then (check_state (kinds_of ns) i e)
-        (λ w. done (image_bytes (plan_as x y ns) (placed image.image i w position)))
+    under : write_state_under (plan_with x y ns) A i e position
+        ≡ then (check_state ns i e)
+        (λ w. done (image_bytes (plan_with x y ns) (placed image.image i w position)))
     unfolding write_state_under
     under = rw image.reads
 
-    pub state_writes : (s.code ≡ 0 → ⊥) → s ≡ told (write_state_under (plan_as x y ns) A i e position)
-    state_writes bad = first_told (check_state (kinds_of ns) i e) _ s-is bad ∙ ap told (sym under)
+    pub state_writes : (s.code ≡ 0 → ⊥) → s ≡ told (write_state_under (plan_with x y ns) A i e position)
+    state_writes bad = first_told (check_state ns i e) _ s-is bad ∙ ap told (sym under)
 
-    pub image_sized : length A ≡ image_head A + widths (kinds_of ns)
+    pub image_sized : length A ≡ image_head A + widths ns
     image_sized = image_length image
 
     module _ (fine : s.code ≡ 0) where
       with_state : (w : ℕ)
-          → image_with (kinds_of ns) position i w A ≡ image_bytes (plan_as x y ns) (placed image.image i w position)
+          → image_with ns position i w A ≡ image_bytes (plan_with x y ns) (placed image.image i w position)
       unfolding image_with
       with_state w =
-          let inside : i < length (kinds_of ns) = (taken_state ns i e s-is fine).inside in
+          let inside : i < length ns = (taken_state ns i e s-is fine).inside in
           let words = words_over w image.legal.words i inside in
           let long = words_long w image.legal.words i ∙ length_words image.legal.words in
           ap (λ (es : List ℕ). with_elements A position
-          (over (place_in (kinds_of ns) i) (bytes (width_of (kind_at (kinds_of ns) i)) w) es))
+          (over (place_in ns i) (bytes (width_of (kind_at ns i)) w) es))
           (elements_in_lem image)
           ∙ ap (with_elements A position) words ∙ image_again image position (set image.image.words i w) long
 
       pub write_is : {word : ℕ} → word ≡ word_of e
-          → done (image_with (kinds_of ns) position i word A) ≡ write_state_under (plan_as x y ns) A i e position
+          → done (image_with ns position i word A) ≡ write_state_under (plan_with x y ns) A i e position
       write_is {word} word-is =
           ap done (with_state word)
-          ∙ ap (λ (w : ℕ). done (image_bytes (plan_as x y ns) (placed image.image i w position))) word-is
+          ∙ ap (λ (w : ℕ). done (image_bytes (plan_with x y ns) (placed image.image i w position))) word-is
           ∙ sym (under ∙ rw ((state ns i e s-is fine).1, ← (taken_state ns i e s-is fine).word))

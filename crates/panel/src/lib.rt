@@ -7,5 +7,5 @@ mod place;
 mod read;
 mod write;
 
-pub use read::{Reading, answer_of, read_state};
+pub use read::{answer_of, read_state};
 pub use write::write_state;

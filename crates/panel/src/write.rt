@@ -1,15 +1,15 @@
 // Writing an object's state, with the image's new position: the table's refusals, the image's, 13, 22, 12, 21.
-ghost use Rattle.std.specs.Prelude.{◌≡◌, ◌≤◌, length};
-ghost use Rattle.history.specs.Verdict.{told, Leaves};
+ghost use Rattle.std.specs.Prelude.{◌≡◌};
+ghost use Rattle.history.specs.Verdict.{checked, Leaves, Puts};
 ghost use Rattle.history.specs.Calls.{check_state, write_state_under, write_state_call};
-ghost use Rattle.tables.specs.Outlines.{kinds_of, plan_as};
+ghost use Rattle.tables.specs.Plans.{plan_in};
 
-use forms::{check_image_under, kind_at};
+use forms::check_image_under;
 use history::Answer;
-use kinds::{Element, kind_in};
+use kinds::{Element, Kind, kind_in};
 use outputs::write_element;
 use rows::Finding;
-use tables::{accepted, first_kinds, outline, refused_at, refused_by};
+use tables::{Plan, outline, refused_at, refused_by};
 
 // Writes the image with an object's new state and the new position to the front of the output.
 pub fn write_state(
@@ -23,68 +23,56 @@ pub fn write_state(
     ensures { Leaves (write_state_call table.now image.now object state position)
         out.old result out.new }
 {
-    let known = outline(table);
-    let answer = known.answer;
-    if answer.code != 0 {
-        return answer;
-    }
-    let x = known.x;
-    let y = known.y;
-    let count = known.count;
-    write_under(
-        x,
-        y,
-        first_kinds(&known.kinds, count),
-        image,
-        object,
-        state,
-        position,
-        out,
-    )
+    put_state(table, image, object, state, position, out).into()
 }
 
-// Takes X, Y and the layout numbers of an accepted table: checks the image, then the state, then the room.
-fn write_under(
-    x: u8,
-    y: u8,
-    kinds: &[u8],
+fn put_state(
+    table: &[u8],
     image: &[u8],
     object: u16,
     state: Element,
     position: u32,
     out: &mut [u8],
-) -> Answer
-    requires { length kinds.now ≤ 1024 }
-    ensures { Leaves (write_state_under (plan_as x y kinds.now) image.now object state position)
+) -> Result<u32, Answer>
+    ensures { Puts (write_state_call table.now image.now object state position)
         out.old result out.new }
 {
-    let answer = check_image_under(x, y, kinds, image);
-    if answer.code != 0 {
-        return answer;
-    }
-    let found = check_state(kinds, object, state);
-    if found.code != 0 {
-        return found;
-    }
+    let outline = outline(table)?;
+    write_under(outline.plan(), image, object, state, position, out)
+}
+
+// Under an accepted table's plan: checks the image, then the state, then the room.
+fn write_under(
+    plan: Plan<'_>,
+    image: &[u8],
+    object: u16,
+    state: Element,
+    position: u32,
+    out: &mut [u8],
+) -> Result<u32, Answer>
+    ensures { Puts (write_state_under (plan_in plan.entry) image.now object state position)
+        out.old result out.new }
+{
+    check_image_under(plan, image)?;
+    check_state(plan.kinds, object, state)?;
     let word = elements::word_of(state);
-    write_element(kinds, image, position, object as usize, word, out)
+    write_element(plan, image, position, object as usize, word, out)
 }
 
 // Checks a state handed in for an object: 13, 22, 12.
-fn check_state(kinds: &[u8], object: u16, state: Element) -> Answer
-    ensures { result ≡ told (check_state (kinds_of kinds.now) object state) }
+fn check_state(kinds: &[Kind], object: u16, state: Element) -> Result<(), Answer>
+    ensures { result ≡ checked (check_state kinds.now object state) }
 {
     let index = object as usize;
     if kinds.len() <= index {
-        return refused_at(13, object);
+        return Err(refused_at(13, object));
     }
-    let kind = kind_at(kinds, index);
+    let kind = kinds[index];
     if !elements::same_kind(kind_in(state), kind) {
-        return refused_at(22, object);
+        return Err(refused_at(22, object));
     }
-    let finding = elements::check_element(elements::word_of(state), kind);
-    if let Finding::Refused(r) = finding {
-        return refused_by(r, object);
+    if let Finding::Refused(r) = elements::check_element(elements::word_of(state), kind) {
+        return Err(refused_by(r, object));
     }
-    accepted()
+    Ok(())
 }

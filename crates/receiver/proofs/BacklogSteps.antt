@@ -1,6 +1,7 @@
 -- What a backlog leaves at each return: the table, the image, the room, and the lists in the copy.
 -- Assumes nothing.
 use Prim.Native.Nat.{ℕ, ◌-◌, ◌^◌, ◌≤◌, ◌<◌}
+use Rattle.kinds.specs.declared.Kind.{Kind}
 use native.Mathlib.Omega.{arith}
 use mathlib.Core.Path.{◌≡◌, refl, ap, ◌∙◌}
 use mathlib.Core.List.{List, [], ◌++◌}
@@ -20,7 +21,7 @@ use Rattle.history.specs.Backlog.{Backlog, nothing_taken, take_lists, backlog_un
 use Rattle.history.proofs.ImageLaws.{Fair}
 use Rattle.history.proofs.OutputLaws.{copy_is, copy_rest}
 use Rattle.history.proofs.BacklogLaws.{forms_bytes, take_keeps}
-use Rattle.tables.specs.Outlines.{plan_as, Outlined}
+use Rattle.tables.specs.Outlines.{plan_with, Outlined}
 use Rattle.tables.specs.declared.answers.Outline.{Outline}
 use Rattle.forms.proofs.KindLaws.{length_kinds}
 use Rattle.forms.proofs.Accepted.{image_accepted}
@@ -38,9 +39,9 @@ refused_told (done b) e bad = absurd (bad (ap (λ (a : Answer). a.code) e))
 
 -- ---- the image, and room for it
 
-pub image_fits : (x y : ℕ) (ns A : List ℕ) → ((i : ℕ) → Fits w8 (get_or A i 0)) → {a : Answer} → a.code ≡ 0
-    → a ≡ told (read_image (plan_as x y ns) A) → length ns ≤ 1024 → length A < 2 ^ 32
-image_fits x y ns A bytes good e few = image_small ns (image_accepted (plan_as x y ns) A bytes good e) few
+pub image_fits : (x y : ℕ) (ns : List Kind) (A : List ℕ) → ((i : ℕ) → Fits w8 (get_or A i 0)) → {a : Answer} → a.code ≡ 0
+    → a ≡ told (read_image (plan_with x y ns) A) → length ns ≤ 1024 → length A < 2 ^ 32
+image_fits x y ns A bytes good e few = image_small ns (image_accepted (plan_with x y ns) A bytes good e) few
 
 module _ (p : Plan) (A b out : List ℕ) (s : Standing) {a : Answer} {r : Advance}
     (n : r ≡ advance_of (nothing_taken [] s a)) where
@@ -65,16 +66,16 @@ module _ (A out : List ℕ) {cs : List ℕ} (c : cs ≡ A) where
   copy_accepted i = rw (copy_is A out c) i
 
   -- it takes the lists; what follows it stays
-  pub lists_taken : (x y : ℕ) (ns : List ℕ) (b : List ℕ) (s : Standing) → length ns ≤ 1024
-      → AcceptedImage (plan_as x y ns) A → ((i : ℕ) → Fits w8 (get_or b i 0)) → length A ≤ length out
+  pub lists_taken : (x y : ℕ) (ns : List Kind) (b : List ℕ) (s : Standing) → length ns ≤ 1024
+      → AcceptedImage (plan_with x y ns) A → ((i : ℕ) → Fits w8 (get_or b i 0)) → length A ≤ length out
       → {r : Advance} {m : List ℕ}
       → Advances
-      (take_lists (plan_as x y ns) (mid_of 0 (length A - 0) (put_mid 0 (length A - 0) out cs)) (forms_in b) s 0) r m
-      → Advances (backlog_under (plan_as x y ns) A b out s) r
+      (take_lists (plan_with x y ns) (mid_of 0 (length A - 0) (put_mid 0 (length A - 0) out cs)) (forms_in b) s 0) r m
+      → Advances (backlog_under (plan_with x y ns) A b out s) r
       (put_mid 0 (length A - 0) (put_mid 0 (length A - 0) out cs) m)
   unfolding backlog_under
   lists_taken x y ns b s few i bytes room {r} {m} q =
-      let p = plan_as x y ns in
+      let p = plan_with x y ns in
       let fair : Fair p = record { count = omega (arith, length_kinds ns) } in
       let g : Backlog = take_lists p A (forms_in b) s 0 in
       let taken : Advances g r m = rw (copy_is A out c) at q in
@@ -103,7 +104,7 @@ module _ {T : List ℕ} {o : Outline} (k : Outlined T o) (A b out : List ℕ) (s
       let f = refused_told (read_plan T) (table_refused k bad (plan_starts T)) bad in
       rw f.1 (n ∙ ap (λ (a : Answer). advance_of (nothing_taken [] s a)) f.2, refl)
 
-  pub table_goes : o.answer.code ≡ 0 → {ns : List ℕ} → ns ≡ take o.count o.kinds → {r : Advance} {m : List ℕ}
-      → Advances (backlog_under (plan_as o.x o.y ns) A b out s) r m → Advances (backlog_call T A b out s) r m
+  pub table_goes : o.answer.code ≡ 0 → {ns : List Kind} → ns ≡ take o.count o.kinds → {r : Advance} {m : List ℕ}
+      → Advances (backlog_under (plan_with o.x o.y ns) A b out s) r m → Advances (backlog_call T A b out s) r m
   unfolding backlog_call
   table_goes good e q = rw (k.plan good) (rw e at q)

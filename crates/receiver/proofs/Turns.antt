@@ -1,6 +1,7 @@
 -- The turns of a backlog's loop: what the whole backlog comes to, and what is left of it comes to the same.
 -- Assumes nothing.
 use Prim.Native.Nat.{ℕ, suc, ◌+◌, ◌-◌, ◌^◌, ◌≤◌, ◌<◌}
+use Rattle.kinds.specs.declared.Kind.{Kind}
 use native.Mathlib.Omega.{arith}
 use native.Mathlib.Numerals.{add-one}
 use mathlib.Core.Path.{◌≡◌, refl, sym, ap, ◌∙◌}
@@ -24,16 +25,16 @@ use Rattle.history.proofs.FrontLaws.{after_is, front_some, front_short, front_by
 use Rattle.history.proofs.ImageLaws.{widths_few, image_long}
 use Rattle.history.proofs.CodeLaws.{apply_coded, zero_told}
 use Rattle.history.proofs.AcceptedLaws.{after_list}
-use Rattle.tables.specs.Outlines.{kinds_of, plan_as}
+use Rattle.tables.specs.Plans.{plan_with}
 use Rattle.forms.proofs.KindLaws.{length_kinds}
 use Rattle.receiver.specs.declared.backlog.Turn.{Turn}
 use Rattle.receiver.specs.Backlogs.{Advances, Turned}
 
 -- the length of an accepted image fits in 32 bits
-pub image_small : {x y : ℕ} (ns : List ℕ) {A : List ℕ} → AcceptedImage (plan_as x y ns) A → length ns ≤ 1024
+pub image_small : {x y : ℕ} (ns : List Kind) {A : List ℕ} → AcceptedImage (plan_with x y ns) A → length ns ≤ 1024
     → length A < 2 ^ 32
 image_small ns {A} a few =
-    omega (arith, ap length a.same ∙ image_long a.legal, widths_few (kinds_of ns), length_kinds ns)
+    omega (arith, ap length a.same ∙ image_long a.legal, widths_few ns, length_kinds ns)
 
 -- the first form as `heads` says it is the one of the meaning
 front_same : (b : List ℕ) → Heads.front_form b ≡ front_form b
@@ -52,36 +53,36 @@ turned b at {L = L} h e q =
     record { answer = rw f at q.0; size = ap length f; image = rw f at q.1 }
 
 -- n lists and `at` bytes of b are taken, which led to the image A and the standing s
-pub record Taking (x y : ℕ) (ns b A₀ : List ℕ) (s₀ : Standing) (A : List ℕ) (s : Standing) (n at : ℕ) : Type 0 where
-  pub same : take_lists (plan_as x y ns) A₀ (forms_in b) s₀ 0 ≡ take_lists (plan_as x y ns) A (forms_in (drop at b)) s n
-  pub accepted : AcceptedImage (plan_as x y ns) A
+pub record Taking (x y : ℕ) (ns : List Kind) (b A₀ : List ℕ) (s₀ : Standing) (A : List ℕ) (s : Standing) (n at : ℕ) : Type 0 where
+  pub same : take_lists (plan_with x y ns) A₀ (forms_in b) s₀ 0 ≡ take_lists (plan_with x y ns) A (forms_in (drop at b)) s n
+  pub accepted : AcceptedImage (plan_with x y ns) A
   pub inside : at ≤ length b
   pub few : n ≤ at
   pub long : length A ≡ length A₀
 
-pub none_yet : {x y : ℕ} {ns A : List ℕ} (b : List ℕ) (s : Standing) → AcceptedImage (plan_as x y ns) A
+pub none_yet : {x y : ℕ} {ns : List Kind} {A : List ℕ} (b : List ℕ) (s : Standing) → AcceptedImage (plan_with x y ns) A
     → Taking x y ns b A s A s 0 0
 none_yet b s a = record { same = refl; accepted = a; inside = omega arith; few = omega arith; long = refl }
 
-module _ {x y : ℕ} {ns b A₀ : List ℕ} {s₀ : Standing} {A : List ℕ} {s : Standing} {n at : ℕ}
+module _ {x y : ℕ} {ns : List Kind} {b A₀ : List ℕ} {s₀ : Standing} {A : List ℕ} {s : Standing} {n at : ℕ}
     (z : Taking x y ns b A₀ s₀ A s n at) where
   pub keeps : length A ≡ length A₀
   keeps = z.long
 
   -- no byte is left
   pub all_taken : length b ≤ at → {q : Answer} {size : ℕ} → size ≡ length A₀ → q ≡ unnamed 0 size
-      → Advances (take_lists (plan_as x y ns) A₀ (forms_in b) s₀ 0)
+      → Advances (take_lists (plan_with x y ns) A₀ (forms_in b) s₀ 0)
       (record { progress = record { answer = q; taken = n }; standing = s }) A
   all_taken h {q} {size} es eq =
       let all : at ≡ length b = omega (arith, z.inside) in
       let over : drop at b ≡ [] = ap (λ (n : ℕ). drop n b) all ∙ drop-length b in
       let whole =
-      z.same ∙ ap (λ (c : List ℕ). take_lists (plan_as x y ns) A (forms_in c) s n) over
-      ∙ ap (λ (Ls : List (List ℕ)). take_lists (plan_as x y ns) A Ls s n) forms_none in
+      z.same ∙ ap (λ (c : List ℕ). take_lists (plan_with x y ns) A (forms_in c) s n) over
+      ∙ ap (λ (Ls : List (List ℕ)). take_lists (plan_with x y ns) A Ls s n) forms_none in
       rw (whole, eq, es ∙ sym z.long) (refl, refl)
 
   -- the next list is taken or refused
-  module _ (h : at < length b) {r : Turn} {m : List ℕ} (t : Turned (plan_as x y ns) (drop at b) A r m) where
+  module _ (h : at < length b) {r : Turn} {m : List ℕ} (t : Turned (plan_with x y ns) (drop at b) A r m) where
     left : 0 < length (drop at b)
     left = rw (length-drop at b) (omega arith)
 
@@ -91,23 +92,23 @@ module _ {x y : ℕ} {ns b A₀ : List ℕ} {s₀ : Standing} {A : List ℕ} {s 
     pub turn_inside : at + r.size ≤ length b
     turn_inside = omega (arith, t.size, front_short (drop at b), length-drop at b)
 
-    whole : take_lists (plan_as x y ns) A₀ (forms_in b) s₀ 0
-        ≡ decide (apply_under (plan_as x y ns) A (front_form (drop at b))) (ended A s n)
-        (λ B. take_lists (plan_as x y ns) B (forms_in (drop (at + r.size) b)) (counted 0 s) (suc n))
+    whole : take_lists (plan_with x y ns) A₀ (forms_in b) s₀ 0
+        ≡ decide (apply_under (plan_with x y ns) A (front_form (drop at b))) (ended A s n)
+        (λ B. take_lists (plan_with x y ns) B (forms_in (drop (at + r.size) b)) (counted 0 s) (suc n))
     whole =
         let rest = after_is (drop at b) ∙ drop-drop (length (front_form (drop at b))) at b
         ∙ ap (λ (k : ℕ). drop (at + k) b) (sym t.size) in
         z.same
-        ∙ ap (λ (Ls : List (List ℕ)). take_lists (plan_as x y ns) A Ls s n)
+        ∙ ap (λ (Ls : List (List ℕ)). take_lists (plan_with x y ns) A Ls s n)
         (forms_more (drop at b) left ∙ ap (λ (c : List ℕ). front_form (drop at b) ∷ forms_in c) rest)
 
     -- the image after the list, whether it is taken or refused, is accepted and as long
     module _ (few : length ns ≤ 1024) (bytes : (i : ℕ) → Fits w8 (get_or b i 0)) where
-      after : AcceptedImage (plan_as x y ns) m × (length m ≡ length A)
-      after = rw t.image (go (apply_under (plan_as x y ns) A (front_form (drop at b))) refl)
+      after : AcceptedImage (plan_with x y ns) m × (length m ≡ length A)
+      after = rw t.image (go (apply_under (plan_with x y ns) A (front_form (drop at b))) refl)
         where
-          go : (v : Verdict (List ℕ)) → apply_under (plan_as x y ns) A (front_form (drop at b)) ≡ v
-              → AcceptedImage (plan_as x y ns) (value_or A v) × (length (value_or A v) ≡ length A)
+          go : (v : Verdict (List ℕ)) → apply_under (plan_with x y ns) A (front_form (drop at b)) ≡ v
+              → AcceptedImage (plan_with x y ns) (value_or A v) × (length (value_or A v) ≡ length A)
           go (refused f) e = (z.accepted, refl)
           go (done B) e =
               after_list (record { count = omega (arith, length_kinds ns) }) (front_form (drop at b)) z.accepted
@@ -119,18 +120,18 @@ module _ {x y : ℕ} {ns b A₀ : List ℕ} {s₀ : Standing} {A : List ℕ} {s 
     module _ {k : Standing} (c : k ≡ counted r.answer.code s) where
       pub turn_refused : (r.answer.code ≡ 0 → ⊥) → {q : Answer} {size : ℕ} → size ≡ length A₀
           → q ≡ of_length size r.answer
-          → Advances (take_lists (plan_as x y ns) A₀ (forms_in b) s₀ 0)
+          → Advances (take_lists (plan_with x y ns) A₀ (forms_in b) s₀ 0)
           (record { progress = record { answer = q; taken = n }; standing = k }) m
       unfolding told
       turn_refused bad {q} {size} es eq =
-          go (apply_under (plan_as x y ns) A (front_form (drop at b))) whole t.answer t.image
+          go (apply_under (plan_with x y ns) A (front_form (drop at b))) whole t.answer t.image
         where
           go : (v : Verdict (List ℕ))
-              → take_lists (plan_as x y ns) A₀ (forms_in b) s₀ 0
+              → take_lists (plan_with x y ns) A₀ (forms_in b) s₀ 0
               ≡ decide v (ended A s n)
-              (λ B. take_lists (plan_as x y ns) B (forms_in (drop (at + r.size) b)) (counted 0 s) (suc n))
+              (λ B. take_lists (plan_with x y ns) B (forms_in (drop (at + r.size) b)) (counted 0 s) (suc n))
               → r.answer ≡ told v → m ≡ value_or A v
-              → Advances (take_lists (plan_as x y ns) A₀ (forms_in b) s₀ 0)
+              → Advances (take_lists (plan_with x y ns) A₀ (forms_in b) s₀ 0)
               (record { progress = record { answer = q; taken = n }; standing = k }) m
           go (refused f) w e i = rw (w, i, c, eq, es ∙ sym z.long, e) (refl, refl)
           go (done B) w e i = absurd (bad (ap (λ (r : Answer). r.code) e))
@@ -138,7 +139,7 @@ module _ {x y : ℕ} {ns b A₀ : List ℕ} {s₀ : Standing} {A : List ℕ} {s 
       pub turn_taken : length ns ≤ 1024 → ((i : ℕ) → Fits w8 (get_or b i 0)) → r.answer.code ≡ 0
           → Taking x y ns b A₀ s₀ m k (n + 1) (at + r.size)
       turn_taken few bytes good =
-          let p = plan_as x y ns in
+          let p = plan_with x y ns in
           let L : List ℕ = front_form (drop at b) in
           let f =
           zero_told (apply_under p A L) (apply_coded p A L)

@@ -4,7 +4,7 @@ ghost use Rattle.std.specs.Prelude.{◌≡◌, ◌≤◌, [], length, drop};
 ghost use Rattle.history.specs.Form.{forms_in};
 ghost use Rattle.history.specs.Image.{AcceptedImage};
 ghost use Rattle.history.specs.Backlog.{nothing_taken, take_lists, backlog_under};
-ghost use Rattle.tables.specs.Outlines.{plan_as};
+ghost use Rattle.tables.specs.Plans.{plan_in};
 ghost use Rattle.receiver.specs.Backlogs.{advance_of, Advances, Turned};
 
 use super::{Advance, Progress, count};
@@ -12,25 +12,21 @@ use changes::take_under;
 use forms::check_image_under;
 use heads::front_form;
 use history::{Answer, Standing};
-use tables::{short, with_length, written};
+use tables::{Plan, short, with_length, written};
 
 // Checks the image, and that the output has room for it. Then its copy at the front of the output takes the lists.
 pub fn backlog_under(
-    x: u8,
-    y: u8,
-    kinds: &[u8],
+    plan: Plan<'_>,
     image: &[u8],
     lists: &[u8],
     out: &mut [u8],
     standing: Standing,
 ) -> Advance
-    requires { length kinds.now ≤ 1024 }
     ensures { Advances
-        (backlog_under (plan_as x y kinds.now) image.now lists.now out.old
+        (backlog_under (plan_in plan.entry) image.now lists.now out.old
         standing) result out.new }
 {
-    let answer = check_image_under(x, y, kinds, image);
-    if answer.code != 0 {
+    if let Err(answer) = check_image_under(plan, image) {
         return none_taken(answer, standing);
     }
     let size = image.len();
@@ -38,7 +34,7 @@ pub fn backlog_under(
         return none_taken(short(size as u32), standing);
     }
     octets::copy(&mut out[0..size], image);
-    take_lists(x, y, kinds, lists, &mut out[0..size], standing)
+    take_lists(plan, lists, &mut out[0..size], standing)
 }
 
 // Nothing is taken or counted.
@@ -53,17 +49,14 @@ pub fn none_taken(answer: Answer, standing: Standing) -> Advance
 
 // Takes the lists in turn into the image, in place, and counts each.
 fn take_lists(
-    x: u8,
-    y: u8,
-    kinds: &[u8],
+    plan: Plan<'_>,
     lists: &[u8],
     image: &mut [u8],
     standing: Standing,
 ) -> Advance
-    requires kinds_len_bound { length kinds.now ≤ 1024 }
-    requires accepted_image { AcceptedImage (plan_as x y kinds.now) image.old }
+    requires accepted_image { AcceptedImage (plan_in plan) image.old }
     ensures { Advances
-        (take_lists (plan_as x y kinds.now) image.old (forms_in lists.now) standing 0) result
+        (take_lists (plan_in plan.entry) image.old (forms_in lists.now) standing 0) result
         image.new }
 {
     let size = image.len() as u32;
@@ -71,7 +64,7 @@ fn take_lists(
     let mut taken: usize = 0;
     let mut at: usize = 0;
     while at < lists.len() {
-        let turn = take_next(x, y, kinds, lists, at, image);
+        let turn = take_next(plan, lists, at, image);
         let answer = turn.answer;
         counted = count(counted, answer.code);
         if answer.code != 0 {
@@ -103,14 +96,14 @@ struct Turn {
 }
 
 // Takes the list at a place into the image. Bytes that hold none in full are refused as a list is.
-fn take_next(x: u8, y: u8, kinds: &[u8], lists: &[u8], at: usize, image: &mut [u8]) -> Turn
-    requires at_in_bounds { (at ≤ length lists.now) × (length kinds.now ≤ 1024) }
-    requires accepted_image { AcceptedImage (plan_as x y kinds.now) image.old }
-    ensures { Turned (plan_as x y kinds.now) (drop at lists.now) image.old result
+fn take_next(plan: Plan<'_>, lists: &[u8], at: usize, image: &mut [u8]) -> Turn
+    requires at_in_bounds { at ≤ length lists.now }
+    requires accepted_image { AcceptedImage (plan_in plan) image.old }
+    ensures { Turned (plan_in plan.entry) (drop at lists.now) image.old result
         image.new }
 {
     let list = front_form(&lists[at..]);
-    let answer = take_under(x, y, kinds, list, image);
+    let answer = take_under(plan, list, image).into();
     Turn {
         answer,
         size: list.len(),

@@ -14,7 +14,7 @@ ghost use Rattle.receiver.specs.Backlogs.{progress_of, Advances};
 
 use backlog::{backlog_under, none_taken};
 use history::{Answer, Standing};
-use tables::{first_kinds, outline};
+use tables::outline;
 
 // What `received` gives: the answer of the application, and the standing that counts it.
 #[derive(Clone, Copy)]
@@ -123,23 +123,10 @@ pub fn backlog_received(
         (backlog_call table.now image.now lists.now out.old standing) result
         out.new }
 {
-    let known = outline(table);
-    let answer = known.answer;
-    if answer.code != 0 {
-        return none_taken(answer, standing);
+    match outline(table) {
+        Ok(outline) => backlog_under(outline.plan(), image, lists, out, standing),
+        Err(answer) => none_taken(answer, standing),
     }
-    let x = known.x;
-    let y = known.y;
-    let count = known.count;
-    backlog_under(
-        x,
-        y,
-        first_kinds(&known.kinds, count),
-        image,
-        lists,
-        out,
-        standing,
-    )
 }
 
 // Adds one to the tally of the answer's code: 0 is applied, 16 late, 17 gap, any other is other.

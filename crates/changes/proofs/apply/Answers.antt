@@ -1,19 +1,7 @@
--- `changes::apply` meets its contract: a refused table's answer is the whole answer;
--- under an accepted one the other forms decide.
+-- `changes::apply` meets its contract: its numbers are those of what was put.
 -- Assumes nothing.
-use Rattle.history.proofs.OutputLaws.{leaves_as}
-use Rattle.forms.proofs.UnderPlan.{table_leaves, kinds_inside, few_kinds}
-use Rattle.changes.proofs.Calls.{apply_starts, apply_goes}
+use Rattle.history.proofs.OutputLaws.{puts_leave}
 use Rattle.changes.proofs.apply.Goals as goal
 
-pub returns-then-answer-ne0 : goal.returns-then-answer-ne0
-returns-then-answer-ne0 c = table_leaves c.outline-known.ensures c.if-answer-ne0.true (apply_starts _ _ _) _
-
-pub first_kinds-requires : goal.first_kinds-requires
-first_kinds-requires c = search kinds_inside
-
-pub apply_under-requires : goal.apply_under-requires
-apply_under-requires c = search few_kinds
-
 pub returns : goal.returns
-returns c = leaves_as _ (search apply_goes) c.apply_under.ensures
+returns c = rw c.into.ensures (puts_leave _ _ c.put_apply.ensures)

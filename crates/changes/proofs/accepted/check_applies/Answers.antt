@@ -1,9 +1,7 @@
 -- `changes::accepted::check_applies` meets its contract: the positions, then the lowest misfit.
 -- Assumes nothing.
-use borrow.Author.Rules.{rules}
-use Rattle.tables.proofs.AnswerLaws.{told_refused}
 use Rattle.heads.proofs.Parts.{image_inside, list_inside}
-use Rattle.changes.proofs.Outcomes.{elements_sized, apply_late, apply_gap, apply_misfits, apply_fits}
+use Rattle.changes.proofs.Outcomes.{refuses, elements_sized, apply_late, apply_gap, apply_misfits, apply_fits}
 use Rattle.changes.proofs.accepted.check_applies.Goals as goal
 
 pub position_of-position-requires : goal.position_of-position-requires
@@ -13,10 +11,10 @@ pub from_of-from-requires : goal.from_of-from-requires
 from_of-from-requires c = search list_inside
 
 pub returns-then-from-position : goal.returns-then-from-position
-returns-then-from-position c = told_refused _ (search apply_late) c.refused.ensures
+returns-then-from-position c = refuses _ (search apply_late) c.refused.ensures
 
 pub returns-then-position-from : goal.returns-then-position-from
-returns-then-position-from c = told_refused _ (search apply_gap) c.refused-then-position-from.ensures
+returns-then-position-from c = refuses _ (search apply_gap) c.refused-then-position-from.ensures
 
 pub entries_of-requires : goal.entries_of-requires
 entries_of-requires c = search list_inside
@@ -25,10 +23,10 @@ pub elements_of-requires : goal.elements_of-requires
 elements_of-requires c = search image_inside
 
 pub find_unfit-object-requires : goal.find_unfit-object-requires
-find_unfit-object-requires c = record { kinds_len_bound = search rules; elements_len = search elements_sized }
+find_unfit-object-requires c = record { elements_len = search elements_sized }
 
-pub returns-then-object-kinds : goal.returns-then-object-kinds
-returns-then-object-kinds c = told_refused _ (search apply_misfits) c.refused_at.ensures
+pub returns-then-object-plan : goal.returns-then-object-plan
+returns-then-object-plan c = refuses _ (search apply_misfits) c.refused_at.ensures
 
 pub returns : goal.returns
 returns c = search apply_fits

@@ -1,8 +1,7 @@
 -- `changes::accepted::write_difference` meets its contract:
 -- the walk over two accepted images' elements finds their difference.
 -- Assumes nothing.
-use borrow.Author.Rules.{rules}
-use Rattle.history.proofs.OutputLaws.{leaves_as}
+use Rattle.history.proofs.OutputLaws.{puts_as}
 use Rattle.heads.proofs.Parts.{image_inside}
 use Rattle.changes.proofs.Outcomes.{elements_sized, difference_is}
 use Rattle.changes.proofs.accepted.write_difference.Goals as goal
@@ -21,22 +20,10 @@ elements_of-new-requires c = search image_inside
 
 pub measure_difference-size-requires : goal.measure_difference-size-requires
 measure_difference-size-requires c =
-    record {
-      kinds_len_bound = search rules;
-      elements_long = record { first = search elements_sized; second = search elements_sized };
-    }
+    record { elements_long = record { first = search elements_sized; second = search elements_sized } }
 
-pub write_list-requires : goal.write_list-requires
-write_list-requires c =
-    record {
-      kinds_len_bound = search rules;
-      asked = record { first = search elements_sized; second = search elements_sized };
-      measured = search rules;
-    }
+pub write_list-requires-clause-asked : goal.write_list-requires-clause-asked
+write_list-requires-clause-asked c = record { first = search elements_sized; second = search elements_sized }
 
 pub returns : goal.returns
-returns c = leaves_as _
-    (difference_is _ _ _ c.requires.kinds_len_bound c.requires.accepted_image c.requires.accepted_image_2
-    c.position_of-from.ensures
-    c.position_of-to.ensures c.elements_of-old.ensures c.elements_of-new.ensures)
-    c.write_list.ensures
+returns c = puts_as _ (search difference_is) c.write_list.ensures

@@ -1,10 +1,12 @@
 -- `changes::accepted::write_joined` meets its contract: the positions, then the lowest object on which the lists do not
 -- agree, else the list is written.
 -- Assumes nothing.
-use borrow.Author.Rules.{rules}
-use Rattle.history.proofs.OutputLaws.{leaves_as, refused_leaves}
+use Rattle.history.proofs.OutputLaws.{puts_as, refused_puts}
+use native.Mathlib.Omega.{arith}
+use mathlib.Core.Path.{ap}
+use Rattle.std.specs.Prelude.{Err}
 use Rattle.heads.proofs.Parts.{list_inside}
-use Rattle.changes.proofs.Outcomes.{join_apart, join_misfits, join_size, join_is}
+use Rattle.changes.proofs.Outcomes.{join_apart, join_misfits, join_is}
 use Rattle.changes.proofs.accepted.write_joined.Goals as goal
 
 pub to_of-end-requires : goal.to_of-end-requires
@@ -14,7 +16,7 @@ pub from_of-start-requires : goal.from_of-start-requires
 from_of-start-requires c = search list_inside
 
 pub returns-then-end-start : goal.returns-then-end-start
-returns-then-end-start c = refused_leaves _ _ (search join_apart) c.refused.ensures
+returns-then-end-start c = refused_puts _ _ (search join_apart) (ap Err c.refused.ensures)
 
 pub entries_of-one-requires : goal.entries_of-one-requires
 entries_of-one-requires c = search list_inside
@@ -22,8 +24,8 @@ entries_of-one-requires c = search list_inside
 pub entries_of-other-requires : goal.entries_of-other-requires
 entries_of-other-requires c = search list_inside
 
-pub returns-then-object-kinds : goal.returns-then-object-kinds
-returns-then-object-kinds c = refused_leaves _ _ (search join_misfits) c.refused_at.ensures
+pub returns-then-object-plan : goal.returns-then-object-plan
+returns-then-object-plan c = refused_puts _ _ (search join_misfits) (ap Err c.refused_at.ensures)
 
 pub from_of-from-requires : goal.from_of-from-requires
 from_of-from-requires c = search list_inside
@@ -31,13 +33,10 @@ from_of-from-requires c = search list_inside
 pub to_of-to-requires : goal.to_of-to-requires
 to_of-to-requires c = search list_inside
 
-pub write_list-requires : goal.write_list-requires
-write_list-requires c = record { kinds_len_bound = search rules; asked = tt {0}; measured = search join_size }
-
 pub returns : goal.returns
-returns c = leaves_as _
-    (join_is _ _ _ c.requires.kinds_len_bound c.requires.accepted_list c.requires.accepted_list_2
-    c.to_of-end.ensures c.from_of-start.ensures
-    c.if-end-start.false c.entries_of-one.ensures c.entries_of-other.ensures
-    c.measure_join-known.ensures.found c.if-object-kinds.false c.from_of-from.ensures c.to_of-to.ensures)
+returns c =
+    puts_as _
+    (join_is _ _ _ c.args.plan.few c.requires.accepted_list c.requires.accepted_list_2 c.to_of-end.ensures
+    c.from_of-start.ensures (omega arith) c.entries_of-one.ensures c.entries_of-other.ensures
+    c.measure_join-known.ensures.found (omega arith) c.from_of-from.ensures c.to_of-to.ensures)
     c.write_list.ensures

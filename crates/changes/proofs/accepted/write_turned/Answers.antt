@@ -1,8 +1,7 @@
 -- `changes::accepted::write_turned` meets its contract: the walk over an accepted list's entries turns each back.
 -- Assumes nothing.
-use borrow.Author.Rules.{rules}
 use Rattle.heads.proofs.Parts.{list_inside}
-use Rattle.history.proofs.OutputLaws.{leaves_as}
+use Rattle.history.proofs.OutputLaws.{puts_as}
 use Rattle.changes.proofs.Outcomes.{turn_size, turn_is}
 use Rattle.changes.proofs.accepted.write_turned.Goals as goal
 
@@ -18,8 +17,8 @@ entries_of-entries-requires c = search list_inside
 pub entry_count-requires : goal.entry_count-requires
 entry_count-requires c = search list_inside
 
-pub write_list-requires : goal.write_list-requires
-write_list-requires c = record { kinds_len_bound = search rules; asked = tt {0}; measured = search turn_size }
+pub write_list-requires-clause-measured : goal.write_list-requires-clause-measured
+write_list-requires-clause-measured c = search turn_size
 
 pub returns : goal.returns
-returns c = leaves_as _ (search turn_is) c.write_list.ensures
+returns c = puts_as _ (search turn_is) c.write_list.ensures

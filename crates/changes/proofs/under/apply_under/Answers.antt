@@ -2,18 +2,20 @@
 -- where both forms are accepted the operation decides.
 -- Assumes nothing.
 use Rattle.forms.proofs.Accepted.{image_accepted, list_accepted}
-use Rattle.changes.proofs.Calls.{apply_first, apply_second}
+use Rattle.changes.proofs.Calls.{passed, apply_first, apply_second}
 use Rattle.changes.proofs.under.apply_under.Goals as goal
 
-pub returns-then-one-ne0 : goal.returns-then-one-ne0
-returns-then-one-ne0 c = apply_first _ _ _ _ c.if-one-ne0.true (search)
+pub returns-in_err-check_image_under : goal.returns-in_err-check_image_under
+returns-in_err-check_image_under c =
+    passed _ _ c.from_residual.ensures.1 (apply_first _ _ _ _ c.in_err-check_image_under.ensures)
 
-pub returns-then-other-ne0 : goal.returns-then-other-ne0
-returns-then-other-ne0 c = apply_second _ _ _ _ c.if-other-ne0.true (search image_accepted) (search)
+pub returns-in_err-check_list_under : goal.returns-in_err-check_list_under
+returns-in_err-check_list_under c =
+    passed _ _ c.from_residual-in_err-check_list_under.ensures.1
+    (apply_second _ _ _ _ (image_accepted _ _ c.type_inv.image c.in_ok-check_image_under.ensures) c.in_err-check_list_under.ensures)
 
-pub write_applied-requires : goal.write_applied-requires
-write_applied-requires c =
-    record { kinds_len_bound = search; accepted_image = search image_accepted; accepted_list = search list_accepted }
+pub write_applied-requires-clause-accepted_image : goal.write_applied-requires-clause-accepted_image
+write_applied-requires-clause-accepted_image c = image_accepted _ _ c.type_inv.image c.in_ok-check_image_under.ensures
 
-pub returns : goal.returns
-returns c = c.write_applied.ensures
+pub write_applied-requires-clause-accepted_list : goal.write_applied-requires-clause-accepted_list
+write_applied-requires-clause-accepted_list c = list_accepted _ _ c.type_inv.list c.in_ok-check_list_under.ensures

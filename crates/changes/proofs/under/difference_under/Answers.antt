@@ -2,22 +2,20 @@
 -- where both forms are accepted the operation decides.
 -- Assumes nothing.
 use Rattle.forms.proofs.Accepted.{image_accepted}
-use Rattle.changes.proofs.Calls.{difference_first, difference_second}
+use Rattle.changes.proofs.Calls.{passed, difference_first, difference_second}
 use Rattle.changes.proofs.under.difference_under.Goals as goal
 
-pub returns-then-one-ne0 : goal.returns-then-one-ne0
-returns-then-one-ne0 c = difference_first _ _ _ _ c.if-one-ne0.true (search)
+pub returns-in_err-check_image_under : goal.returns-in_err-check_image_under
+returns-in_err-check_image_under c =
+    passed _ _ c.from_residual.ensures.1 (difference_first _ _ _ _ c.in_err-check_image_under.ensures)
 
-pub returns-then-other-ne0 : goal.returns-then-other-ne0
-returns-then-other-ne0 c = difference_second _ _ _ _ c.if-other-ne0.true (search image_accepted) (search)
+pub returns-in_err-check_image_under-2 : goal.returns-in_err-check_image_under-2
+returns-in_err-check_image_under-2 c =
+    passed _ _ c.from_residual-in_err-check_image_under-2.ensures.1
+    (difference_second _ _ _ _ (image_accepted _ _ c.type_inv.a c.in_ok-check_image_under.ensures) c.in_err-check_image_under-2.ensures)
 
-pub write_difference-requires : goal.write_difference-requires
-write_difference-requires c =
-    record {
-      kinds_len_bound = search;
-      accepted_image = search image_accepted;
-      accepted_image_2 = search image_accepted;
-    }
+pub write_difference-requires-clause-accepted_image : goal.write_difference-requires-clause-accepted_image
+write_difference-requires-clause-accepted_image c = image_accepted _ _ c.type_inv.a c.in_ok-check_image_under.ensures
 
-pub returns : goal.returns
-returns c = c.write_difference.ensures
+pub write_difference-requires-clause-accepted_image_2 : goal.write_difference-requires-clause-accepted_image_2
+write_difference-requires-clause-accepted_image_2 c = image_accepted _ _ c.type_inv.b c.in_ok-check_image_under-2.ensures

@@ -2,18 +2,20 @@
 -- where both forms are accepted the operation decides.
 -- Assumes nothing.
 use Rattle.forms.proofs.Accepted.{list_accepted}
-use Rattle.changes.proofs.Calls.{join_first, join_second}
+use Rattle.changes.proofs.Calls.{passed, join_first, join_second}
 use Rattle.changes.proofs.under.join_under.Goals as goal
 
-pub returns-then-one-ne0 : goal.returns-then-one-ne0
-returns-then-one-ne0 c = join_first _ _ _ _ c.if-one-ne0.true (search)
+pub returns-in_err-check_list_under : goal.returns-in_err-check_list_under
+returns-in_err-check_list_under c =
+    passed _ _ c.from_residual.ensures.1 (join_first _ _ _ _ c.in_err-check_list_under.ensures)
 
-pub returns-then-other-ne0 : goal.returns-then-other-ne0
-returns-then-other-ne0 c = join_second _ _ _ _ c.if-other-ne0.true (search list_accepted) (search)
+pub returns-in_err-check_list_under-2 : goal.returns-in_err-check_list_under-2
+returns-in_err-check_list_under-2 c =
+    passed _ _ c.from_residual-in_err-check_list_under-2.ensures.1
+    (join_second _ _ _ _ (list_accepted _ _ c.type_inv.first c.in_ok-check_list_under.ensures) c.in_err-check_list_under-2.ensures)
 
-pub write_joined-requires : goal.write_joined-requires
-write_joined-requires c =
-    record { kinds_len_bound = search; accepted_list = search list_accepted; accepted_list_2 = search list_accepted }
+pub write_joined-requires-clause-accepted_list : goal.write_joined-requires-clause-accepted_list
+write_joined-requires-clause-accepted_list c = list_accepted _ _ c.type_inv.first c.in_ok-check_list_under.ensures
 
-pub returns : goal.returns
-returns c = c.write_joined.ensures
+pub write_joined-requires-clause-accepted_list_2 : goal.write_joined-requires-clause-accepted_list_2
+write_joined-requires-clause-accepted_list_2 c = list_accepted _ _ c.type_inv.second c.in_ok-check_list_under-2.ensures
