@@ -5,9 +5,10 @@ use native.Mathlib.Omega.{arith}
 use mathlib.Core.Path.{◌≡◌, refl, sym, ap, ◌∙◌}
 use mathlib.Core.Bool.{Bool, true, false}
 use mathlib.Core.List.{List}
+use Rattle.std.specs.Prelude.{Ok, Err}
 use lib.Dec.{eqb, ltb, eqb→eq, ltb→lt}
 use lib.ListN.{length, get_or}
-use borrow.Author.Tests.{eq-eqb, ne_eqb, eqb-true, ltb-true}
+use borrow.Author.Tests.{eq-eqb, ne_eqb, eqb-true}
 use Rattle.rows.specs.Rows.{layouts}
 use Rattle.rows.specs.Values.{code_at}
 use Rattle.rows.specs.declared.Finding.{Finding}
@@ -17,7 +18,7 @@ use Rattle.kinds.specs.declared.Kind.{Kind}
 use Rattle.kinds.specs.declared.Element.{Element}
 use Rattle.kinds.specs.declared.OptionalKind.{OptionalKind}
 use Rattle.kinds.proofs.Lookup.{every_line}
-use Rattle.kinds.proofs.KindLaws.{every_kind, kind_found, element_kind}
+use Rattle.kinds.proofs.KindLaws.{kind_found, element_kind}
 use Rattle.elements.specs.Elements.{same_kind, word_of}
 use Rattle.history.specs.declared.Answer.{Answer}
 use Rattle.history.specs.Verdict.{Refused, naming, Verdict, refused, done, then, refusal_at, ◌unless◌⨾◌, numbers, told}
@@ -67,11 +68,7 @@ not_its n j e =
     (λ q. let s : OptionalKind.Some j ≡ OptionalKind.None = sym (kind_found j) ∙ ap find_by_number (sym q) ∙ e in
     absurd (let z : ◌≡◌ {A = ℕ} 0 1 = cc in omega arith))
 
--- no kind has the number 0, nor one above 255
-number_some : (k : Kind) → 0 < layout_no k
-unfolding layouts
-number_some k = ltb-true 0 (layout_no k) (every_kind (λ k. ltb 0 (layout_no k)) (λ k. true) refl k)
-
+-- no kind has a number above 255
 pub none_numbered : (n : ℕ) → 255 < n → OptionalKind.None ≡ find_by_number n
 unfolding layouts
 none_numbered n h = at (find_by_number n) refl
@@ -89,38 +86,38 @@ module _ (i number : ℕ) (f : Refusal) where
   refused_by : Verdict Element → Verdict (List ℕ)
   refused_by v = then v λ was. refusal_at 22 i unless eqb number (layout_no (kind_in was)) ⨾ refused (found_in f i)
 
-  -- a reading whose kind is 0 is a refusal, and its answer is the call's
-  told_before : (v : Verdict Element) {x : Plain} → x ≡ plain_of (reading_of v) → x.kind ≡ 0
-      → x.answer ≡ told (refused_by v)
-  unfolding told reading_of plain_of shown_plain refused_by
-  told_before (refused r) e z = ap (λ (x : Plain). x.answer) e
-  told_before (done s) e z =
-      absurd (let q = number_some (kind_in s) in let w = ap (λ (x : Plain). x.kind) e in omega arith)
+  -- a reading that is refused has the call's answer
+  told_before : (v : Verdict Element) {r : Answer} → Err r ≡ plain_of (reading_of v) → r ≡ told (refused_by v)
+  unfolding told reading_of plain_of refused_by
+  told_before (refused r) e = cc
+  told_before (done s) e = absurd (let z : ◌≡◌ {A = ℕ} 0 1 = cc in omega arith)
 
-  told_after : (v : Verdict Element) {x : Plain} {r : Answer} → x ≡ plain_of (reading_of v) → (x.kind ≡ 0 → ⊥)
-      → (b : Bool) → eqb number x.kind ≡ b
+  told_after : (v : Verdict Element) {x : Plain} {r : Answer} → Ok x ≡ plain_of (reading_of v) → (b : Bool)
+      → eqb number x.kind ≡ b
       → r ≡ told {A = List ℕ} (refusal_at 22 i unless b ⨾ refused (found_in f i)) → r ≡ told (refused_by v)
   unfolding told reading_of plain_of shown_plain refused_by
-  told_after (refused y) e n d q w = absurd (n (ap (λ (x : Plain). x.kind) e))
-  told_after (done s) e n d q w =
+  told_after (refused y) e d q w = absurd (let z : ◌≡◌ {A = ℕ} 0 1 = cc in omega arith)
+  told_after (done s) {x} e d q w =
+      let x-is : x ≡ shown_plain s = cc in
       w ∙ ap (λ (b : Bool). told {A = List ℕ} (refusal_at 22 i unless b ⨾ refused (found_in f i)))
-      (sym q ∙ ap (λ (y : Plain). eqb number y.kind) e)
+      (sym q ∙ ap (λ (y : Plain). eqb number y.kind) x-is)
 
-module _ (t a : List ℕ) (i : ℕ) {x : Plain} (is : x ≡ plain_of (reading_of (read_state_call t a i))) (number : ℕ)
-    (f : Refusal) where
-  pub refuses_first : x.kind ≡ 0 → x.answer ≡ told (state_refused t a i number f)
+module _ (t a : List ℕ) (i number : ℕ) (f : Refusal) where
+  pub refuses_first : {r : Answer} → Err r ≡ plain_of (reading_of (read_state_call t a i))
+      → r ≡ told (state_refused t a i number f)
   unfolding state_refused refused_by
-  refuses_first z = told_before i number f (read_state_call t a i) is z
+  refuses_first = told_before i number f (read_state_call t a i)
 
-  pub refuses_22 : {r : Answer} → (x.kind ≡ 0 → ⊥) → (x.kind ≡ number → ⊥) → r ≡ numbers (naming 22 i 255) 0
-      → r ≡ told (state_refused t a i number f)
-  unfolding state_refused refused_by told
-  refuses_22 n d w = told_after i number f (read_state_call t a i) is n false (ne_eqb number x.kind (λ q. d (sym q))) w
+  module _ {x : Plain} (is : Ok x ≡ plain_of (reading_of (read_state_call t a i))) where
+    pub refuses_22 : {r : Answer} → (x.kind ≡ number → ⊥) → r ≡ numbers (naming 22 i 255) 0
+        → r ≡ told (state_refused t a i number f)
+    unfolding state_refused refused_by told
+    refuses_22 d w = told_after i number f (read_state_call t a i) is false (ne_eqb number x.kind (λ q. d (sym q))) w
 
-  pub refuses_it : {r : Answer} → (x.kind ≡ 0 → ⊥) → x.kind ≡ number → r ≡ numbers (found_in f i) 0
-      → r ≡ told (state_refused t a i number f)
-  unfolding state_refused refused_by told
-  refuses_it n d w = told_after i number f (read_state_call t a i) is n true (eq-eqb number x.kind (sym d)) w
+    pub refuses_it : {r : Answer} → x.kind ≡ number → r ≡ numbers (found_in f i) 0
+        → r ≡ told (state_refused t a i number f)
+    unfolding state_refused refused_by told
+    refuses_it d w = told_after i number f (read_state_call t a i) is true (eq-eqb number x.kind (sym d)) w
 
 pub state_refuses : (t a : List ℕ) (i number : ℕ) (f : Refusal) → Refuses (state_refused t a i number f)
 unfolding state_refused

@@ -3,32 +3,30 @@
 -- Assumes nothing.
 use mathlib.Core.Path.{◌≡◌, refl}
 use mathlib.Core.List.{◌∷◌, ◌++◌}
+use Rattle.std.specs.Prelude.{Ok, Err}
 use lib.ListN.{take, set, replicate}
 use Rattle.rows.specs.Rows.{cells, layouts}
 use Rattle.kinds.specs.declared.Kind.{Kind}
 use Rattle.elements.specs.Elements.{state_of}
 use Rattle.history.proofs.Examples.{computed}
-use Rattle.history.specs.Verdict.{naming, refused, done, numbers, unnamed}
+use Rattle.history.specs.Verdict.{naming, refused, done, numbers}
 use Rattle.history.proofs.Examples.{T, A, C, T3, A3}
-use Rattle.panel.specs.declared.read.Reading.{Reading}
 use Rattle.fields.specs.PlainFields.{shown_plain, plain_of}
 use Rattle.fields.specs.Calls.{write_fields_call}
 
 -- a green high signal; a signal of catalogue 3.0, whose kind is 31;
 -- a track circuit of points whose third row is reserved; a refusal
-pub handed_out : (plain_of (Reading.State (state_of Kind.Signal 0x000001B5))
-    ≡ record { answer = unnamed 0 0; kind = 1; count = 23; fields = 1 ∷ 2 ∷ 11 ∷ 1 ∷ replicate 28 0 })
-    × (plain_of (Reading.State (state_of Kind.SignalV3 0xA00001BD))
-    ≡ record {
-      answer = unnamed 0 0;
+pub handed_out : (plain_of (Ok (state_of Kind.Signal 0x000001B5))
+    ≡ Ok (record { kind = 1; count = 23; fields = 1 ∷ 2 ∷ 11 ∷ 1 ∷ replicate 28 0 }))
+    × (plain_of (Ok (state_of Kind.SignalV3 0xA00001BD))
+    ≡ Ok (record {
       kind = 31;
       count = 24;
       fields = 1 ∷ 2 ∷ 1 ∷ 11 ∷ 1 ∷ replicate 17 0 ++ (2 ∷ 2 ∷ replicate 8 0);
-    })
-    × (plain_of (Reading.State (state_of Kind.PointsTrackCircuit 0x0009))
-    ≡ record { answer = unnamed 0 0; kind = 5; count = 8; fields = 1 ∷ 0 ∷ 1 ∷ replicate 29 0 })
-    × (plain_of (Reading.Refused (numbers (naming 13 7 255) 0))
-    ≡ record { answer = numbers (naming 13 7 255) 0; kind = 0; count = 0; fields = replicate 32 0 })
+    }))
+    × (plain_of (Ok (state_of Kind.PointsTrackCircuit 0x0009))
+    ≡ Ok (record { kind = 5; count = 8; fields = 1 ∷ 0 ∷ 1 ∷ replicate 29 0 }))
+    × (plain_of (Err (numbers (naming 13 7 255) 0)) ≡ Err (numbers (naming 13 7 255) 0))
 unfolding cells layouts state_of shown_plain plain_of
 handed_out = (refl, refl, refl, refl)
 

@@ -21,8 +21,6 @@ use Rattle.rows.specs.declared.Layout.{Layout}
 use Rattle.kinds.specs.Kinds.{layout_of, kind_in, element_values}
 use Rattle.kinds.specs.declared.Kind.{Kind}
 use Rattle.kinds.specs.declared.Element.{Element}
-use Rattle.history.specs.declared.Answer.{Answer}
-use Rattle.history.specs.Verdict.{unnamed}
 use Rattle.rows.proofs.Loops.{fill_store, rows_next}
 use Rattle.fields.specs.PlainFields.{shown, shown_in, shown_plain, spread, check_named}
 use Rattle.fields.specs.declared.Plain.{Plain}
@@ -121,15 +119,15 @@ shown_all {first} {count} {vs} {fields} {n} {k} s h =
     λ i. record { count = size i; fields = so_far i }
 
 -- the fields of a state
-pub state_shown : (e : Element) {k : Kind} {l : Layout} {vs : List ℕ} {s : Shown} {a : Answer} → k ≡ kind_in e
+pub state_shown : (e : Element) {k : Kind} {l : Layout} {vs : List ℕ} {s : Shown} → k ≡ kind_in e
     → l ≡ layout_of k → vs ≡ padded (element_values e)
-    → s ≡ shown_in (layout_rows l) vs → a ≡ unnamed 0 0
-    → ◌≡◌ {A = Plain} (record { answer = a; kind = l.number; count = s.count; fields = s.fields }) (shown_plain e)
+    → s ≡ shown_in (layout_rows l) vs
+    → ◌≡◌ {A = Plain} (record { kind = l.number; count = s.count; fields = s.fields }) (shown_plain e)
 unfolding shown_plain
-state_shown e p q r t u =
+state_shown e p q r t =
     let l-is = q ∙ ap layout_of p in
     let s-is = t ∙ ap₂ (λ (l : Layout) (vs : List ℕ). shown_in (layout_rows l) vs) l-is r in
-    λ i. record { answer = u i; kind = (l-is i).number; count = (s-is i).count; fields = (s-is i).fields }
+    λ i. record { kind = (l-is i).number; count = (s-is i).count; fields = (s-is i).fields }
 
 -- ---- taking in
 

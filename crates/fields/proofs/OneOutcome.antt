@@ -3,6 +3,7 @@
 use Prim.Native.Nat.{ℕ}
 use mathlib.Core.Path.{◌≡◌}
 use mathlib.Core.List.{List}
+use Rattle.std.specs.Prelude.{Result}
 use Rattle.history.specs.declared.Answer.{Answer}
 use Rattle.history.specs.Verdict.{Leaves}
 use Rattle.history.specs.Calls.{read_state_call}
@@ -13,7 +14,7 @@ use Rattle.fields.specs.PlainFields.{plain_of}
 use Rattle.fields.specs.Calls.{write_fields_call}
 
 module _ (T A : List ℕ) (i : ℕ) where
-  pub one_fields_read : {r r' : Plain} → r ≡ plain_of (reading_of (read_state_call T A i))
+  pub one_fields_read : {r r' : Result Plain Answer} → r ≡ plain_of (reading_of (read_state_call T A i))
       → r' ≡ plain_of (reading_of (read_state_call T A i)) → r ≡ r'
   one_fields_read = one_outcome
 

@@ -6,6 +6,7 @@ use native.Mathlib.Omega.{arith}
 use mathlib.Core.Path.{◌≡◌, refl, sym, ap, ap₂, ◌∙◌}
 use mathlib.Core.Bool.{Bool, true, false, cond}
 use mathlib.Core.List.{List, [], ◌∷◌, ◌++◌}
+use Rattle.std.specs.Prelude.{Ok}
 use lib.Dec.{eqb, leb}
 use lib.ListN.{length, get_or, take, drop}
 use lib.Seq.{length-take-le}
@@ -21,7 +22,7 @@ use Rattle.kinds.specs.declared.Kind.{Kind}
 use Rattle.kinds.specs.declared.Element.{Element}
 use Rattle.kinds.proofs.KindLaws.{element_listed, element_kind}
 use Rattle.elements.proofs.Covering.{cover}
-use Rattle.history.specs.Verdict.{Verdict, done, refusal_at, ◌unless◌⨾◌, unnamed}
+use Rattle.history.specs.Verdict.{Verdict, done, refusal_at, ◌unless◌⨾◌}
 use Rattle.history.specs.Image.{◌of◌⨾◌, is_accepted}
 use Rattle.history.specs.Calls.{read_state_call, write_state_call}
 use Rattle.history.proofs.VerdictLaws.{held, used}
@@ -125,12 +126,7 @@ after_unseen T A i number F G position h =
 -- a reading with the kind's own fields of F, then zeros
 abbrev pub own_of : ℕ → Kind → List ℕ → Plain
 own_of number k F =
-    record {
-      answer = unnamed 0 0;
-      kind = number;
-      count = own (rows_of k);
-      fields = filled 32 (take (own (rows_of k)) F);
-    }
+    record { kind = number; count = own (rows_of k); fields = filled 32 (take (own (rows_of k)) F) }
 
 -- a state made of fields with named cases gives them back
 shown_made : (k : Kind) (F : List ℕ) → length F ≡ 32 → is_accepted (check_named (rows_of k) (values_in k F)) ≡ true
@@ -148,23 +144,22 @@ shown_made k F long ok =
     let fields : shown rs (padded vs) ≡ take (own rs) F = shown_spread rs F _ few in
     ap₂ (λ (j : Kind) (us : List ℕ).
     record {
-      answer = unnamed 0 0;
       kind = layout_no j;
       count = length (shown (rows_of j) (padded us));
       fields = filled 32 (shown (rows_of j) (padded us));
     })
     (element_kind k (padded vs)) values
     ∙ ap (λ (us : List ℕ).
-    record { answer = unnamed 0 0; kind = layout_no k; count = length us; fields = filled 32 us }) fields
+    record { kind = layout_no k; count = length us; fields = filled 32 us }) fields
     ∙ ap (λ (n : ℕ).
-    record { answer = unnamed 0 0; kind = layout_no k; count = n; fields = filled 32 (take (own rs) F) })
+    record { kind = layout_no k; count = n; fields = filled 32 (take (own rs) F) })
     (length-take-le (own rs) F few)
 
 -- fields that were written are read back, under their number: the kind's own, whatever comes after them
 pub made_read : (T A : List ℕ) (i number : ℕ) (F : List ℕ) (position : ℕ) {B : List ℕ} → Bytes A → length F ≡ 32
     → position < 2 ^ 32
     → write_fields_call T A i number F position ≡ done B
-    → (k : Kind) × (number ≡ layout_no k) × (plain_of (reading_of (read_state_call T B i)) ≡ own_of number k F)
+    → (k : Kind) × (number ≡ layout_no k) × (plain_of (reading_of (read_state_call T B i)) ≡ Ok (own_of number k F))
 unfolding write_fields_call reading_of plain_of
 made_read T A i number F position ha long small e =
     let was = used (read_state_call T A i) _ e in
@@ -177,6 +172,6 @@ made_read T A i number F position ha long small e =
     let read = write_then_read T A i (element_of k (values_in k F)) position ha small v.1 in (
       k,
       is,
-      ap (λ (s : Verdict Element). plain_of (reading_of s)) read ∙ shown_made k F long v.0
-          ∙ ap (λ (n : ℕ). own_of n k F) (sym is),
+      ap (λ (s : Verdict Element). plain_of (reading_of s)) read ∙ ap Ok (shown_made k F long v.0
+          ∙ ap (λ (n : ℕ). own_of n k F) (sym is)),
     )

@@ -5,6 +5,7 @@ use native.Mathlib.Omega.{arith}
 use mathlib.Core.Path.{◌≡◌, refl, ap, ◌∙◌}
 use mathlib.Core.Bool.{Bool, true, false}
 use mathlib.Core.List.{List, [], ◌∷◌, ◌++◌}
+use Rattle.std.specs.Prelude.{Ok}
 use lib.Dec.{eqb}
 use borrow.Author.Tests.{eqb-true, le-leb}
 use Rattle.octets.specs.Octets.{Bytes}
@@ -16,7 +17,7 @@ use Rattle.kinds.specs.Kinds.{rows_of, kind_in, element_of, element_values}
 use Rattle.kinds.specs.declared.Element.{Element}
 use Rattle.kinds.proofs.KindLaws.{kind_found, element_back}
 use Rattle.elements.proofs.Laws.{state_within}
-use Rattle.history.specs.Verdict.{done}
+use Rattle.history.specs.Verdict.{Verdict, done}
 use Rattle.history.specs.Image.{Image}
 use Rattle.history.specs.Calls.{image_call, read_state_call, write_state_call}
 use Rattle.history.proofs.Demands.{read_then_write}
@@ -73,13 +74,16 @@ module _ (T A : List ℕ) (i : ℕ) where
       writes T A i (shown_plain e).kind (shown_plain e).fields position (kind_found (kind_in e)) (handed_named e)
       ∙ ap (λ (s : Element). write_state_call T A i s position) (handed_back e)
 
-  module _ {x : Plain} {e : Element} (is : x ≡ plain_of (reading_of (read_state_call T A i)))
+  module _ {x : Plain} {e : Element} (is : Ok x ≡ plain_of (reading_of (read_state_call T A i)))
       (q : read_state_call T A i ≡ done e) where
     -- fields that were read, handed in for the same object, write the state that was read
     pub read_handed_in : (position : ℕ)
         → write_fields_call T A i x.kind x.fields position ≡ write_state_call T A i e position
     unfolding reading_of plain_of
-    read_handed_in position = rw (is, q) (handed_in e position)
+    read_handed_in position =
+        let read = is ∙ ap (λ (v : Verdict Element). plain_of (reading_of v)) q in
+        let x-is : x ≡ shown_plain e = cc in
+        rw x-is (handed_in e position)
 
     -- at the image's own position that gives the image
     pub image_again : {a : Image} → Bytes A → image_call T A ≡ done a

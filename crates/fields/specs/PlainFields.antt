@@ -1,14 +1,13 @@
 -- A state's fields as numbers: the values of fields that are not reserved, from bit 0 up, in
 -- the first of 32 places, then zeros.
-use Rattle.std.specs.Prelude.{ℕ, cond, List, [], ◌∷◌, leb, eqb, length, replicate, get_or, drop}
+use Rattle.std.specs.Prelude.{ℕ, cond, List, [], ◌∷◌, leb, eqb, length, get_or, drop, Result, Ok, Err}
 use Rattle.rows.specs.Rows.{Row}
 use Rattle.rows.specs.Values.{code_at, filled, padded}
 use Rattle.rows.specs.declared.Finding.{Finding}
 use Rattle.kinds.specs.Kinds.{layout_no, rows_of, kind_in, element_values}
 use Rattle.kinds.specs.declared.Kind.{Kind}
 use Rattle.kinds.specs.declared.Element.{Element}
-use Rattle.history.specs.Verdict.{unnamed}
-use Rattle.panel.specs.declared.read.Reading.{Reading}
+use Rattle.history.specs.declared.Answer.{Answer}
 use Rattle.fields.specs.declared.Plain.{Plain}
 use Rattle.fields.specs.declared.by_rows.Shown.{Shown}
 
@@ -26,20 +25,15 @@ shown_in rs vs = record { count = length (shown rs vs); fields = filled 32 (show
 abbrev pub fields_of : Element → Shown
 fields_of e = shown_in (rows_of (kind_in e)) (padded (element_values e))
 
--- a state as numbers; success writes no bytes
+-- a state as numbers
 unfoldable pub shown_plain : Element → Plain
 shown_plain e =
-    record {
-      answer = unnamed 0 0;
-      kind = layout_no (kind_in e);
-      count = (fields_of e).count;
-      fields = (fields_of e).fields;
-    }
+    record { kind = layout_no (kind_in e); count = (fields_of e).count; fields = (fields_of e).fields }
 
--- a refused reading gives a code and no state
-unfoldable pub plain_of : Reading → Plain
-plain_of (Reading.State e) = shown_plain e
-plain_of (Reading.Refused answer) = record { answer = answer; kind = 0; count = 0; fields = replicate 32 0 }
+-- a refused reading gives the refusal's numbers and no state
+unfoldable pub plain_of : Result Element Answer → Result Plain Answer
+plain_of (Ok e) = Ok (shown_plain e)
+plain_of (Err answer) = Err answer
 
 -- ---- handed in
 

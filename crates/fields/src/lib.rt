@@ -16,28 +16,28 @@ ghost use Rattle.fields.specs.Calls.{write_fields_call, state_refused};
 use by_rows::{check_named, show_rows, take_rows};
 use history::Answer;
 use kinds::{Element, Kind, OptionalKind};
-use panel::{Reading, read_state, write_state};
+use panel::{read_state, write_state};
 use rows::{Finding, Refusal};
-use tables::{accepted, refused_at, refused_by};
+use tables::{refused_at, refused_by};
 
-// What reading gives: the answer, and for a state its kind's number, how many fields are not
-// reserved and their values; zeros for a refusal.
+// A state: its kind's number, how many fields are not reserved, and their values, then zeros.
 #[derive(Clone, Copy)]
 pub struct Plain {
-    pub answer: Answer,
     pub kind: u32,
     pub count: usize,
     pub fields: [u32; 32],
 }
 
 // Reads the state of an object in an image, as numbers.
-pub fn read_fields(table: &[u8], image: &[u8], object: u16) -> Plain
+#[tactic(auto, unfolding(crate::specs::PlainFields::plain_of))]
+pub fn read_fields(table: &[u8], image: &[u8], object: u16) -> Result<Plain, Answer>
     ensures { result ≡ plain_of (reading_of (read_state_call table.now image.now object)) }
 {
-    plain_of(read_state(table, image, object))
+    read_state(table, image, object).map(shown_plain)
 }
 
 // Writes the image with an object's new state, handed in as numbers, and the new position to the front of the output.
+// Each refusal is `refuse_state`'s, so a `Result` within would be no plainer.
 pub fn write_fields(
     table: &[u8],
     image: &[u8],
@@ -69,20 +69,6 @@ pub fn write_fields(
     )
 }
 
-fn plain_of(reading: Reading) -> Plain
-    ensures { result ≡ plain_of reading }
-{
-    match reading {
-        Reading::State(element) => shown_plain(element),
-        Reading::Refused(answer) => Plain {
-            answer,
-            kind: 0,
-            count: 0,
-            fields: [0u32; 32],
-        },
-    }
-}
-
 fn shown_plain(element: Element) -> Plain
     ensures { result ≡ shown_plain element }
 {
@@ -92,7 +78,6 @@ fn shown_plain(element: Element) -> Plain
     let shown = show_rows(kinds::values_of(element), first, count);
     let fields = shown.fields;
     Plain {
-        answer: accepted(),
         kind: layout.number as u32,
         count: shown.count,
         fields,
@@ -133,13 +118,9 @@ fn find_kind(number: u32) -> OptionalKind
 fn refuse_state(table: &[u8], image: &[u8], object: u16, number: u32, found: Refusal) -> Answer
     ensures { result ≡ told (state_refused table.now image.now object number found) }
 {
-    let was = read_fields(table, image, object);
-    let known = was.kind;
-    if known == 0 {
-        return was.answer;
+    match read_fields(table, image, object) {
+        Err(answer) => answer,
+        Ok(was) if was.kind != number => refused_at(22, object),
+        Ok(_) => refused_by(found, object),
     }
-    if known != number {
-        return refused_at(22, object);
-    }
-    refused_by(found, object)
 }

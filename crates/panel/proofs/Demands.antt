@@ -7,6 +7,7 @@ use Prim.Native.Nat.{ℕ, ◌^◌, ◌≤◌, ◌<◌}
 use native.Mathlib.Omega.{arith}
 use mathlib.Core.Path.{◌≡◌, sym, ap, ◌∙◌}
 use mathlib.Core.List.{List, ◌++◌}
+use Rattle.std.specs.Prelude.{Result, Ok}
 use lib.ListN.{length, take, drop}
 use borrow.Author.Tests.{le-leb}
 use Rattle.octets.specs.Octets.{Bytes}
@@ -23,15 +24,14 @@ use Rattle.history.proofs.ImageLaws.{image_is}
 use Rattle.heads.specs.Heads.{position_in}
 use Rattle.heads.proofs.Parts.{written_position}
 use Rattle.history.proofs.VerdictLaws.{used}
-use Rattle.panel.specs.declared.read.Reading.{Reading}
 use Rattle.panel.specs.Readings.{reading_of}
 
 -- what `read_state` ensures of its reading
-abbrev pub Read : List ℕ → List ℕ → ℕ → Reading → Type 0
+abbrev pub Read : List ℕ → List ℕ → ℕ → Result Element Answer → Type 0
 Read T A i s = s ≡ reading_of (read_state_call T A i)
 
 -- a reading that is a state comes from a call that gives it
-state_read_lem : (v : Verdict Element) (e : Element) → Reading.State e ≡ reading_of v → v ≡ done e
+state_read_lem : (v : Verdict Element) (e : Element) → Ok e ≡ reading_of v → v ≡ done e
 unfolding reading_of
 state_read_lem (refused r) e q = absurd (let z : ◌≡◌ {A = ℕ} 0 1 = cc in omega arith)
 state_read_lem (done s) e q = cc
@@ -68,18 +68,18 @@ module _ (T A : List ℕ) (i : ℕ) (e : Element) (position : ℕ) {out : List �
 
     module _ (h : Bytes A) (small : position < 2 ^ 32) where
       -- the state written is read
-      pub read_after_write : {s : Reading} → Read T (take r.length m) i s → s ≡ Reading.State e
+      pub read_after_write : {s : Result Element Answer} → Read T (take r.length m) i s → s ≡ Ok e
       unfolding reading_of
       read_after_write q = q ∙ ap reading_of (write_then_read T A i e position h small written.bytes)
 
       -- every other object is read as before, refusals included
-      pub others_after_write : (j : ℕ) → (j ≡ i → ⊥) → {s u : Reading} → Read T (take r.length m) j s
+      pub others_after_write : (j : ℕ) → (j ≡ i → ⊥) → {s u : Result Element Answer} → Read T (take r.length m) j s
           → Read T A j u → s ≡ u
       others_after_write j n q p = q ∙ ap reading_of (others_stay T A i e position h small written.bytes j n) ∙ sym p
 
 -- what was read, written at the image's position where there is room, gives the image's bytes
 pub write_after_read : (T A : List ℕ) (i : ℕ) (e : Element) (out : List ℕ) {r : Answer} {m : List ℕ} → Bytes A
-    → Read T A i (Reading.State e) → length A ≤ length out
+    → Read T A i (Ok e) → length A ≤ length out
     → Ran (write_state_call T A i e (position_in A)) out r m
     → (r ≡ unnamed 0 (length A)) × (m ≡ A ++ drop (length A) out)
 unfolding settled

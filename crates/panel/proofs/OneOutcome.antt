@@ -3,17 +3,17 @@
 use Prim.Native.Nat.{ℕ}
 use mathlib.Core.Path.{◌≡◌}
 use mathlib.Core.List.{List}
+use Rattle.std.specs.Prelude.{Result}
 use Rattle.kinds.specs.declared.Element.{Element}
 use Rattle.history.specs.declared.Answer.{Answer}
 use Rattle.history.specs.Verdict.{Leaves}
 use Rattle.history.specs.Calls.{write_state_call}
 use Rattle.history.proofs.OneOutcome.{one_outcome, one_pair}
-use Rattle.panel.specs.declared.read.Reading.{Reading}
 use Rattle.panel.specs.Readings.{answer_in}
 use Rattle.panel.proofs.Demands.{Read}
 
 module _ (T A : List ℕ) (i : ℕ) where
-  pub one_reading : {s s' : Reading} → Read T A i s → Read T A i s' → s ≡ s'
+  pub one_reading : {s s' : Result Element Answer} → Read T A i s → Read T A i s' → s ≡ s'
   one_reading = one_outcome
 
   pub one_write : (e : Element) (position : ℕ) (out : List ℕ) {r r' : Answer} {m m' : List ℕ}
@@ -21,5 +21,5 @@ module _ (T A : List ℕ) (i : ℕ) where
       → (r ≡ r') × (m ≡ m')
   one_write e position out = one_pair
 
-pub one_answer : (s : Reading) {r r' : Answer} → r ≡ answer_in s → r' ≡ answer_in s → r ≡ r'
+pub one_answer : (s : Result Element Answer) {r r' : Answer} → r ≡ answer_in s → r' ≡ answer_in s → r ≡ r'
 one_answer s = one_outcome

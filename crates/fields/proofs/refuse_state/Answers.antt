@@ -3,11 +3,11 @@
 use Rattle.fields.proofs.CallLaws.{refuses_first, refuses_22, refuses_it}
 use Rattle.fields.proofs.refuse_state.Goals as goal
 
-pub returns-then-known-eq0 : goal.returns-then-known-eq0
-returns-then-known-eq0 c = search refuses_first
+pub returns-in-Err : goal.returns-in-Err
+returns-in-Err c = refuses_first _ _ _ _ _ c.in-Err.ensures
 
-pub returns-then-known-number : goal.returns-then-known-number
-returns-then-known-number c = search refuses_22
+pub returns-in-Ok : goal.returns-in-Ok
+returns-in-Ok c = search (refuses_22, c.in-Ok.ensures)
 
-pub returns : goal.returns
-returns c = search refuses_it
+pub returns-in-Ok-2 : goal.returns-in-Ok-2
+returns-in-Ok-2 c = search (refuses_it, c.in-Ok.ensures)
