@@ -11,7 +11,8 @@ use lib.Dec.{eqb, leb, ltb}
 use lib.ListN.{length, take, drop, replicate, length-drop}
 use lib.Seq.{drop-drop}
 use borrow.Author.Tests.{eq-eqb, ne_eqb, le-leb, lt-leb, lt-ltb, le-ltb}
-use Rattle.rows.specs.declared.Finding.{Finding}
+use Rattle.rows.specs.Values.{Finding}
+use Rattle.std.proofs.Common.{Ok, Err}
 use Rattle.rows.specs.declared.Refusal.{Refusal}
 use Rattle.kinds.specs.Kinds.{width_of}
 use Rattle.elements.specs.Elements.{element_check}
@@ -117,16 +118,16 @@ module _ (k : Kind) (i : ℕ) (s : List ℕ) (at : ℕ) {w : ℕ} (w-is : w ≡ 
         the_old the_new)
 
     module _ {f : Finding} (f-is : f ≡ element_check k old) where
-      pub old_bad : {r : Refusal} → f ≡ Finding.Refused r → read_elements i k (drop at s) ≡ refused (found_in r i)
+      pub old_bad : {r : Refusal} → f ≡ Err r → read_elements i k (drop at s) ≡ refused (found_in r i)
       old_bad {r} e = elements_here ∙ is_bad (element_check k old) i _ r (sym f-is ∙ e)
 
-      module _ (old-good : f ≡ Finding.Accepted) {g : Finding} (g-is : g ≡ element_check k new) where
-        pub new_bad : {r : Refusal} → g ≡ Finding.Refused r → read_elements i k (drop at s) ≡ refused (found_in r i)
+      module _ (old-good : f ≡ Ok tt) {g : Finding} (g-is : g ≡ element_check k new) where
+        pub new_bad : {r : Refusal} → g ≡ Err r → read_elements i k (drop at s) ≡ refused (found_in r i)
         new_bad {r} e =
             elements_here ∙ is_good (element_check k old) i _ (sym f-is ∙ old-good)
             ∙ is_bad (element_check k new) i _ r (sym g-is ∙ e)
 
-        pub both_good : g ≡ Finding.Accepted
+        pub both_good : g ≡ Ok tt
             → Passed.Entry i old new (at + w + w) ≡ passed at (read_elements i k (drop at s))
         unfolding passed
         both_good new-good =

@@ -6,7 +6,8 @@ use mathlib.Core.Path.{◌≡◌, refl, sym, ap, ap₂, ◌∙◌}
 use mathlib.Core.List.{List, [], ◌∷◌}
 use lib.ListN.{length, take, drop}
 use lib.Seq.{drop-drop}
-use Rattle.rows.specs.declared.Finding.{Finding}
+use Rattle.rows.specs.Values.{Finding}
+use Rattle.std.proofs.Common.{Ok, Err}
 use Rattle.rows.specs.declared.Refusal.{Refusal}
 use Rattle.kinds.specs.Kinds.{width_of}
 use Rattle.elements.specs.Elements.{element_check}
@@ -58,11 +59,11 @@ module _ {ns b : List ℕ} {i at : ℕ} (l : Left ns b i at) (h : i < length ns)
         (kinds_next ns i h ∙ ap (λ (k : Kind). k ∷ drop (i + 1) (kinds_of ns)) (sym kind_is_lem))
         ∙ rw (← found-is)
 
-    pub stops : {r : Refusal} → found ≡ Finding.Refused r
+    pub stops : {r : Refusal} → found ≡ Err r
         → numbers (found_in r i) 0 ≡ told (read_words 0 (kinds_of ns) b)
     stops {r} e = told_refused (found of i ⨾ next) (is_bad found i next r e) refl ∙ sym here
 
-    pub goes_on : found ≡ Finding.Accepted → {w : ℕ} → w ≡ width_of kind → Left ns b (i + 1) (at + w)
+    pub goes_on : found ≡ Ok tt → {w : ℕ} → w ≡ width_of kind → Left ns b (i + 1) (at + w)
     unfolding next word
     goes_on e {w} wide =
         let one : suc i ≡ i + 1 = omega arith in

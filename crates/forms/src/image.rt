@@ -8,7 +8,6 @@ ghost use Rattle.tables.specs.Outlines.{kinds_of, plan_as};
 use super::objects::{kind_at, widths_of};
 use heads::{elements_of, elements_place, is_under, is_whole};
 use history::Answer;
-use rows::Finding;
 use tables::{accepted, first_kinds, outline, refused, refused_by};
 
 // Checks an image under its table.
@@ -64,7 +63,7 @@ fn check_words(kinds: &[u8], words: &[u8]) -> Answer
         let kind = kind_at(kinds, i);
         let width = elements::width(kind);
         let finding = elements::check_at(words, at, kind);
-        if let Finding::Refused(r) = finding {
+        if let Err(r) = finding {
             return refused_by(r, i as u16);
         }
         at += width;

@@ -10,7 +10,6 @@ use super::objects::kind_at;
 use heads::{entries_of, entry_count, is_under, is_whole};
 use history::Answer;
 use kinds::Kind;
-use rows::Finding;
 use tables::{accepted, first_kinds, outline, refused, refused_at, refused_by};
 
 // Checks a change list under its table.
@@ -156,11 +155,11 @@ fn check_elements(kind: Kind, object: u16, entries: &[u8], at: usize) -> Passed
     let old = octets::get_at(entries, at, width);
     let new = octets::get_at(entries, middle, width);
     let before = elements::check_element(old, kind);
-    if let Finding::Refused(r) = before {
+    if let Err(r) = before {
         return Passed::Refused(refused_by(r, object));
     }
     let after = elements::check_element(new, kind);
-    if let Finding::Refused(r) = after {
+    if let Err(r) = after {
         return Passed::Refused(refused_by(r, object));
     }
     Passed::Entry {

@@ -10,8 +10,8 @@ loop-i-init c = search begin
 pub check_at-finding-requires : goal.check_at-finding-requires
 check_at-finding-requires c = search has_room
 
-pub returns-in-Refused : goal.returns-in-Refused
-returns-in-Refused c = c.refused_by.ensures ∙ search stops
+pub returns-in-Err : goal.returns-in-Err
+returns-in-Err c = c.refused_by.ensures ∙ search stops
 
 pub loop-i-preserved : goal.loop-i-preserved
 loop-i-preserved c = search goes_on

@@ -6,11 +6,11 @@ use Rattle.forms.proofs.list.check_elements.Goals as goal
 pub returns-then-entries-at : goal.returns-then-entries-at
 returns-then-entries-at c = refuses _ c.refused.ensures (search elements_cut)
 
-pub returns-in-Refused : goal.returns-in-Refused
-returns-in-Refused c = refuses _ c.refused_by.ensures (search old_bad)
+pub returns-in-Err : goal.returns-in-Err
+returns-in-Err c = refuses _ c.refused_by.ensures (search old_bad)
 
-pub returns-in-Refused-after : goal.returns-in-Refused-after
-returns-in-Refused-after c = refuses _ c.refused_by-in-Refused-after.ensures (search new_bad)
+pub returns-in-Err-after : goal.returns-in-Err-after
+returns-in-Err-after c = refuses _ c.refused_by-in-Err-after.ensures (search new_bad)
 
 pub returns : goal.returns
 returns c = search both_good
