@@ -12,7 +12,8 @@ use borrow.Author.Tests.{lt-ltb, le-ltb}
 use mir.Syntax.{w8}
 use mir.Val.{Fits}
 use Rattle.octets.specs.Octets.{bytes}
-use Rattle.rows.specs.declared.Finding.{Finding}
+use Rattle.rows.specs.Values.{Finding}
+use Rattle.std.proofs.Common.{Ok, Err}
 use Rattle.rows.specs.declared.Refusal.{Refusal}
 use Rattle.kinds.specs.Kinds.{width_of, kind_in}
 use Rattle.kinds.specs.declared.Kind.{Kind}
@@ -72,12 +73,12 @@ module _ (ns : List ℕ) (i : ℕ) (e : Element) where
           ∙ sym (rw (inside, alike (yes t-is h)))
 
       -- 12: the element's check refuses the state's word
-      pub bad_state : {f : Refusal} → found ≡ Finding.Refused f → {s : Answer} → s ≡ numbers (found_in f i) 0
+      pub bad_state : {f : Refusal} → found ≡ Err f → {s : Answer} → s ≡ numbers (found_in f i) 0
           → s ≡ told (check_state (kinds_of ns) i e)
       unfolding told
       bad_state {f} n q = q ∙ sym (ap (λ (n : Finding). told (n of i ⨾ done (word_of e))) n) ∙ by_finding
 
-      pub good_state : found ≡ Finding.Accepted → {s : Answer} → s ≡ unnamed 0 0
+      pub good_state : found ≡ Ok tt → {s : Answer} → s ≡ unnamed 0 0
           → s ≡ told (check_state (kinds_of ns) i e)
       unfolding told
       good_state n q = q ∙ sym (ap (λ (n : Finding). told (n of i ⨾ done (word_of e))) n) ∙ by_finding

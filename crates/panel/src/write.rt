@@ -8,7 +8,6 @@ use forms::{check_image_under, kind_at};
 use history::Answer;
 use kinds::{Element, kind_in};
 use outputs::write_element;
-use rows::Finding;
 use tables::{accepted, first_kinds, outline, refused_at, refused_by};
 
 // Writes the image with an object's new state and the new position to the front of the output.
@@ -83,7 +82,7 @@ fn check_state(kinds: &[u8], object: u16, state: Element) -> Answer
         return refused_at(22, object);
     }
     let finding = elements::check_element(elements::word_of(state), kind);
-    if let Finding::Refused(r) = finding {
+    if let Err(r) = finding {
         return refused_by(r, object);
     }
     accepted()
