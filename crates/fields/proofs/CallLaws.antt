@@ -5,18 +5,16 @@ use native.Mathlib.Omega.{arith}
 use mathlib.Core.Path.{◌≡◌, refl, sym, ap, ◌∙◌}
 use mathlib.Core.Bool.{Bool, true, false}
 use mathlib.Core.List.{List}
-use Rattle.std.specs.Prelude.{Ok, Err}
 use lib.Dec.{eqb, ltb, eqb→eq, ltb→lt}
 use lib.ListN.{length, get_or}
 use borrow.Author.Tests.{eq-eqb, ne_eqb, eqb-true}
 use Rattle.rows.specs.Rows.{layouts}
-use Rattle.rows.specs.Values.{code_at}
-use Rattle.rows.specs.declared.Finding.{Finding}
+use Rattle.rows.specs.Values.{Finding, code_at}
+use Rattle.std.proofs.Common.{Option, Some, None, Ok, Err}
 use Rattle.rows.specs.declared.Refusal.{Refusal}
 use Rattle.kinds.specs.Kinds.{layout_no, rows_of, kind_in, kind_lines, find_by_number, element_of}
 use Rattle.kinds.specs.declared.Kind.{Kind}
 use Rattle.kinds.specs.declared.Element.{Element}
-use Rattle.kinds.specs.declared.OptionalKind.{OptionalKind}
 use Rattle.kinds.proofs.Lookup.{every_line}
 use Rattle.kinds.proofs.KindLaws.{kind_found, element_kind}
 use Rattle.elements.specs.Elements.{same_kind, word_of}
@@ -52,33 +50,33 @@ all_refuse f (done s) h = h s
 -- ---- numbers of kinds
 
 -- a carried number is its kind's, and no other kind has it
-its_number : {n : ℕ} {k : Kind} → find_by_number n ≡ OptionalKind.Some k → n ≡ layout_no k
+its_number : {n : ℕ} {k : Kind} → find_by_number n ≡ Some k → n ≡ layout_no k
 unfolding layouts
 its_number {n} e = eqb→eq _ _ (every_line (λ n k. eqb n (layout_no k)) n kind_lines tt e)
 
-its_kind : {n : ℕ} {k : Kind} (j : Kind) → find_by_number n ≡ OptionalKind.Some k → n ≡ layout_no j → j ≡ k
+its_kind : {n : ℕ} {k : Kind} (j : Kind) → find_by_number n ≡ Some k → n ≡ layout_no j → j ≡ k
 its_kind j e q =
-    let s : OptionalKind.Some j ≡ OptionalKind.Some _ = sym (kind_found j) ∙ ap find_by_number (sym q) ∙ e in
+    let s : Some j ≡ Some _ = sym (kind_found j) ∙ ap find_by_number (sym q) ∙ e in
     cc
 
 -- a number that no kind has is not kind j's
-not_its : (n : ℕ) (j : Kind) → find_by_number n ≡ OptionalKind.None → eqb n (layout_no j) ≡ false
+not_its : (n : ℕ) (j : Kind) → find_by_number n ≡ None → eqb n (layout_no j) ≡ false
 not_its n j e =
     ne_eqb n (layout_no j)
-    (λ q. let s : OptionalKind.Some j ≡ OptionalKind.None = sym (kind_found j) ∙ ap find_by_number (sym q) ∙ e in
+    (λ q. let s : Some j ≡ None = sym (kind_found j) ∙ ap find_by_number (sym q) ∙ e in
     absurd (let z : ◌≡◌ {A = ℕ} 0 1 = cc in omega arith))
 
 -- no kind has a number above 255
-pub none_numbered : (n : ℕ) → 255 < n → OptionalKind.None ≡ find_by_number n
+pub none_numbered : (n : ℕ) → 255 < n → None ≡ find_by_number n
 unfolding layouts
 none_numbered n h = at (find_by_number n) refl
   where
-    small : {k : Kind} → find_by_number n ≡ OptionalKind.Some k → n < 256
+    small : {k : Kind} → find_by_number n ≡ Some k → n < 256
     small e = ltb→lt _ _ (every_line (λ n k. ltb n 256) n kind_lines tt e)
 
-    at : (s : OptionalKind) → find_by_number n ≡ s → OptionalKind.None ≡ s
-    at (OptionalKind.Some k) e = absurd (omega (arith, small e))
-    at OptionalKind.None e = refl
+    at : (s : Option Kind) → find_by_number n ≡ s → None ≡ s
+    at (Some k) e = absurd (omega (arith, small e))
+    at None e = refl
 
 -- ---- a state handed in of which something is refused
 
@@ -141,7 +139,7 @@ module _ (t a : List ℕ) (i number : ℕ) (fields : List ℕ) (position : ℕ) 
   of_kinds f g (done s) h = h (kind_in s)
 
   -- only the kind with the number counts
-  only : (f g : Kind → Verdict (List ℕ)) {k : Kind} → find_by_number number ≡ OptionalKind.Some k → f k ≡ g k
+  only : (f g : Kind → Verdict (List ℕ)) {k : Kind} → find_by_number number ≡ Some k → f k ≡ g k
       → (j : Kind)
       → (refusal_at 22 i unless eqb number (layout_no j) ⨾ f j)
       ≡ (refusal_at 22 i unless eqb number (layout_no j) ⨾ g j)
@@ -203,8 +201,8 @@ module _ (t a : List ℕ) (i number : ℕ) (fields : List ℕ) (position : ℕ) 
       planned (refused r) = refl
       planned (done p) = imaged p (read_image p a)
 
-  pub writes : {k : Kind} → find_by_number number ≡ OptionalKind.Some k
-      → check_named (rows_of k) (values_in k fields) ≡ Finding.Accepted
+  pub writes : {k : Kind} → find_by_number number ≡ Some k
+      → check_named (rows_of k) (values_in k fields) ≡ Ok tt
       → write_fields_call t a i number fields position
       ≡ write_state_call t a i (element_of k (values_in k fields)) position
   unfolding write_fields_call
@@ -220,8 +218,8 @@ module _ (t a : List ℕ) (i number : ℕ) (fields : List ℕ) (position : ℕ) 
       ∙ after_reading s
 
   -- from what the code has: the kind of the number, if there is one, the values, what is found of them, the state
-  module _ {s : OptionalKind} (s-is : s ≡ find_by_number number) where
-    pub no_kind : s ≡ OptionalKind.None
+  module _ {s : Option Kind} (s-is : s ≡ find_by_number number) where
+    pub no_kind : s ≡ None
         → write_fields_call t a i number fields position ≡ state_refused t a i number (code_at 22 255)
     unfolding write_fields_call state_refused
     no_kind e =
@@ -230,12 +228,12 @@ module _ (t a : List ℕ) (i number : ℕ) (fields : List ℕ) (position : ℕ) 
         (λ j. ap (λ (b : Bool). refusal_at 22 i unless b ⨾ valued j) (not-it j)
         ∙ sym (ap (λ (b : Bool). refusal_at 22 i unless b ⨾ refusal_at 22 i) (not-it j)))
 
-    module _ {k : Kind} (k-is : s ≡ OptionalKind.Some k) {vs : List ℕ} (vs-is : vs ≡ values_in k fields) {f : Finding}
+    module _ {k : Kind} (k-is : s ≡ Some k) {vs : List ℕ} (vs-is : vs ≡ values_in k fields) {f : Finding}
         (f-is : f ≡ check_named (rows_of k) vs) where
       found : {g : Finding} → f ≡ g → check_named (rows_of k) (values_in k fields) ≡ g
       found e = sym (f-is ∙ ap (check_named (rows_of k)) vs-is) ∙ e
 
-      pub no_value : {r : Refusal} → f ≡ Finding.Refused r
+      pub no_value : {r : Refusal} → f ≡ Err r
           → write_fields_call t a i number fields position ≡ state_refused t a i number r
       unfolding write_fields_call state_refused
       no_value {r} e =
@@ -244,7 +242,7 @@ module _ (t a : List ℕ) (i number : ℕ) (fields : List ℕ) (position : ℕ) 
           (ap (λ (v : Finding). v of i ⨾
           write_state_call t a i (element_of k (values_in k fields)) position) (found e)))
 
-      pub state_writes : f ≡ Finding.Accepted → {e : Element} → e ≡ element_of k vs
+      pub state_writes : f ≡ Ok tt → {e : Element} → e ≡ element_of k vs
           → write_state_call t a i e position ≡ write_fields_call t a i number fields position
       state_writes g e-is =
           ap (λ (e : Element). write_state_call t a i e position) (e-is ∙ ap (element_of k) vs-is)

@@ -14,8 +14,8 @@ use lib.ListN.{length, get_or, set, drop, replicate, length-append}
 use lib.Seq.{append_snoc, drop-cons}
 use borrow.Author.Tests.{eq-eqb, ne_eqb, le-leb, lt-leb}
 use Rattle.rows.specs.Rows.{row_at, rows_from}
-use Rattle.rows.specs.Values.{code_at, filled, padded}
-use Rattle.rows.specs.declared.Finding.{Finding}
+use Rattle.rows.specs.Values.{Finding, code_at, filled, padded}
+use Rattle.std.proofs.Common.{Ok, Err}
 use Rattle.rows.specs.Covering.{layout_rows}
 use Rattle.rows.specs.declared.Layout.{Layout}
 use Rattle.kinds.specs.Kinds.{layout_of, kind_in, element_values}
@@ -59,9 +59,6 @@ pub record Showing (first count : ℕ) (vs fields : List ℕ) (n k : ℕ) : Type
   pub below : n ≤ k
   pub size : n ≡ length (shown (rows_from first k) vs)
   pub so_far : fields ≡ filled 32 (shown (rows_from first k) vs)
-
-pub showing : (first count : ℕ) (vs : List ℕ) → Showing first count vs (replicate 32 0) 0 0
-showing first count vs = record { bound = omega arith; below = omega arith; size = refl; so_far = refl }
 
 module _ {first count : ℕ} {vs fields : List ℕ} {n k : ℕ} (s : Showing first count vs fields n k) (h : k < count)
     (few : count ≤ 24) (full : length vs ≡ 24) where
@@ -195,9 +192,6 @@ pub record Taking (first count : ℕ) (fs values : List ℕ) (n k : ℕ) : Type 
   pub size : n ≡ own (rows_from first k)
   pub so_far : values ≡ padded (spread (rows_from first k) fs)
 
-pub taking : (first count : ℕ) (fs : List ℕ) → Taking first count fs (replicate 24 0) 0 0
-taking first count fs = record { bound = omega arith; below = omega arith; size = refl; so_far = refl }
-
 module _ {first count : ℕ} {fs values : List ℕ} {n k : ℕ} (s : Taking first count fs values n k) (h : k < count)
     (few : count ≤ 24) where
   ys : List ℕ
@@ -263,19 +257,13 @@ pub record Checking (first count : ℕ) (vs : List ℕ) (k : ℕ) : Type 0 where
   pub bound : k ≤ count
   pub to_come : check_named (rows_from first count) vs ≡ check_named (rows_from (first + k) (count - k)) (drop k vs)
 
-pub checking : (first count : ℕ) (vs : List ℕ) → Checking first count vs 0
-checking first count vs =
-    let e : first + 0 ≡ first = omega arith in
-    let e' : count - 0 ≡ count = omega arith in
-    record { bound = omega arith; to_come = ap₂ (λ (i n : ℕ). check_named (rows_from i n) vs) (sym e) (sym e') }
-
 module _ {first count : ℕ} {vs : List ℕ} {k : ℕ} (s : Checking first count vs k) (h : k < count) (few : count ≤ 24)
     (full : length vs ≡ 24) {top : ℕ} (top-is : top ≡ (row_at (first + k)).top) where
   rest : Finding
   rest = check_named (rows_from (first + (k + 1)) (count - (k + 1))) (drop (k + 1) vs)
 
   next_named : check_named (rows_from first count) vs
-      ≡ cond (leb (get_or vs k 0) (row_at (first + k)).top) rest (Finding.Refused (code_at 11 (row_at (first + k)).low))
+      ≡ cond (leb (get_or vs k 0) (row_at (first + k)).top) rest (Err (code_at 11 (row_at (first + k)).low))
   unfolding rest
   next_named =
       s.to_come
@@ -288,20 +276,20 @@ module _ {first count : ℕ} {vs : List ℕ} {k : ℕ} (s : Checking first count
       record {
         bound = omega arith;
         to_come =
-            next_named ∙ ap (λ (b : Bool). cond b rest (Finding.Refused (code_at 11 (row_at (first + k)).low)))
+            next_named ∙ ap (λ (b : Bool). cond b rest (Err (code_at 11 (row_at (first + k)).low)))
             (le-leb (get_or vs k 0) (row_at (first + k)).top (omega arith));
       }
 
   pub stops : top < get_or vs k 0 → {bit : ℕ} → bit ≡ (row_at (first + k)).low
-      → Finding.Refused (code_at 11 bit) ≡ check_named (rows_from first count) vs
+      → Err (code_at 11 bit) ≡ check_named (rows_from first count) vs
   stops l bit_is =
-      ap (λ (bit : ℕ). Finding.Refused (code_at 11 bit)) bit_is
+      ap (λ (bit : ℕ). Err (code_at 11 bit)) bit_is
       ∙ sym (next_named
-      ∙ ap (λ (b : Bool). cond b rest (Finding.Refused (code_at 11 (row_at (first + k)).low)))
+      ∙ ap (λ (b : Bool). cond b rest (Err (code_at 11 (row_at (first + k)).low)))
       (lt-leb (get_or vs k 0) (row_at (first + k)).top (omega arith)))
 
 pub checked : {first count : ℕ} {vs : List ℕ} {k : ℕ} → Checking first count vs k → count ≤ k
-    → Finding.Accepted ≡ check_named (rows_from first count) vs
+    → Ok tt ≡ check_named (rows_from first count) vs
 checked {first} {count} {vs} {k} s h =
     let z : count - k ≡ 0 = omega arith in
     sym (s.to_come ∙ ap (λ (n : ℕ). check_named (rows_from (first + k) n) (drop k vs)) z)

@@ -10,8 +10,8 @@ use lib.Dec.{eqb, leb}
 use lib.ListN.{get_or, drop}
 use borrow.Author.Tests.{le-leb, eqb-false}
 use Rattle.rows.specs.Rows.{Row}
-use Rattle.rows.specs.Values.{code_at}
-use Rattle.rows.specs.declared.Finding.{Finding}
+use Rattle.rows.specs.Values.{Finding, code_at}
+use Rattle.std.proofs.Common.{Err}
 use Rattle.rows.specs.declared.Refusal.{Refusal}
 use Rattle.kinds.specs.Kinds.{layout_no, rows_of, kind_in}
 use Rattle.kinds.specs.declared.Kind.{Kind}
@@ -25,7 +25,7 @@ use Rattle.fields.specs.Calls.{write_fields_call}
 
 -- what a value with no named case, among the last rows rs of a kind, is refused with
 value_refuses : (k : Kind) (below rs : List Row) (fields zeros : List ℕ) {x : Refusal} → rows_of k ≡ below ++ rs
-    → check_named rs (spread rs fields ++ zeros) ≡ Finding.Refused x
+    → check_named rs (spread rs fields ++ zeros) ≡ Err x
     → Refuses k x.code x.bit
 value_refuses k below [] fields zeros all e = absurd (let z : ◌≡◌ {A = ℕ} 0 1 = cc in omega arith)
 value_refuses k below (r ∷ rs) fields zeros {x} all e =
@@ -33,18 +33,18 @@ value_refuses k below (r ∷ rs) fields zeros {x} all e =
     at (eqb r.top 0) refl (value_refuses k (below ++ (r ∷ [])) rs fields zeros next)
     (value_refuses k (below ++ (r ∷ [])) rs (drop 1 fields) zeros next) e
   where
-    here : (b : Bool) → (r.top ≡ 0 → ⊥) → (rest : Finding) → (rest ≡ Finding.Refused x → Refuses k x.code x.bit)
-        → cond b rest (Finding.Refused (code_at 11 r.low)) ≡ Finding.Refused x → Refuses k x.code x.bit
+    here : (b : Bool) → (r.top ≡ 0 → ⊥) → (rest : Finding) → (rest ≡ Err x → Refuses k x.code x.bit)
+        → cond b rest (Err (code_at 11 r.low)) ≡ Err x → Refuses k x.code x.bit
     here true n rest later e = later e
     here false n rest later e =
         let x-is : code_at 11 r.low ≡ x = cc in
         rw (← x-is) (unlisted (record { below = below; above = rs; parts = all }) n)
 
     at : (b : Bool) → eqb r.top 0 ≡ b
-        → (check_named rs (spread rs fields ++ zeros) ≡ Finding.Refused x → Refuses k x.code x.bit)
-        → (check_named rs (spread rs (drop 1 fields) ++ zeros) ≡ Finding.Refused x → Refuses k x.code x.bit)
+        → (check_named rs (spread rs fields ++ zeros) ≡ Err x → Refuses k x.code x.bit)
+        → (check_named rs (spread rs (drop 1 fields) ++ zeros) ≡ Err x → Refuses k x.code x.bit)
         → check_named (r ∷ rs) (cond b (0 ∷ spread rs fields) (get_or fields 0 0 ∷ spread rs (drop 1 fields)) ++ zeros)
-        ≡ Finding.Refused x
+        ≡ Err x
         → Refuses k x.code x.bit
     at true q skip later e = skip (rw (le-leb 0 r.top (omega arith)) at e)
     at false q skip later e = here (leb (get_or fields 0 0) r.top) (eqb-false _ _ q) _ later e

@@ -14,7 +14,7 @@ use borrow.Author.Tests.{eqb-true, leb-true}
 use Rattle.octets.specs.Octets.{Bytes}
 use Rattle.rows.specs.Rows.{Row, row_at, rows_from}
 use Rattle.rows.specs.Values.{code_at, filled, padded}
-use Rattle.rows.specs.declared.Finding.{Finding}
+use Rattle.std.proofs.Common.{Err, is_ok}
 use Rattle.rows.proofs.Words.{Within}
 use Rattle.rows.proofs.Listed.{listed_from_lem}
 use Rattle.kinds.specs.Kinds.{layout_of, layout_no, rows_of, kind_in, element_of, element_values}
@@ -23,7 +23,7 @@ use Rattle.kinds.specs.declared.Element.{Element}
 use Rattle.kinds.proofs.KindLaws.{element_listed, element_kind}
 use Rattle.elements.proofs.Covering.{cover}
 use Rattle.history.specs.Verdict.{Verdict, done, refusal_at, ◌unless◌⨾◌}
-use Rattle.history.specs.Image.{◌of◌⨾◌, is_accepted}
+use Rattle.history.specs.Image.{◌of◌⨾◌}
 use Rattle.history.specs.Calls.{read_state_call, write_state_call}
 use Rattle.history.proofs.VerdictLaws.{held, used}
 use Rattle.history.proofs.ElementLaws.{was_accepted}
@@ -84,7 +84,7 @@ shown_spread (r ∷ rs) fs xs h = at (eqb r.top 0) refl fs h (λ gs. shown_sprea
         rw (e, e) (ap (λ (vs : List ℕ). f ∷ vs) (g fs (omega arith)))
 
 -- values that are not refused are values that their rows admit
-named_within : (n i : ℕ) (vs xs : List ℕ) → length vs ≡ n → is_accepted (check_named (rows_from i n) (vs ++ xs)) ≡ true
+named_within : (n i : ℕ) (vs xs : List ℕ) → length vs ≡ n → is_ok (check_named (rows_from i n) (vs ++ xs)) ≡ true
     → Within (rows_from i n) vs
 named_within zero i [] xs h e = tt
 named_within zero i (v ∷ vs) xs h e = absurd (omega arith)
@@ -92,9 +92,9 @@ named_within (suc n) i [] xs h e = absurd (omega arith)
 named_within (suc n) i (v ∷ vs) xs h e = at (leb v (row_at i).top) refl (named_within n (suc i) vs xs (omega arith)) e
   where
     at : (b : Bool) → leb v (row_at i).top ≡ b
-        → (is_accepted (check_named (rows_from (suc i) n) (vs ++ xs)) ≡ true → Within (rows_from (suc i) n) vs)
-        → is_accepted
-        (cond b (check_named (rows_from (suc i) n) (vs ++ xs)) (Finding.Refused (code_at 11 (row_at i).low))) ≡ true
+        → (is_ok (check_named (rows_from (suc i) n) (vs ++ xs)) ≡ true → Within (rows_from (suc i) n) vs)
+        → is_ok
+        (cond b (check_named (rows_from (suc i) n) (vs ++ xs)) (Err (code_at 11 (row_at i).low))) ≡ true
         → Within (rows_from i (suc n)) (v ∷ vs)
     at true q rest e = (leb-true v (row_at i).top q, rest e)
     at false q rest e = absurd (let z : ◌≡◌ {A = ℕ} 0 1 = cc in omega arith)
@@ -129,7 +129,7 @@ own_of number k F =
     record { kind = number; count = own (rows_of k); fields = filled 32 (take (own (rows_of k)) F) }
 
 -- a state made of fields with named cases gives them back
-shown_made : (k : Kind) (F : List ℕ) → length F ≡ 32 → is_accepted (check_named (rows_of k) (values_in k F)) ≡ true
+shown_made : (k : Kind) (F : List ℕ) → length F ≡ 32 → is_ok (check_named (rows_of k) (values_in k F)) ≡ true
     → shown_plain (element_of k (values_in k F)) ≡ own_of (layout_no k) k F
 unfolding shown_plain
 shown_made k F long ok =

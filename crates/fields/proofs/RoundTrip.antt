@@ -11,7 +11,7 @@ use borrow.Author.Tests.{eqb-true, le-leb}
 use Rattle.octets.specs.Octets.{Bytes}
 use Rattle.rows.specs.Rows.{Row}
 use Rattle.rows.specs.Values.{padded}
-use Rattle.rows.specs.declared.Finding.{Finding}
+use Rattle.std.proofs.Common.{Ok}
 use Rattle.rows.proofs.Words.{Within}
 use Rattle.kinds.specs.Kinds.{rows_of, kind_in, element_of, element_values}
 use Rattle.kinds.specs.declared.Element.{Element}
@@ -42,7 +42,7 @@ spread_shown (r ∷ rs) (v ∷ vs) xs ys h = at (eqb r.top 0) refl (spread_shown
     at false e rest = rw (e, rest)
 
 -- each has a named case
-all_named : (rs : List Row) (vs xs : List ℕ) → Within rs vs → check_named rs (vs ++ xs) ≡ Finding.Accepted
+all_named : (rs : List Row) (vs xs : List ℕ) → Within rs vs → check_named rs (vs ++ xs) ≡ Ok tt
 all_named [] vs xs h = refl
 all_named (r ∷ rs) [] xs h = absurd h
 all_named (r ∷ rs) (v ∷ vs) xs h = rw (le-leb v r.top h.0) (all_named rs vs xs h.1)
@@ -58,7 +58,7 @@ module _ (e : Element) where
   handed_back = ap (element_of (kind_in e)) values_back ∙ element_back e
 
   -- none of them is refused
-  pub handed_named : check_named (rows_of (kind_in e)) (values_in (kind_in e) (fields_of e).fields) ≡ Finding.Accepted
+  pub handed_named : check_named (rows_of (kind_in e)) (values_in (kind_in e) (fields_of e).fields) ≡ Ok tt
   handed_named =
       ap (check_named (rows_of (kind_in e))) values_back
       ∙ all_named (rows_of (kind_in e)) (element_values e) _ (state_within e)

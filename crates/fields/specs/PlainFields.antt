@@ -2,8 +2,8 @@
 -- the first of 32 places, then zeros.
 use Rattle.std.specs.Prelude.{ℕ, cond, List, [], ◌∷◌, leb, eqb, length, get_or, drop, Result, Ok, Err}
 use Rattle.rows.specs.Rows.{Row}
-use Rattle.rows.specs.Values.{code_at, filled, padded}
-use Rattle.rows.specs.declared.Finding.{Finding}
+use Rattle.rows.specs.Values.{Finding, code_at, filled, padded}
+use Rattle.std.specs.Prelude.{Ok, Err}
 use Rattle.kinds.specs.Kinds.{layout_no, rows_of, kind_in, element_values}
 use Rattle.kinds.specs.declared.Kind.{Kind}
 use Rattle.kinds.specs.declared.Element.{Element}
@@ -47,6 +47,6 @@ values_in k fields = padded (spread (rows_of k) fields)
 
 -- the first value that has no named case: 11, with the field's lowest bit
 abbrev pub check_named : List Row → List ℕ → Finding
-check_named [] vs = Finding.Accepted
-check_named (r ∷ rs) [] = Finding.Accepted
-check_named (r ∷ rs) (v ∷ vs) = cond (leb v r.top) (check_named rs vs) (Finding.Refused (code_at 11 r.low))
+check_named [] vs = Ok tt
+check_named (r ∷ rs) [] = Ok tt
+check_named (r ∷ rs) (v ∷ vs) = cond (leb v r.top) (check_named rs vs) (Err (code_at 11 r.low))

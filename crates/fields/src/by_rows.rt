@@ -4,7 +4,7 @@ ghost use Rattle.rows.specs.Rows.{cells, row_total, row_at, rows_from};
 ghost use Rattle.rows.specs.Values.{padded};
 ghost use Rattle.fields.specs.PlainFields.{shown_in, spread, check_named};
 
-use rows::{Cells, Finding, Refusal};
+use rows::{Cells, Refusal};
 
 // The values of rows that are not reserved, and how many there are.
 #[derive(Clone, Copy)]
@@ -21,13 +21,11 @@ pub fn show_rows(values: [u32; 24], first: usize, count: usize) -> Shown
     let rows = rows::cells();
     let mut fields = [0u32; 32];
     let mut n = 0;
-    let mut k = 0;
-    while k < count {
+    for k in 0..count {
         if highest(&rows, first + k) != 0 {
             fields[n] = values[k];
             n += 1;
         }
-        k += 1;
     }
     Shown { count: n, fields }
 }
@@ -40,32 +38,28 @@ pub fn take_rows(fields: [u32; 32], first: usize, count: usize) -> [u32; 24]
     let rows = rows::cells();
     let mut values = [0u32; 24];
     let mut n = 0;
-    let mut k = 0;
-    while k < count {
+    for k in 0..count {
         if highest(&rows, first + k) != 0 {
             values[k] = fields[n];
             n += 1;
         }
-        k += 1;
     }
     values
 }
 
 // Refuses the first value that has no named case: 11, with the field's lowest bit.
-pub fn check_named(values: [u32; 24], first: usize, count: usize) -> Finding
+pub fn check_named(values: [u32; 24], first: usize, count: usize) -> Result<(), Refusal>
     requires { (first + count ≤ row_total) × (count ≤ 24) }
     ensures { result ≡ check_named (rows_from first count) values }
 {
     let rows = rows::cells();
-    let mut k = 0;
-    while k < count {
+    for k in 0..count {
         if highest(&rows, first + k) < values[k] {
             let bit = lowest(&rows, first + k);
-            return Finding::Refused(Refusal { code: 11, bit });
+            return Err(Refusal { code: 11, bit });
         }
-        k += 1;
     }
-    Finding::Accepted
+    Ok(())
 }
 
 // The highest value that a row admits; 0 if the row is reserved.

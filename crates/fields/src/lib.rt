@@ -15,9 +15,9 @@ ghost use Rattle.fields.specs.Calls.{write_fields_call, state_refused};
 
 use by_rows::{check_named, show_rows, take_rows};
 use history::Answer;
-use kinds::{Element, Kind, OptionalKind};
+use kinds::{Element, Kind};
 use panel::{read_state, write_state};
-use rows::{Finding, Refusal};
+use rows::Refusal;
 use tables::{refused_at, refused_by};
 
 // A state: its kind's number, how many fields are not reserved, and their values, then zeros.
@@ -50,13 +50,12 @@ pub fn write_fields(
     ensures { Leaves (write_fields_call table.now image.now object number fields position)
         out.old result out.new }
 {
-    let found = find_kind(number);
-    let OptionalKind::Some(kind) = found else {
+    let Some(kind) = find_kind(number) else {
         return refuse_state(table, image, object, number, Refusal { code: 22, bit: 255 });
     };
     let values = values_in(fields, kind);
     let finding = check_values(values, kind);
-    if let Finding::Refused(r) = finding {
+    if let Err(r) = finding {
         return refuse_state(table, image, object, number, r);
     }
     write_state(
@@ -95,7 +94,7 @@ fn values_in(fields: [u32; 32], kind: Kind) -> [u32; 24]
 }
 
 // Refuses the first value that has no named case, with 11.
-fn check_values(values: [u32; 24], kind: Kind) -> Finding
+fn check_values(values: [u32; 24], kind: Kind) -> Result<(), Refusal>
     ensures { result ≡ check_named (rows_of kind) values }
 {
     let layout = kinds::layout(kind);
@@ -105,11 +104,11 @@ fn check_values(values: [u32; 24], kind: Kind) -> Finding
 }
 
 // The kind with a number, if there is one.
-fn find_kind(number: u32) -> OptionalKind
+fn find_kind(number: u32) -> Option<Kind>
     ensures { result ≡ find_by_number number }
 {
     if 255 < number {
-        return OptionalKind::None;
+        return None;
     }
     kinds::find_by_number(number as u8)
 }

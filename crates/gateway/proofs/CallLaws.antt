@@ -9,7 +9,8 @@ use mathlib.Core.List.{List, [], ◌∷◌}
 use lib.Dec.{eqb, ltb}
 use lib.ListN.{length, take, get_or, length-append}
 use borrow.Author.Tests.{eq-eqb, ne_eqb, ltb-true}
-use Rattle.rows.specs.declared.Finding.{Finding}
+use Rattle.rows.specs.Values.{Finding}
+use Rattle.std.proofs.Common.{Ok, Err}
 use Rattle.rows.specs.declared.Refusal.{Refusal}
 use Rattle.kinds.specs.Kinds.{width_of}
 use Rattle.kinds.specs.declared.Kind.{Kind}
@@ -115,15 +116,15 @@ module _ (x y ty : ℕ) (b : List ℕ) {s : Bool} (s-is : s ≡ catalogue_good x
             ap₂ element_check (sym is) (sym number_is) ∙ sym found-is ∙ q in
             sym (rw (yes s-is good, yes t-is h, f, g))
 
-        pub element_refused : {r : Refusal} → found ≡ Finding.Refused r → {a : Answer}
+        pub element_refused : {r : Refusal} → found ≡ Err r → {a : Answer}
             → a ≡ numbers (found_in r 65535) 0
             → a ≡ told (element_call x y ty b)
         unfolding told
-        element_refused {r} q e = e ∙ by_finding (Finding.Refused r) q
+        element_refused {r} q e = e ∙ by_finding (Err r) q
 
-        pub element_good : found ≡ Finding.Accepted → {a : Answer} → a ≡ unnamed 0 0 → a ≡ told (element_call x y ty b)
+        pub element_good : found ≡ Ok tt → {a : Answer} → a ≡ unnamed 0 0 → a ≡ told (element_call x y ty b)
         unfolding told
-        element_good q e = e ∙ by_finding Finding.Accepted q
+        element_good q e = e ∙ by_finding (Ok tt) q
 
 -- ---- the fields of a state that is read
 

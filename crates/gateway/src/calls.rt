@@ -4,7 +4,6 @@ ghost use Rattle.history.specs.Verdict.{told};
 ghost use Rattle.gateway.specs.Calls.{element_call};
 
 use history::Answer;
-use rows::Finding;
 use tables::{accepted, is_catalogue, refused, refused_by};
 
 // Checks an element of a type under a catalogue. It names no object.
@@ -22,7 +21,7 @@ pub fn check_element_alone(x: u8, y: u8, ty: u8, element: &[u8]) -> Answer
         return refused(8);
     }
     let finding = elements::check_element(octets::get(element), kind);
-    if let Finding::Refused(r) = finding {
+    if let Err(r) = finding {
         return refused_by(r, 65535);
     }
     accepted()

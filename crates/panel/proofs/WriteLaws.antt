@@ -12,7 +12,8 @@ use borrow.Author.Tests.{lt-ltb, le-ltb}
 use mir.Syntax.{w8}
 use mir.Val.{Fits}
 use Rattle.octets.specs.Octets.{bytes}
-use Rattle.rows.specs.declared.Finding.{Finding}
+use Rattle.rows.specs.Values.{Finding}
+use Rattle.std.proofs.Common.{Ok, Err}
 use Rattle.rows.specs.declared.Refusal.{Refusal}
 use Rattle.kinds.specs.Kinds.{width_of, kind_in}
 use Rattle.kinds.specs.declared.Kind.{Kind}
@@ -68,11 +69,11 @@ module _ (ns : List Kind) (i : ℕ) (e : Element) where
           ∙ sym (rw (inside, alike (yes t-is h)))
 
       -- 12: the element's check refuses the state's word
-      pub bad_state : {f : Refusal} → found ≡ Finding.Refused f → {s : Answer} → s ≡ numbers (found_in f i) 0
+      pub bad_state : {f : Refusal} → found ≡ Err f → {s : Answer} → s ≡ numbers (found_in f i) 0
           → Err s ≡ checked (check_state ns i e)
       bad_state {f} n q = ap Err q ∙ ap checked (ap (λ (n : Finding). n of i ⨾ done (word_of e)) (sym n) ∙ by_finding)
 
-      pub good_state : found ≡ Finding.Accepted → Ok tt ≡ checked (check_state ns i e)
+      pub good_state : found ≡ Ok tt → Ok tt ≡ checked (check_state ns i e)
       good_state n = ap checked (ap (λ (n : Finding). n of i ⨾ done (word_of e)) (sym n) ∙ by_finding)
 
 -- ---- the table

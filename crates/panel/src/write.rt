@@ -8,7 +8,6 @@ use forms::check_image_under;
 use history::Answer;
 use kinds::{Element, Kind, kind_in};
 use outputs::write_element;
-use rows::Finding;
 use tables::{Plan, outline, refused_at, refused_by};
 
 // Writes the image with an object's new state and the new position to the front of the output.
@@ -71,7 +70,7 @@ fn check_state(kinds: &[Kind], object: u16, state: Element) -> Result<(), Answer
     if !elements::same_kind(kind_in(state), kind) {
         return Err(refused_at(22, object));
     }
-    if let Finding::Refused(r) = elements::check_element(elements::word_of(state), kind) {
+    if let Err(r) = elements::check_element(elements::word_of(state), kind) {
         return Err(refused_by(r, object));
     }
     Ok(())

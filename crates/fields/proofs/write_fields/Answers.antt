@@ -7,8 +7,8 @@ use Rattle.fields.proofs.write_fields.Goals as goal
 pub returns-in_default : goal.returns-in_default
 returns-in_default c = refused_settles (search no_kind) (state_refuses _ _ _ _ _) _ c.refuse_state.ensures
 
-pub returns-in-Refused : goal.returns-in-Refused
-returns-in-Refused c = refused_settles (search no_value) (state_refuses _ _ _ _ _) _ c.refuse_state-in-Refused.ensures
+pub returns-in-Err : goal.returns-in-Err
+returns-in-Err c = refused_settles (search no_value) (state_refuses _ _ _ _ _) _ c.refuse_state-in-Err.ensures
 
 pub returns : goal.returns
 returns c = leaves_as _ (search state_writes) c.write_state.ensures

@@ -1,11 +1,8 @@
 -- `fields::by_rows::check_named` meets its contract: no row so far refuses its value, so the rows left decide.
 -- Assumes nothing.
 use native.Mathlib.Omega.{arith}
-use Rattle.fields.proofs.Loops.{checking, goes_on, stops, checked}
+use Rattle.fields.proofs.Loops.{goes_on, stops, checked}
 use Rattle.fields.proofs.by_rows.check_named.Goals as goal
-
-pub loop-k-init : goal.loop-k-init
-loop-k-init c = checking _ _ _
 
 pub returns-then-highest-values : goal.returns-then-highest-values
 returns-then-highest-values c = search stops

@@ -1,11 +1,7 @@
 -- `fields::by_rows::check_named` meets its contract: no row so far refuses its value, so the rows left decide.
 -- Assumes nothing.
-use Prim.Native.Nat.{◌-◌}
 use Rattle.fields.proofs.Loops.{Checking}
 use Rattle.fields.proofs.by_rows.check_named.Given as goal
 
 abbrev pub invariant-loop-k : goal.invariant-loop-k
 invariant-loop-k l = Checking l.first l.count l.values l.k
-
-abbrev pub decreases-loop-k : goal.decreases-loop-k
-decreases-loop-k l = l.count - l.k

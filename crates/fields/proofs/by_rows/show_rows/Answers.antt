@@ -1,13 +1,10 @@
 -- `fields::by_rows::show_rows` meets its contract: the fields so far are those of the rows so far.
 -- Assumes nothing.
 use native.Mathlib.Omega.{arith}
-use Rattle.fields.proofs.Loops.{showing, shows_on, shown_all}
+use Rattle.fields.proofs.Loops.{shows_on, shown_all}
 use mathlib.Core.Logic.{inl, inr}
 use Rattle.fields.proofs.by_rows.show_rows.Goals as goal
 use Rattle.fields.proofs.by_rows.show_rows.Goals.{then-highest-ne0, else-highest-ne0}
-
-pub loop-k-init : goal.loop-k-init
-loop-k-init c = showing _ _ _
 
 pub loop-k-preserved : goal.loop-k-preserved
 loop-k-preserved c = elim c.if-highest-ne0.branch [

@@ -1,13 +1,10 @@
 -- `fields::by_rows::take_rows` meets its contract: the values so far are those of the rows so far.
 -- Assumes nothing.
 use native.Mathlib.Omega.{arith}
-use Rattle.fields.proofs.Loops.{taking, takes_on, taken_all}
+use Rattle.fields.proofs.Loops.{takes_on, taken_all}
 use mathlib.Core.Logic.{inl, inr}
 use Rattle.fields.proofs.by_rows.take_rows.Goals as goal
 use Rattle.fields.proofs.by_rows.take_rows.Goals.{then-highest-ne0, else-highest-ne0}
-
-pub loop-k-init : goal.loop-k-init
-loop-k-init c = taking _ _ _
 
 pub loop-k-preserved : goal.loop-k-preserved
 loop-k-preserved c = elim c.if-highest-ne0.branch [

@@ -1,11 +1,7 @@
 -- `fields::by_rows::take_rows` meets its contract: the values so far are those of the rows so far.
 -- Assumes nothing.
-use Prim.Native.Nat.{◌-◌}
 use Rattle.fields.proofs.Loops.{Taking}
 use Rattle.fields.proofs.by_rows.take_rows.Given as goal
 
 abbrev pub invariant-loop-k : goal.invariant-loop-k
 invariant-loop-k l = Taking l.first l.count l.fields l.values l.n l.k
-
-abbrev pub decreases-loop-k : goal.decreases-loop-k
-decreases-loop-k l = l.count - l.k

@@ -12,8 +12,8 @@ returns-then-not-is_carried c = search element_5
 pub returns-then-element-width : goal.returns-then-element-width
 returns-then-element-width c = search element_8
 
-pub returns-in-Refused : goal.returns-in-Refused
-returns-in-Refused c = search element_refused
+pub returns-in-Err : goal.returns-in-Err
+returns-in-Err c = search element_refused
 
 pub returns : goal.returns
 returns c = search element_good

@@ -9,8 +9,8 @@ returns-then-kinds-index c = search no_object
 pub returns-then-not-same_kind : goal.returns-then-not-same_kind
 returns-then-not-same_kind c = search other_kind
 
-pub returns-in-Refused : goal.returns-in-Refused
-returns-in-Refused c = search bad_state
+pub returns-in-Err : goal.returns-in-Err
+returns-in-Err c = search bad_state
 
 pub returns : goal.returns
 returns c = search good_state
