@@ -301,6 +301,7 @@ def states_source():
     text = '''// The floor of states: for each layout a module with its struct of named fields, its width in bytes, its state without data if bit 0
 // is DAT, and the way from its fields' values in the rows' order to a state and back. Written by catalogue/write.py from
 // catalogue/fields.tsv. It checks nothing. The comment beside a field is its mnemonic in the first annex that prints the layout.
+// No trait of its own joins the structs: each caller has an arm for each kind, so none would be generic over it.
 #![tactic(auto)]
 
 '''
@@ -420,7 +421,8 @@ def kinds_source():
     kind = lambda l: f'Kind::{l.struct}'
     text = f'''// The floor of kinds: the kinds of element, one for each layout, the state of any kind, and every function that has an arm
 // for each kind. Written by catalogue/write.py from catalogue/fields.tsv, where a layout is added. It refuses nothing. The floors above
-// read what they need of a kind from its layout.
+// read what they need of a kind from its layout. Each arm of a match returns: with arms as values, which meet after the match, reading a
+// state by C takes some 50 instructions more.
 #![tactic(auto)]
 
 ghost use Rattle.std.specs.Prelude.{{◌≡◌, ◌+◌, ◌≤◌, T, length}};
@@ -512,12 +514,12 @@ pub fn kind_in(element: Element) -> Kind
 pub fn element_of(kind: Kind, values: [u32; 24]) -> Element
     ensures { result ≡ element_of kind values }
 {
-''' + match('kind', lambda l: f'Element::{l.struct}(values.into())', kind) + '''
+''' + match('kind', lambda l: f'Element::{l.struct}({l.struct}::from(values))', kind) + '''
 // A state's fields' values in the rows' order, padded with zeros.
 pub fn values_of(element: Element) -> [u32; 24]
     ensures { result ≡ padded (element_values element) }
 {
-''' + match('element', lambda l: 'state.into()', lambda l: f'Element::{l.struct}(state)')
+''' + match('element', lambda l: '<[u32; 24]>::from(state)', lambda l: f'Element::{l.struct}(state)')
     return text
 
 

@@ -2,6 +2,7 @@
 // data if bit 0 is DAT, and the way from its fields' values in the rows' order to a state and back. Written by
 // catalogue/write.py from catalogue/fields.tsv. It checks nothing. The comment beside a field is its mnemonic in the
 // first annex that prints the layout.
+// No trait of its own joins the structs: each caller has an arm for each kind, so none would be generic over it.
 #![tactic(auto)]
 
 mod changer_signal;
