@@ -1,58 +1,99 @@
--- A view's count and a label's part, from the table's outline and the label's place; and what a caller relies on: a
+-- A view's count and a label's part, from the table's plan and the label's place; and what a caller relies on: a
 -- request's numbers and its part fit each other.
 -- Assumes nothing.
 use Prim.Native.Nat.{ℕ, ◌+◌, ◌-◌, ◌≤◌}
 use native.Mathlib.Omega.{arith}
 use mathlib.Core.Path.{◌≡◌, refl, sym, ap, subst, ◌∙◌}
 use mathlib.Core.List.{List, []}
-use lib.ListN.{length, take, drop, length-drop}
+use Rattle.std.specs.Prelude.{Result, Ok, Err}
+use lib.ListN.{length, take, drop, length-drop, length-map}
 use lib.Seq.{length-take-le}
 use denote.Ref.{Bor}
 use Rattle.octets.specs.Octets.{Bytes}
 use Rattle.history.specs.declared.Answer.{Answer}
-use Rattle.history.specs.Verdict.{Verdict, refused, done, told}
-use Rattle.history.specs.Table.{Table, object, read_table}
-use Rattle.history.specs.Calls.{table_call, Place, label_call}
+use Rattle.history.specs.Verdict.{Verdict, refused, done, then, unnamed, told, given}
+use Rattle.history.specs.Table.{Table, object, read_table, Plan, plan_of}
+use Rattle.history.specs.Calls.{table_call, read_plan, Place, label_call}
+use Rattle.history.proofs.VerdictLaws.{used}
+use Rattle.history.proofs.OutputLaws.{given_done}
 use Rattle.history.proofs.LabelLaws.{label_is}
 use Rattle.history.proofs.CodeLaws.{label_call_coded, zero_told}
-use Rattle.tables.specs.Outlines.{outline_of, Outlined}
-use Rattle.tables.specs.LabelPlaces.{label_told, LabelFound}
-use Rattle.tables.specs.declared.answers.Outline.{Outline}
+use Rattle.tables.specs.LabelPlaces.{label_at, label_told, LabelFound}
 use Rattle.tables.specs.declared.place.LabelAt.{LabelAt}
 use Rattle.view.specs.Parts.{count_of, given_place, Part}
 
 -- ---- the count
 
-outline_count : (v : Verdict Table) → (outline_of v).count ≡ count_of v
-unfolding outline_of count_of
-outline_count (refused r) = refl
-outline_count (done t) = refl
+-- an accepted table has as many objects as its plan has kinds
+pub counted : (T : List ℕ) {p q : Plan} → Ok p ≡ given (λ (p : Plan). p) (read_plan T) → q ≡ p
+    → length q.kinds ≡ count_of (table_call T)
+unfolding read_plan table_call count_of plan_of
+counted T {p} {q} e q-is =
+    let r = given_done (read_plan T) (λ (p : Plan). p) e in
+    let u = used (read_table T) (λ (t : Table). done (plan_of t)) r.1 in
+    let plan : q ≡ plan_of u.0 = cc (r.2, u.2) in
+    ap (λ (p : Plan). length p.kinds) plan
+    ∙ length-map u.0.objects _
+    ∙ sym (ap count_of u.1)
 
-pub counted : {T : List ℕ} {r : Outline} → Outlined T r → r.count ≡ count_of (table_call T)
-counted {T} o = ap (λ (r : Outline). r.count) o.whole ∙ outline_count (table_call T)
+pub uncounted : (T : List ℕ) {a : Answer} → Err a ≡ given (λ (p : Plan). p) (read_plan T) → 0 ≡ count_of (table_call T)
+unfolding read_plan table_call count_of
+uncounted T {a} e = go (read_table T) e
+  where
+    go : (v : Verdict Table) → Err a ≡ given (λ (p : Plan). p) (then v (λ t. done (plan_of t))) → 0 ≡ count_of v
+    go (refused r) e = refl
+    go (done t) e = absurd (let z : ◌≡◌ {A = ℕ} 0 1 = cc in omega arith)
+
+-- ---- the numbers
+
+told_found : (v : Verdict Place) {l : LabelAt} → Ok l ≡ label_told v → unnamed 0 0 ≡ told v
+unfolding label_told told
+told_found (refused r) e = absurd (let z : ◌≡◌ {A = ℕ} 0 1 = cc in omega arith)
+told_found (done p) e = refl
+
+told_refused : (v : Verdict Place) {a : Answer} → Err a ≡ label_told v → a ≡ told v
+unfolding label_told told
+told_refused (refused r) e = cc
+told_refused (done p) e = absurd (let z : ◌≡◌ {A = ℕ} 0 1 = cc in omega arith)
+
+module _ {T : List ℕ} {i : ℕ} {r : Result LabelAt Answer} (l : LabelFound T i r) where
+  pub found_told : {f : LabelAt} → r ≡ Ok f → (a : Answer) → a ≡ unnamed 0 0 → a ≡ told (label_call T i)
+  found_told e a a-is = a-is ∙ told_found (label_call T i) (sym e ∙ l.whole)
+
+  pub refused_told : {a : Answer} → r ≡ Err a → a ≡ told (label_call T i)
+  refused_told e = told_refused (label_call T i) (sym e ∙ l.whole)
 
 -- ---- the part
 
-abbrev at : LabelAt → Place
-at r = record { offset = r.offset; size = r.size }
-
-told_place : (v : Verdict Place) → at (label_told v) ≡ given_place v
+told_place : (v : Verdict Place) (l : LabelAt) → Ok l ≡ label_told v
+    → record { offset = l.offset; size = l.size } ≡ given_place v
 unfolding label_told given_place
-told_place (refused r) = refl
-told_place (done p) = refl
+told_place (refused r) l e = absurd (let z : ◌≡◌ {A = ℕ} 0 1 = cc in omega arith)
+told_place (done p) l e =
+    let q : l ≡ label_at p = cc in ap (λ (l : LabelAt). record { offset = l.offset; size = l.size }) q
 
-found_place : {T : List ℕ} {i : ℕ} {r : LabelAt} → LabelFound T i r → at r ≡ given_place (label_call T i)
-found_place {T} {i} l = ap at l.whole ∙ told_place (label_call T i)
+told_nothing : (v : Verdict Place) {a : Answer} → Err a ≡ label_told v → record { offset = 0; size = 0 } ≡ given_place v
+unfolding label_told given_place
+told_nothing (refused r) e = refl
+told_nothing (done p) e = absurd (let z : ◌≡◌ {A = ℕ} 0 1 = cc in omega arith)
 
--- the part that the code takes at the place is the one defined
-pub found_part : {T : Bor (List ℕ)} {i : ℕ} {r : LabelAt} (part : Bor (List ℕ)) → LabelFound T.now i r
-    → part.ref_ptr ≡ (T.ref_ptr.0, r.offset + T.ref_ptr.1)
-    → part.now ≡ take (r.offset + r.size - r.offset) (drop r.offset T.now)
-    → Part T part (given_place (label_call T.now i))
-found_part {T} {i} {r} part l p b =
-    let all : r.offset + r.size - r.offset ≡ r.size = omega arith in
-    subst (Part T part) (found_place l)
-    (record { place = p; bytes = b ∙ ap (λ (n : ℕ). take n (drop r.offset T.now)) all })
+module _ {T : Bor (List ℕ)} {i : ℕ} {r : Result LabelAt Answer} (part : Bor (List ℕ)) (l : LabelFound T.now i r) where
+  -- the part that the code takes at the place is the one defined ..
+  pub found_part : (f : LabelAt) → r ≡ Ok f → part.ref_ptr ≡ (T.ref_ptr.0, f.offset + T.ref_ptr.1)
+      → part.now ≡ take (f.offset + f.size - f.offset) (drop f.offset T.now)
+      → Part T part (given_place (label_call T.now i))
+  found_part f e p b =
+      let all : f.offset + f.size - f.offset ≡ f.size = omega arith in
+      subst (Part T part) (told_place (label_call T.now i) f (sym e ∙ l.whole))
+      (record { place = p; bytes = b ∙ ap (λ (n : ℕ). take n (drop f.offset T.now)) all })
+
+  -- .. and that of a refused request is empty, at the front
+  pub no_part : {a : Answer} → r ≡ Err a → part.ref_ptr ≡ T.ref_ptr → part.now ≡ []
+      → Part T part (given_place (label_call T.now i))
+  no_part e p b =
+      let front : T.ref_ptr.1 ≡ 0 + T.ref_ptr.1 = omega arith in
+      subst (Part T part) (told_nothing (label_call T.now i) (sym e ∙ l.whole))
+      (record { place = p ∙ (λ j. (T.ref_ptr.0, front j)); bytes = b })
 
 -- ---- what a caller relies on
 

@@ -8,7 +8,7 @@ ghost use Rattle.history.specs.Calls.{table_call, label_call};
 ghost use Rattle.view.specs.Parts.{count_of, given_place, Part};
 
 use history::Answer;
-use tables::{check_table, label_place, outline};
+use tables::{accepted, check_table, label_place, outline};
 
 // A lent table, and how many objects it has: 0 if it is not accepted.
 #[derive(Clone, Copy)]
@@ -50,14 +50,19 @@ pub fn open_answer(table: &[u8]) -> Answer
 pub fn label_answer(table: &[u8], object: u16) -> Answer
     ensures { result ≡ told (label_call table.now object) }
 {
-    label_place(table, object).answer
+    match label_place(table, object) {
+        Ok(_) => accepted(),
+        Err(answer) => answer,
+    }
 }
 
-// The label as a part of the table; empty if the request is refused.
+// The label as a part of the table; the empty part at the front if the request is refused.
 pub fn label_part(table: &[u8], object: u16) -> &[u8]
     ensures { Part table.entry result (given_place (label_call table.now object)) }
 {
-    let found = label_place(table, object);
+    let Ok(found) = label_place(table, object) else {
+        return &table[..0];
+    };
     let start = found.offset;
     let end = start + found.size;
     &table[start..end]
@@ -67,5 +72,8 @@ pub fn label_part(table: &[u8], object: u16) -> &[u8]
 pub fn count_of(table: &[u8]) -> usize
     ensures { result ≡ count_of (table_call table.now) }
 {
-    outline(table).count
+    match outline(table) {
+        Ok(outline) => outline.plan().kinds.len(),
+        Err(_) => 0,
+    }
 }

@@ -1,8 +1,11 @@
--- `view::count_of` meets its contract: the outline's count.
+-- `view::count_of` meets its contract: the plan has as many kinds as the table has objects.
 -- Assumes nothing.
-use Rattle.view.proofs.PartLaws.{counted}
-use borrow.Author.Rules.{rules}
+use mathlib.Core.Path.{sym, ◌∙◌}
+use Rattle.view.proofs.PartLaws.{counted, uncounted}
 use Rattle.view.proofs.count_of.Goals as goal
 
-pub returns : goal.returns
-returns c = counted c.outline.ensures
+pub returns-in-Ok : goal.returns-in-Ok
+returns-in-Ok c = counted _ (sym c.in-Ok.is ∙ c.outline.ensures) c.plan.ensures
+
+pub returns-in-Err : goal.returns-in-Err
+returns-in-Err c = uncounted _ (sym c.in-Err.is ∙ c.outline.ensures)
