@@ -1,9 +1,8 @@
 -- A state's fields as numbers: the values of fields that are not reserved, from bit 0 up, in
 -- the first of 32 places, then zeros.
-use Rattle.std.specs.Prelude.{ℕ, cond, List, [], ◌∷◌, leb, eqb, length, replicate, get_or, drop}
+use Rattle.std.specs.Prelude.{ℕ, cond, List, [], ◌∷◌, leb, eqb, length, replicate, get_or, drop, Ok, Err}
 use Rattle.rows.specs.Rows.{Row}
 use Rattle.rows.specs.Values.{Finding, code_at, filled, padded}
-use Rattle.std.specs.Prelude.{Ok, Err}
 use Rattle.kinds.specs.Kinds.{layout_no, rows_of, kind_in, element_values}
 use Rattle.kinds.specs.declared.Kind.{Kind}
 use Rattle.kinds.specs.declared.Element.{Element}
