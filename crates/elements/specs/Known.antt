@@ -1,8 +1,7 @@
 -- Known elements: those that the paper marks P, each with its type, its bytes and what is found.
-use Rattle.std.specs.Prelude.{List, [], ◌∷◌, map, ℕ, length}
+use Rattle.std.specs.Prelude.{List, [], ◌∷◌, map, ℕ, length, Ok, Err}
 use Rattle.octets.specs.Octets.{number}
 use Rattle.rows.specs.Values.{Finding, code_at}
-use Rattle.std.specs.Prelude.{Ok, Err}
 use Rattle.kinds.specs.Kinds.{width_of}
 use Rattle.kinds.specs.declared.Kind.{Kind}
 use Rattle.elements.specs.Elements.{kind_of, element_check}

@@ -9,7 +9,7 @@ use lib.Dec.{ltb}
 use lib.Pow.{pow-add, pow_pos}
 use borrow.Author.Tests.{eq-eqb, lt-ltb, ltb-true, eqb-true}
 use Rattle.rows.specs.Values.{Finding, code_at}
-use Rattle.std.proofs.Common.{Ok, Err}
+use Rattle.std.proofs.Common.{Ok, Err, is_ok}
 use Rattle.rows.specs.declared.Refusal.{Refusal}
 use Rattle.kinds.specs.Kinds.{layout_no, width_of, kind_in}
 use Rattle.elements.specs.Elements.{same_kind, element_check, state_of, word_of, state_read}
@@ -20,7 +20,6 @@ use Rattle.elements.proofs.Laws.{word_fits, state_word_state, word_state_word, a
 use Rattle.elements.proofs.DatLaws.{Stale, state_accepted, state_stale}
 use Rattle.elements.proofs.Findings.{Refuses, element_refuses, zero_found}
 use Rattle.history.specs.Verdict.{Verdict, done}
-use Rattle.std.proofs.Common.{is_ok}
 use Rattle.history.specs.Image.{element, ◌of◌⨾◌, admits}
 use Rattle.history.proofs.VerdictLaws.{all, left, right}
 

@@ -1,11 +1,10 @@
 -- A glance at all fields of a number at once. Each row that doesn't admit every value of its field has two marks: what
 -- is added to the field, so that a value that isn't listed carries out of it, and the bit that it then carries into.
 -- A shortcut of the code, nothing to believe.
-use Rattle.std.specs.Prelude.{◌≡◌, Bool, true, ◌&&◌, ◌||◌, List, [], ◌∷◌, ℕ, suc, ◌+◌, ◌/◌, ◌%◌, ◌^◌, eqb}
+use Rattle.std.specs.Prelude.{◌≡◌, Bool, true, ◌&&◌, ◌||◌, List, [], ◌∷◌, ℕ, suc, ◌+◌, ◌/◌, ◌%◌, ◌^◌, eqb, Ok}
 use Rattle.std.specs.Int.Bits.{bit_and, bit_xor}
 use Rattle.rows.specs.Rows.{Row}
 use Rattle.rows.specs.Values.{check_rows}
-use Rattle.std.specs.Prelude.{Ok}
 
 -- the row admits every value that its field can hold
 abbrev pub admits_all : Row → Bool

@@ -1,10 +1,9 @@
 -- An element's fields, from bit 0 up: a field's value by its row, the refusals 10 and 11, and
 -- the number composed of values.
 use Rattle.std.specs.Prelude.{Bool, true, false, cond, List, [], ◌∷◌, ◌++◌, ℕ, zero, suc, ◌+◌, ◌-◌, ◌*◌, ◌/◌, ◌%◌, ◌^◌}
-use Rattle.std.specs.Prelude.{leb, eqb, length, replicate}
+use Rattle.std.specs.Prelude.{leb, eqb, length, replicate, Result, Ok, Err}
 use Rattle.rows.specs.Rows.{Row, row_at, number_at}
 use Rattle.rows.specs.declared.Refusal.{Refusal}
-use Rattle.std.specs.Prelude.{Result, Ok, Err}
 
 -- the value of a row's field in the number w: bit k weighs 2^k, the highest bit of a field is its most significant
 abbrev pub field_of : ℕ → Row → ℕ
