@@ -148,11 +148,6 @@ module _ (ks : List Kind) (b : List ℕ) (h : length b ≡ image_head b + widths
 -- ---- a copy at the front of the output, changed there
 
 module _ (A out : List ℕ) {cs : List ℕ} (c : cs ≡ A) where
-  pub copied_sized : (ks : List Kind) → length A ≡ image_head A + widths ks
-      → length (mid_of 0 (length A - 0) (put_mid 0 (length A - 0) out cs))
-      ≡ image_head (mid_of 0 (length A - 0) (put_mid 0 (length A - 0) out cs)) + widths ks
-  copied_sized ks h = rw (copy_is A out c) h
-
   -- what is left is the changed image
   pub copied_puts : (f : List ℕ → List ℕ) → length (f A) ≡ length A → length A ≤ length out → {r : Result ℕ Answer}
       → r ≡ Ok (length A) → {bs : List ℕ} → bs ≡ f (mid_of 0 (length A - 0) (put_mid 0 (length A - 0) out cs))

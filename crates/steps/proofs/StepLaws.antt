@@ -17,7 +17,7 @@ use Rattle.history.specs.declared.Change.TheVariants.{Keep as keep, Swap as swap
 use Rattle.history.specs.Changes.{entries, differ, meets, joined, back}
 use Rattle.steps.specs.declared.Walk.{Walk}
 use Rattle.steps.specs.Steps.{span, entry_bytes, names, count_if, size_if, said_if, change_at, is_swap, step_of}
-use Rattle.steps.specs.Steps.{Stepped, Silent, AllIdle, renewed}
+use Rattle.steps.specs.Steps.{Stepped, Silent, AllIdle}
 
 -- ---- an entry at a cursor
 
@@ -71,38 +71,13 @@ pub names_inside : (l : List ℕ) (p i w : ℕ) {t : Bool} → p ≤ length l �
     → p + size_if t w ≤ length l
 names_inside l p i w h e = omega (arith, size_room i w (drop p l), length-drop p l, ap (λ (u : Bool). size_if u w) e)
 
--- where the entry is known to be there: its old element, its new one, and both
-module _ {t : Bool} (e : t ≡ true) (w p n : ℕ) (h : p + size_if t w ≤ n) where
-  whole : p + (2 + (w + w)) ≤ n
-  whole = rw e at h
-
-  pub old_there : p + 2 + w ≤ n
-  old_there = omega (arith, whole)
-
-  pub new_there : p + 2 + w + w ≤ n
-  new_there = omega (arith, whole)
-
+-- where the entry is known to be there
 pub said_swap : {t : Bool} → t ≡ true → (w p : ℕ) (l : List ℕ) {old new : ℕ} → old ≡ number (take w (drop (p + 2) l))
     → new ≡ number (take w (drop (p + 2 + w) l))
     → swap old new ≡ said_if t w (drop p l)
 said_swap e w p l o m =
     let s : p + (2 + w) ≡ p + 2 + w = omega arith in
     rw (e, drop-drop 2 p l, drop-drop (2 + w) p l, s, o, m)
-
-pub said_keep : {t : Bool} (w : ℕ) (b : List ℕ) → t ≡ false → keep ≡ said_if t w b
-said_keep w b e = rw e
-
-pub size_keep : {t : Bool} (w : ℕ) → t ≡ false → 0 ≡ size_if t w
-size_keep w e = rw e
-
-pub size_whole : {t : Bool} (w : ℕ) → t ≡ true → 2 + (w + w) ≡ size_if t w
-size_whole w e = rw e
-
-pub count_keep : {t : Bool} → t ≡ false → 0 ≡ count_if t
-count_keep e = rw e
-
-pub count_whole : {t : Bool} → t ≡ true → 1 ≡ count_if t
-count_whole e = rw e
 
 pub said_at : (i w : ℕ) (b : List ℕ) {t : Bool} {c : Change} → t ≡ names i w b → c ≡ said_if t w b → c ≡ change_at i w b
 unfolding change_at
@@ -116,35 +91,8 @@ differ_swap old new = differs (eqb old new)
     differs true = refl
     differs false = refl
 
--- ---- an object in two lists
+-- ---- an object in both of two lists
 
--- not in the first
-module _ {one : Bool} (e : one ≡ false) (w : ℕ) (f s : List ℕ) (other : Bool) where
-  pub second_meets : true ≡ meets (said_if one w f) (said_if other w s)
-  second_meets = rw e
-
-  pub second_joins : other ≡ is_swap (joined (said_if one w f) (said_if other w s))
-  second_joins = rw e (swaps other)
-    where
-      swaps : (t : Bool) → t ≡ is_swap (said_if t w s)
-      swaps true = refl
-      swaps false = refl
-
-  pub second_joined : {r : Change} → r ≡ said_if other w s → r ≡ joined (said_if one w f) (said_if other w s)
-  second_joined p = rw e p
-
--- in the first and not in the second
-module _ {one other : Bool} (e : one ≡ true) (g : other ≡ false) (w : ℕ) (f s : List ℕ) where
-  pub first_meets : true ≡ meets (said_if one w f) (said_if other w s)
-  first_meets = rw (e, g)
-
-  pub first_joins : true ≡ is_swap (joined (said_if one w f) (said_if other w s))
-  first_joins = rw (e, g)
-
-  pub first_joined : {r : Change} → r ≡ said_if one w f → r ≡ joined (said_if one w f) (said_if other w s)
-  first_joined p = p ∙ rw (e, g)
-
--- in both
 module _ {one other : Bool} (e : one ≡ true) (g : other ≡ true) (w p q : ℕ) (f s : List ℕ) where
   places : (n : ℕ) → n + (2 + w) ≡ n + 2 + w
   places n = omega arith
@@ -206,17 +154,6 @@ size_swap w (swap old new) = refl
 
 -- ---- an element and an entry written
 
-pub renewed_put : (part : List ℕ) {ys : List ℕ} {old new : ℕ} {c : Change} → c ≡ swap old new
-    → ys ≡ bytes (length part) new → ys ≡ renewed c part
-renewed_put part e p = p ∙ sym (ap (λ (d : Change). renewed d part) e)
-
-none : (xs : List ℕ) → length xs ≡ 0 → xs ≡ []
-none [] h = refl
-none (x ∷ xs) h = absurd (omega arith)
-
-pub entry_kept : (part : List ℕ) (i w : ℕ) {c : Change} → length part ≡ span w c → c ≡ keep → part ≡ entry_bytes i w c
-entry_kept part i w l e = none part (l ∙ ap (span w) e) ∙ sym (ap (entry_bytes i w) e)
-
 entry_done : (i w old new : ℕ)
     → (([] ++ bytes 2 i) ++ bytes (2 + w - 2) old) ++ bytes (2 + w + w - (2 + w)) new ≡ entry_bytes i w (swap old new)
 entry_done i w old new =
@@ -229,22 +166,12 @@ module _ (part : List ℕ) (w : ℕ) {old new : ℕ} {c : Change} (l : length pa
   long : length part ≡ 2 + (w + w)
   long = l ∙ ap (span w) e
 
-  pub number_inside : 2 ≤ length part
-  number_inside = omega (arith, long)
-
-  -- a put keeps the part's length
-  pub old_inside : (b : List ℕ) → length b ≡ length part → 2 + w ≤ length b
-  old_inside b p = omega (arith, long)
-
-  pub new_inside : (b d : List ℕ) → length b ≡ length part → length d ≡ length b → 2 + w + w ≤ length d
-  new_inside b d p q = omega (arith, long)
-
   pub entry_put : (i : ℕ) {xs ys zs : List ℕ} → xs ≡ bytes (length (mid_of 0 2 part)) i
       → ys ≡ bytes (length (mid_of 2 (2 + w - 2) (put_mid 0 2 part xs))) old
       → zs ≡ bytes (length (mid_of (2 + w) (2 + w + w - (2 + w)) (put_mid 2 (2 + w - 2) (put_mid 0 2 part xs) ys))) new
       → put_mid (2 + w) (2 + w + w - (2 + w)) (put_mid 2 (2 + w - 2) (put_mid 0 2 part xs) ys) zs ≡ entry_bytes i w c
   entry_put i p q r =
-      let w₁ = append_put (start part) i 2 p (omega arith) number_inside in
+      let w₁ = append_put (start part) i 2 p (omega arith) (omega (arith, long)) in
       let w₂ = append_put w₁ old (2 + w) q (omega arith) (omega (arith, long)) in
       let w₃ = append_put w₂ new (2 + w + w) r (omega arith) (omega (arith, long)) in
       filled w₃ (omega (arith, long)) ∙ entry_done i w old new ∙ sym (ap (entry_bytes i w) e)

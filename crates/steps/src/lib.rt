@@ -5,14 +5,11 @@
 #![tactic(auto)]
 
 ghost use Rattle.std.specs.Prelude.{◌≡◌, ◌+◌, ◌≤◌, ◌<◌, length, drop};
-ghost use Rattle.kinds.specs.Kinds.{width_of};
-ghost use Rattle.history.specs.Table.{kind_at};
 ghost use Rattle.history.specs.Changes.{differ, fits, meets, joined, back};
 ghost use Rattle.steps.specs.Steps.{span, entry_bytes, names, count_if, size_if, said_if, change_at, is_swap, Silent};
 ghost use Rattle.steps.specs.Steps.{AllIdle, renewed};
 
 use history::Change;
-use kinds::Kind;
 
 // The operations that make a list; each is a walk over the objects.
 #[derive(Clone, Copy)]
@@ -199,14 +196,6 @@ pub fn join_change(
     let before = octets::get_at(first, near + 2, width);
     let after = octets::get_at(second, far + 2 + width, width);
     differ(before, after)
-}
-
-// How many bytes the object's element takes.
-pub fn width_at(kinds: &[Kind], object: usize) -> usize
-    requires { object < length kinds.now }
-    ensures { (result ≡ width_of (kind_at kinds.now object)) × (result ≤ 4) }
-{
-    elements::width(kinds[object])
 }
 
 // Fills the part with the object's entry; for a kept object the part is empty.

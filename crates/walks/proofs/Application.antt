@@ -1,7 +1,7 @@
 -- The turns of application's two loops: at object i, with p the place in the entries and `at` the place in the
 -- elements, what is done and what is still to be done make up the whole. The places are the same in both loops.
 -- Assumes nothing.
-use Prim.Native.Nat.{ℕ, suc, ◌+◌, ◌-◌, ◌^◌, ◌≤◌, ◌<◌}
+use Prim.Native.Nat.{ℕ, suc, ◌+◌, ◌-◌, ◌≤◌, ◌<◌}
 use native.Mathlib.Omega.{arith}
 use native.Mathlib.Nat.{add-zero}
 use native.Mathlib.Numerals.{add-one}
@@ -20,7 +20,7 @@ use Rattle.history.specs.Table.{kind_at}
 use Rattle.history.specs.Image.{widths}
 use Rattle.history.specs.Changes.{fits}
 use Rattle.octets.proofs.NumberLaws.{length_bytes}
-use Rattle.octets.proofs.Writing.{Filling, begin, along, keeps, write, ended, untouched}
+use Rattle.octets.proofs.Writing.{Filling, begin, along, write, untouched}
 use Rattle.forms.proofs.KindLaws.{kinds_next, kinds_end}
 use Rattle.steps.specs.Steps.{span, change_at, Silent, renewed}
 use Rattle.steps.proofs.StepLaws.{said_inside}
@@ -43,9 +43,6 @@ module _ {ks : List Kind} {e : List ℕ} {n at p i : ℕ} (z : Places ks e n at 
     pub element_inside : at + w ≤ n
     element_inside = omega (arith, z.room, ap widths (kinds_next ks i h))
 
-    pub element_fits : n < 2 ^ 64 → at + w < 2 ^ 64
-    element_fits k = omega (arith, element_inside)
-
     module _ {m : ℕ} {c : Change} (ec : c ≡ change_at i w (drop p e)) (em : m ≡ span w c) where
       -- the entry ends within the entries
       pub entry_inside : p + m ≤ length e
@@ -59,32 +56,12 @@ module _ {ks : List Kind} {e : List ℕ} {n at p i : ℕ} (z : Places ks e n at 
             room = omega (arith, z.room, ap widths (kinds_next ks i h));
           }
 
-  -- past an object that is not named
-  pass_places : i < length ks → Places ks e n (at + width_of (kind_at ks i)) p (i + 1)
-  pass_places h =
-      record { inside = omega arith; near = z.near; room = omega (arith, z.room, ap widths (kinds_next ks i h)) }
-
--- after the objects passed the place is still inside
-pub run_fits : {ks : List Kind} {e : List ℕ} {n at p i : ℕ} → Places ks e n at p i → i < length ks
-    → {w m : ℕ} {c : Change}
-    → w ≡ width_of (kind_at ks i)
-    → c ≡ change_at i w (drop p e) → m ≡ span w c → {j v : ℕ} → Silent (i + 1) j (length ks) (drop (p + m) e)
-    → (v ≡ widths (take (j - (i + 1)) (drop (i + 1) ks))) × (v ≤ 4096) → n < 2 ^ 64 → at + w + v < 2 ^ 64
-run_fits {ks} {e} {n} {p = p} z h {m = m} ew ec em d ev k =
-    let last =
-    pass ks (λ k a. Places ks e n a (p + m) k) d ev.0 (λ k a l _ g. pass_places g l)
-    (next_places z h ew ec em) in
-    omega (arith, last.room)
-
 -- ---- the lowest object whose element is not its entry's old one
 
 -- every object passed fits
 pub record Fitting (ks : List Kind) (e b : List ℕ) (at p i : ℕ) : Type 0 where
   pub place : Places ks e (length b) at p i
   pub same : unfit 0 ks e b ≡ unfit i (drop i ks) (drop p e) (drop at b)
-
-pub none_fitted : (ks : List Kind) (e b : List ℕ) → length b ≡ widths ks → Fitting ks e b 0 0 0
-none_fitted ks e b h = record { place = first_places ks e h; same = refl }
 
 module _ {ks : List Kind} {e b : List ℕ} {at p i : ℕ} (z : Fitting ks e b at p i) where
   module _ (h : i < length ks) {w : ℕ} {c : Change} (ew : w ≡ width_of (kind_at ks i))
@@ -166,13 +143,7 @@ renewal_next ks e part at p i w n c h ew ec en =
     rw (kinds_next ks i h, ← ew, ← ec, ← en, add-one i, drop-drop n p e, drop-drop w at part)
 
 module _ {ks : List Kind} {e part₀ part : List ℕ} {at p i : ℕ} (z : Renewing ks e part₀ part at p i) where
-  pub renew_keeps : length part ≡ length part₀
-  renew_keeps = keeps z.fill
-
   module _ (h : i < length ks) {w : ℕ} (ew : w ≡ width_of (kind_at ks i)) where
-    pub renew_inside : at + w ≤ length part
-    renew_inside = omega (arith, element_inside z.place h ew, renew_keeps)
-
     step_renewed : {n : ℕ} {c : Change} {ys : List ℕ} → c ≡ change_at i w (drop p e) → n ≡ span w c
         → ys ≡ renewed c (mid_of at (at + w - at) part)
         → Renewing ks e part₀ (put_mid at (at + w - at) part ys) (at + w) (p + n) (i + 1)
@@ -196,12 +167,6 @@ module _ {ks : List Kind} {e part₀ part : List ℕ} {at p i : ℕ} (z : Renewi
   pass_renewed h c =
       let w : ℕ = width_of (kind_at ks i) in
       rw (put_same at (at + w - at) part, add-zero p) at (step_renewed h refl {n = 0} {c = keep} (sym c) refl refl)
-
-  pub all_renewed : length ks ≤ i → part ≡ renewal 0 ks e part₀
-  unfolding renewal
-  all_renewed h =
-      let nothing : renewal i (drop i ks) (drop p e) (drop at part₀) ≡ [] = rw (kinds_end ks i h) in
-      ended (along z.fill nothing)
 
 -- past the object's own element, to the next object that is named
 pub one_renewed : {ks : List Kind} {e part₀ part : List ℕ} {at p i : ℕ} → Renewing ks e part₀ part at p i

@@ -1,14 +1,14 @@
 -- The turns of the loops that make a list, operation by operation:
 -- each is a turn of the walk, with the step that the functions called return.
 -- Assumes nothing.
-use Prim.Native.Nat.{ℕ, suc, ◌+◌, ◌-◌, ◌^◌, ◌≤◌, ◌<◌}
+use Prim.Native.Nat.{ℕ, suc, ◌+◌, ◌-◌, ◌≤◌, ◌<◌}
 use native.Mathlib.Omega.{arith}
 use mathlib.Core.Path.{◌≡◌, refl, ap, subst, ◌∙◌}
 use mathlib.Core.Bool.{Bool, true, false, not}
 use mathlib.Core.List.{List, [], ◌∷◌}
 use lib.Dec.{eqb}
 use lib.ListN.{length, take, drop}
-use borrow.Rule.Slice.PartMut.{put_mid, mid_of}
+use borrow.Rule.Slice.PartMut.{put_mid}
 use Rattle.octets.specs.Octets.{number}
 use Rattle.kinds.specs.Kinds.{width_of}
 use Rattle.kinds.specs.declared.Kind.{Kind}
@@ -20,10 +20,10 @@ use Rattle.forms.proofs.KindLaws.{kinds_next}
 use Rattle.steps.specs.declared.Walk.{Walk}
 use Rattle.steps.specs.Steps.{span, entry_bytes, names, count_if, size_if, said_if, change_at, is_swap, step_of}
 use Rattle.steps.specs.Steps.{Stepped, Silent, AllIdle}
-use Rattle.steps.proofs.StepLaws.{difference_step, join_step, turn_step, differ_swap, names_inside, said_inside}
+use Rattle.steps.proofs.StepLaws.{difference_step, join_step, turn_step, differ_swap, names_inside}
 use Rattle.steps.proofs.StepLaws.{idle_none, idle_turn}
 use Rattle.walks.specs.Walks.{walked, walk_bytes, ElementsLong, Asked, Surveyed}
-use Rattle.walks.proofs.Rounds.{Sizing, sized_until, one_sized, Putting, put_fits, put_inside, put_long, one_put}
+use Rattle.walks.proofs.Rounds.{Sizing, sized_until, one_sized, Putting, put_inside, one_put}
 
 -- a difference asks that both forms are an image's elements
 pub asked : {walk : Walk} {ks : List Kind} {f s : List ℕ} → walk ≡ Walk.Difference → Asked walk ks f s
@@ -45,9 +45,6 @@ pub record Comparing (ks : List Kind) (f s : List ℕ) (p i : ℕ) : Type 0 wher
   pub old : p + widths (drop i ks) ≡ length f
   pub new : p + widths (drop i ks) ≡ length s
 
-pub none_compared : {ks : List Kind} {f s : List ℕ} → ElementsLong ks f s → Comparing ks f s 0 0
-none_compared e = record { old = omega (arith, e.first); new = omega (arith, e.second) }
-
 module _ {ks : List Kind} {f s : List ℕ} {p i : ℕ} (z : Comparing ks f s p i) (h : i < length ks) {w : ℕ}
     (ew : w ≡ width_of (kind_at ks i)) where
   pub old_inside : p + w ≤ length f
@@ -55,9 +52,6 @@ module _ {ks : List Kind} {f s : List ℕ} {p i : ℕ} (z : Comparing ks f s p i
 
   pub new_inside : p + w ≤ length s
   new_inside = omega (arith, z.new, ap widths (kinds_next ks i h))
-
-  pub place_fits : length f < 2 ^ 64 → p + w < 2 ^ 64
-  place_fits k = omega (arith, old_inside)
 
   pub one_compared : Comparing ks f s (p + w) (i + 1)
   one_compared =
@@ -81,14 +75,8 @@ module _ {ks : List Kind} {f s : List ℕ} {p i : ℕ} (z : Comparing ks f s p i
 
     module _ {c : Change} (ec : c ≡ differ a b) {part₀ part : List ℕ} {at n : ℕ}
         (y : Putting Walk.Difference ks f s part₀ part at p p i) (en : n ≡ span w c) where
-      pub difference_fits : length part₀ < 2 ^ 64 → at + n < 2 ^ 64
-      difference_fits k = put_fits y h ew (step ec) en k
-
       pub difference_inside : at + n ≤ length part
       difference_inside = put_inside y h ew (step ec) en
-
-      pub difference_long : length (mid_of at (at + n - at) part) ≡ span w c
-      difference_long = put_long y h ew (step ec) en
 
       pub difference_put : {ys : List ℕ} → ys ≡ entry_bytes i w c
           → Putting Walk.Difference ks f s part₀ (put_mid at (at + n - at) part ys) (at + n) (p + w) (p + w) (i + 1)
@@ -101,9 +89,6 @@ module _ (l : List ℕ) (p i w : ℕ) {t : Bool} {m : ℕ} (h : p ≤ length l) 
     (em : (m ≡ size_if t w) × (m ≤ 10)) where
   pub cursor_inside : p + m ≤ length l
   cursor_inside = omega (arith, names_inside l p i w h e, em.0)
-
-  pub cursor_fits : length l < 2 ^ 64 → p + m < 2 ^ 64
-  cursor_fits k = omega (arith, cursor_inside)
 
 module _ {ks : List Kind} {f s : List ℕ} {p q i w : ℕ} {one other : Bool} (h : i < length ks)
     (ew : w ≡ width_of (kind_at ks i)) (eo : one ≡ names i w (drop p f))
@@ -134,14 +119,8 @@ module _ {ks : List Kind} {f s : List ℕ} {p q i w : ℕ} {one other : Bool} (h
         })
     joint = join_step z.near z.far eo es ec refl refl refl
 
-    pub join_fits : length part₀ < 2 ^ 64 → at + n < 2 ^ 64
-    join_fits k = put_fits z h ew joint en k
-
     pub join_inside : at + n ≤ length part
     join_inside = put_inside z h ew joint en
-
-    pub join_long : length (mid_of at (at + n - at) part) ≡ span w c
-    join_long = put_long z h ew joint en
 
     pub join_put : {ys : List ℕ} → ys ≡ entry_bytes i w c → {k l : ℕ} → (k ≡ size_if one w) × (k ≤ 10)
         → (l ≡ size_if other w) × (l ≤ 10)
@@ -169,10 +148,6 @@ module _ {walk : Walk} (e : walk ≡ Walk.Turn) (ks : List Kind) (f s : List ℕ
       → b ≡ walk_bytes walk 0 ks f s
   bytes_turned p = bytes_as e ks f s (p ∙ bytes_alone ks f [] s)
 
-pub said_fits : (l : List ℕ) (p i w : ℕ) {c : Change} {m : ℕ} → p ≤ length l → c ≡ change_at i w (drop p l)
-    → (m ≡ span w c) × (m ≤ 10) → length l < 2 ^ 64 → p + m < 2 ^ 64
-said_fits l p i w h ec em k = omega (arith, said_inside l p i w h ec em.0)
-
 module _ {ks : List Kind} {f s part₀ part : List ℕ} {at p i w n : ℕ} (z : Putting Walk.Turn ks f s part₀ part at p 0 i)
     (h : i < length ks) (ew : w ≡ width_of (kind_at ks i)) {c d : Change} (ec : c ≡ change_at i w (drop p f))
     (ed : d ≡ back c) (en : n ≡ span w d) where
@@ -180,14 +155,8 @@ module _ {ks : List Kind} {f s part₀ part : List ℕ} {at p i w n : ℕ} (z : 
       → Stepped Walk.Turn i w f p s 0 (record { change = d; agrees = true; first = m; second = 0 })
   turned em = turn_step z.near z.far ec ed em
 
-  pub turn_fits : length part₀ < 2 ^ 64 → at + n < 2 ^ 64
-  turn_fits k = put_fits z h ew (turned refl) en k
-
   pub turn_inside : at + n ≤ length part
   turn_inside = put_inside z h ew (turned refl) en
-
-  pub turn_long : length (mid_of at (at + n - at) part) ≡ span w d
-  turn_long = put_long z h ew (turned refl) en
 
   pub turn_put : {ys : List ℕ} → ys ≡ entry_bytes i w d → {m : ℕ} → (m ≡ span w c) × (m ≤ 10) → {j : ℕ}
       → Silent (i + 1) j (length ks) (drop (p + m) f)

@@ -1,7 +1,7 @@
 -- The turns of the walk's loops: at object i, with the cursors p and q, what is done and what
 -- the walk still gives make up the whole.
 -- Assumes nothing.
-use Prim.Native.Nat.{ℕ, suc, ◌+◌, ◌-◌, ◌*◌, ◌^◌, ◌≤◌, ◌<◌}
+use Prim.Native.Nat.{ℕ, suc, ◌+◌, ◌-◌, ◌*◌, ◌≤◌, ◌<◌}
 use native.Mathlib.Omega.{arith}
 use native.Mathlib.Nat.{add-zero, zero-add}
 use native.Mathlib.Numerals.{add-one}
@@ -10,19 +10,19 @@ use mathlib.Core.Bool.{Bool, true, false, cond}
 use mathlib.Core.List.{List, [], ◌∷◌, ◌++◌}
 use lib.ListN.{length, drop, length-append}
 use lib.Seq.{drop-drop}
-use borrow.Rule.Slice.PartMut.{put_mid, mid_of, mid_len}
+use borrow.Rule.Slice.PartMut.{put_mid}
 use Rattle.kinds.specs.Kinds.{width_of}
 use Rattle.kinds.specs.declared.Kind.{Kind}
 use Rattle.history.specs.declared.Change.{Change}
 use Rattle.history.specs.declared.Change.TheVariants.{Keep as keep, Swap as swap}
 use Rattle.history.specs.Table.{kind_at}
 use Rattle.history.specs.Changes.{entries_bytes, entries}
-use Rattle.octets.proofs.Writing.{Filling, begin, along, keeps, has_room, write, ended}
+use Rattle.octets.proofs.Writing.{Filling, along, keeps, has_room, write}
 use Rattle.steps.specs.declared.Walk.{Walk}
 use Rattle.steps.specs.Steps.{span, entry_bytes, count_if, size_if, is_swap, Step, Stepped, idle, AllIdle}
 use Rattle.steps.proofs.StepLaws.{count_swap, size_swap}
 use Rattle.walks.specs.declared.Survey.{Survey}
-use Rattle.walks.specs.Walks.{walked, walk_bytes, Measured, Surveyed, misfit}
+use Rattle.walks.specs.Walks.{walked, Measured, Surveyed, misfit}
 use Rattle.walks.proofs.Bridges.{entries_cons, length_entry}
 use Rattle.walks.proofs.Runs.{run}
 use Rattle.forms.proofs.KindLaws.{kinds_next, kinds_end}
@@ -114,9 +114,6 @@ pub record Seeking (walk : Walk) (ks : List Kind) (f s : List ℕ) (p q i : ℕ)
   pub far : q ≤ length s
   pub same : misfit walk 0 ks f s ≡ misfit walk i (drop i ks) (drop p f) (drop q s)
 
-none_sought : (walk : Walk) (ks : List Kind) (f s : List ℕ) → Seeking walk ks f s 0 0 0
-none_sought walk ks f s = record { inside = omega arith; near = omega arith; far = omega arith; same = refl }
-
 module _ {walk : Walk} {ks : List Kind} {f s : List ℕ} {p q i : ℕ} (z : Seeking walk ks f s p q i) where
   module _ (h : i < length ks) {w : ℕ} {r : Step} (e : w ≡ width_of (kind_at ks i))
       (t : Stepped walk i w f p s q r) where
@@ -154,15 +151,6 @@ pub record Sizing (walk : Walk) (ks : List Kind) (f s : List ℕ) (count size p 
   pub short : size ≤ 10 * i
   pub entries : count + entries (left walk ks f s i p q) ≡ entries (left walk ks f s 0 0 0)
   pub bytes : size + length (left_bytes walk ks f s i p q) ≡ length (left_bytes walk ks f s 0 0 0)
-
-pub none_sized : (walk : Walk) (ks : List Kind) (f s : List ℕ) → Sizing walk ks f s 0 0 0 0 0
-none_sized walk ks f s = record {
-  seek = none_sought walk ks f s;
-  few = omega arith;
-  short = omega arith;
-  entries = omega arith;
-  bytes = omega arith;
-}
 
 -- on to the next object at which there is something to do
 run_sized : {walk : Walk} {ks : List Kind} {f s : List ℕ} {count size p q i j : ℕ} → Sizing walk ks f s count size p q i
@@ -233,11 +221,6 @@ pub record Putting (walk : Walk) (ks : List Kind) (f s part₀ part : List ℕ) 
   pub far : q ≤ length s
   pub fill : Filling (left_bytes walk ks f s 0 0 0) part₀ (left_bytes walk ks f s i p q) at part
 
-pub none_put : (walk : Walk) (ks : List Kind) (f s part : List ℕ) → length part ≡ length (walk_bytes walk 0 ks f s)
-    → Putting walk ks f s part part 0 0 0 0
-none_put walk ks f s part h =
-    record { inside = omega arith; near = omega arith; far = omega arith; fill = begin _ part h }
-
 module _ {walk : Walk} {ks : List Kind} {f s part₀ part : List ℕ} {at p q i : ℕ}
     (z : Putting walk ks f s part₀ part at p q i) where
   pub put_keeps : length part ≡ length part₀
@@ -253,14 +236,8 @@ module _ {walk : Walk} {ks : List Kind} {f s part₀ part : List ℕ} {at p q i 
     put_room : at + n ≤ length part₀
     put_room = omega (arith, length_entry i w r.change, simp length-append at (has_room next))
 
-    pub put_fits : length part₀ < 2 ^ 64 → at + n < 2 ^ 64
-    put_fits k = omega (arith, put_room)
-
     pub put_inside : at + n ≤ length part
     put_inside = omega (arith, put_room, put_keeps)
-
-    pub put_long : length (mid_of at (at + n - at) part) ≡ span w r.change
-    put_long = mid_len at (at + n) part put_inside ∙ omega arith
 
     pub one_put : {ys : List ℕ} → ys ≡ entry_bytes i w r.change → {j : ℕ}
         → AllIdle walk (i + 1) j (length ks) (drop (p + r.first) f) (drop (q + r.second) s)
@@ -273,6 +250,3 @@ module _ {walk : Walk} {ks : List Kind} {f s part₀ part : List ℕ} {at p q i 
           along (write next q (at + n) (ap (λ (m : ℕ). at + m) (length_entry i w r.change ∙ sym en)))
           (bytes_run walk ks f s t.near t.far d (omega arith));
     }
-
-  pub all_put : length ks ≤ i → part ≡ walk_bytes walk 0 ks f s
-  all_put h = ended (along z.fill (bytes_end walk ks f s i p q h))

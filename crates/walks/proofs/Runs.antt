@@ -7,7 +7,7 @@ use native.Mathlib.Nat.{add-zero}
 use native.Mathlib.Numerals.{add-one}
 use mathlib.Core.Path.{◌≡◌, ap, ◌∙◌}
 use mathlib.Core.List.{List}
-use lib.ListN.{length, take, drop, length-take, length-drop}
+use lib.ListN.{length, take, drop}
 use lib.Seq.{drop-cons}
 use Rattle.kinds.specs.Kinds.{width_of}
 use Rattle.history.specs.declared.Change.TheVariants.{Keep as keep}
@@ -60,7 +60,3 @@ pass ks g {i} {j} {a} {m} d q step z =
     rw (l, ← q)
     at (pass_by ks g (j - i) i a (omega (arith, d.on, d.within))
     (λ k b x y. step k b (omega (arith, d.on, d.within)) (d.says k _ x (omega (arith, d.on)))) z)
-
--- a part of at most 1,024 kinds has at most 1,024
-pub few_part : (ks : List Kind) (i m : ℕ) → length ks ≤ 1024 → length (take m (drop i ks)) ≤ 1024
-few_part ks i m h = simp (length-take, length-drop) (omega arith)

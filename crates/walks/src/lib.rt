@@ -37,16 +37,14 @@ pub fn measure_difference(plan: Plan<'_>, old: &[u8], new: &[u8]) -> Size
     let mut count: usize = 0;
     let mut bytes: usize = 0;
     let mut at: usize = 0;
-    let mut i: usize = 0;
-    while i < plan.kinds.len() {
-        let width = steps::width_at(plan.kinds, i);
+    for kind in plan.kinds {
+        let width = elements::width(*kind);
         let before = octets::get_at(old, at, width);
         let after = octets::get_at(new, at, width);
         let differs = before != after;
         count += steps::count_if(differs);
         bytes += steps::size_if(differs, width);
         at += width;
-        i += 1;
     }
     Size { count, bytes }
 }
@@ -60,8 +58,9 @@ pub fn measure_join(plan: Plan<'_>, first: &[u8], second: &[u8]) -> Survey
     let mut near: usize = 0;
     let mut far: usize = 0;
     let mut i: usize = 0;
+    // `while` here and below: `next` jumps to the object that a list names, and a `for` can't jump
     while i < plan.kinds.len() {
-        let width = steps::width_at(plan.kinds, i);
+        let width = elements::width(plan.kinds[i]);
         let one = steps::names(first, near, i, width);
         let other = steps::names(second, far, i, width);
         if !steps::meet_at(one, other, width, first, near, second, far) {
@@ -108,9 +107,8 @@ fn put_difference(part: &mut [u8], plan: Plan<'_>, old: &[u8], new: &[u8])
 {
     let mut at: usize = 0;
     let mut place: usize = 0;
-    let mut i: usize = 0;
-    while i < plan.kinds.len() {
-        let width = steps::width_at(plan.kinds, i);
+    for (i, kind) in plan.kinds.iter().enumerate() {
+        let width = elements::width(*kind);
         let before = octets::get_at(old, place, width);
         let after = octets::get_at(new, place, width);
         let change = steps::differ(before, after);
@@ -118,7 +116,6 @@ fn put_difference(part: &mut [u8], plan: Plan<'_>, old: &[u8], new: &[u8])
         steps::put_change(&mut part[at..end], i as u32, width, change);
         at = end;
         place += width;
-        i += 1;
     }
 }
 
@@ -133,7 +130,7 @@ fn put_joined(part: &mut [u8], plan: Plan<'_>, first: &[u8], second: &[u8])
     let mut far: usize = 0;
     let mut i: usize = 0;
     while i < plan.kinds.len() {
-        let width = steps::width_at(plan.kinds, i);
+        let width = elements::width(plan.kinds[i]);
         let one = steps::names(first, near, i, width);
         let other = steps::names(second, far, i, width);
         let change = steps::join_change(one, other, width, first, near, second, far);
@@ -155,7 +152,7 @@ fn put_turned(part: &mut [u8], plan: Plan<'_>, entries: &[u8])
     let mut entry_at: usize = 0;
     let mut i: usize = 0;
     while i < plan.kinds.len() {
-        let width = steps::width_at(plan.kinds, i);
+        let width = elements::width(plan.kinds[i]);
         let said = steps::change_at(entries, entry_at, i, width);
         let change = steps::back(said);
         let end = at + steps::span(width, change);
@@ -178,7 +175,7 @@ pub fn find_unfit(plan: Plan<'_>, entries: &[u8], elements: &[u8]) -> usize
     let mut entry_at: usize = 0;
     let mut i: usize = 0;
     while i < plan.kinds.len() {
-        let width = steps::width_at(plan.kinds, i);
+        let width = elements::width(plan.kinds[i]);
         let end = at + width;
         let change = steps::change_at(entries, entry_at, i, width);
         if !steps::fits(change, octets::get_at(elements, at, width)) {
@@ -201,7 +198,7 @@ pub fn renew(part: &mut [u8], plan: Plan<'_>, entries: &[u8])
     let mut entry_at: usize = 0;
     let mut i: usize = 0;
     while i < plan.kinds.len() {
-        let width = steps::width_at(plan.kinds, i);
+        let width = elements::width(plan.kinds[i]);
         let end = at + width;
         let change = steps::change_at(entries, entry_at, i, width);
         steps::put_new(&mut part[at..end], change);

@@ -4,35 +4,20 @@
 use native.Mathlib.Omega.{arith}
 use borrow.Author.Rules.{rules}
 use Rattle.steps.proofs.StepLaws.{names_inside}
-use Rattle.walks.proofs.Rounds.{none_sized, all_sized}
-use Rattle.walks.proofs.Lists.{cursor_inside, cursor_fits, join_until, join_sized}
+use Rattle.walks.proofs.Rounds.{all_sized}
+use Rattle.walks.proofs.Lists.{cursor_inside, join_until, join_sized}
 use Rattle.walks.proofs.measure_join.Goals as goal
-
-pub loop-i-init : goal.loop-i-init
-loop-i-init c = search none_sized
 
 pub meet_at-requires : goal.meet_at-requires
 meet_at-requires c = (search names_inside, search names_inside, search rules)
 
 pub returns-then-not-meet_at : goal.returns-then-not-meet_at
 returns-then-not-meet_at c =
-    join_until c.loop-i-test.true c.width_at-width.ensures.0 c.names-one.ensures c.names-other.ensures
+    join_until c.loop-i-test.true c.width-width.ensures.0 c.names-one.ensures c.names-other.ensures
     c.loop-i.invariant c.meet_at.ensures c.if-not-meet_at.true
 
 pub join_names-kept-requires : goal.join_names-kept-requires
 join_names-kept-requires c = (search names_inside, search names_inside, search rules)
-
-pub overflow_add-near : goal.overflow_add-near
-overflow_add-near c = record {
-  fits = cursor_fits _ _ _ _ c.loop-i.invariant.seek.near c.names-one.ensures
-      c.size_if-near.ensures (omega (arith, c));
-}
-
-pub overflow_add-far : goal.overflow_add-far
-overflow_add-far c = record {
-  fits = cursor_fits _ _ _ _ c.loop-i.invariant.seek.far c.names-other.ensures
-      c.size_if-far.ensures (omega (arith, c));
-}
 
 pub next-i-requires : goal.next-i-requires
 next-i-requires c = let inv = c.loop-i.invariant in (
@@ -42,7 +27,7 @@ next-i-requires c = let inv = c.loop-i.invariant in (
 )
 
 pub loop-i-preserved : goal.loop-i-preserved
-loop-i-preserved c = join_sized c.loop-i-test.true c.width_at-width.ensures.0 c.names-one.ensures c.names-other.ensures
+loop-i-preserved c = join_sized c.loop-i-test.true c.width-width.ensures.0 c.names-one.ensures c.names-other.ensures
     c.loop-i.invariant c.meet_at.ensures c.if-not-meet_at.false
     c.join_names-kept.ensures c.count_if-count.ensures c.size_if-bytes.ensures c.size_if-near.ensures
     c.size_if-far.ensures c.next-i.ensures

@@ -2,11 +2,10 @@
 -- Assumes nothing.
 use native.Mathlib.Omega.{arith}
 use mathlib.Core.Path.{refl, ap}
-use borrow.Author.Rules.{rules}
 use Rattle.std.specs.Prelude.{Err}
 use Rattle.history.proofs.OutputLaws.{short_puts}
 use Rattle.outputs.specs.Outputs.{image_with}
-use Rattle.outputs.proofs.Images.{few_bytes, length_with, copied_sized, copied_puts}
+use Rattle.outputs.proofs.Images.{few_bytes, length_with, copied_puts}
 use Rattle.outputs.proofs.image.write_element.Goals as goal
 
 pub overflow_cast-size : goal.overflow_cast-size
@@ -14,9 +13,6 @@ overflow_cast-size c = search few_bytes
 
 pub returns-then-out-size : goal.returns-then-out-size
 returns-then-out-size c = short_puts _ _ (search length_with) c.if-out-size.true (ap Err c.short.ensures)
-
-pub put_element-requires : goal.put_element-requires
-put_element-requires c = record { object_in_bounds = search rules; image_len = search copied_sized }
 
 pub overflow_cast-result : goal.overflow_cast-result
 overflow_cast-result c = search few_bytes

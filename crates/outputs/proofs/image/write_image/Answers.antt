@@ -5,7 +5,7 @@ use mathlib.Core.Path.{refl, ap}
 use Rattle.std.specs.Prelude.{Err}
 use Rattle.history.proofs.OutputLaws.{short_puts}
 use Rattle.outputs.specs.Outputs.{image_after}
-use Rattle.outputs.proofs.Images.{few_bytes, length_after, copied_sized, copied_puts}
+use Rattle.outputs.proofs.Images.{few_bytes, length_after, copied_puts}
 use Rattle.outputs.proofs.image.write_image.Goals as goal
 
 pub overflow_cast-size : goal.overflow_cast-size
@@ -13,9 +13,6 @@ overflow_cast-size c = search few_bytes
 
 pub returns-then-out-size : goal.returns-then-out-size
 returns-then-out-size c = short_puts _ _ (search length_after) c.if-out-size.true (ap Err c.short.ensures)
-
-pub take_entries-requires : goal.take_entries-requires
-take_entries-requires c = record { image_len = search copied_sized }
 
 pub overflow_cast-result : goal.overflow_cast-result
 overflow_cast-result c = search few_bytes
