@@ -9,9 +9,10 @@ use mathlib.Core.List.{List, zip_with}
 use lib.Dec.{eqb, leb}
 use lib.ListN.{length}
 use borrow.Author.Tests.{eq-eqb, ne_eqb, le-leb, lt-leb}
-use Rattle.history.specs.declared.Answer.{Answer}
-use Rattle.history.specs.Verdict.{Refused, Verdict, refused, done, then, value_or, refusal, refusal_at, given, checked, numbers}
 use Rattle.std.specs.Prelude.{Ok, Err}
+use Rattle.history.specs.declared.Answer.{Answer}
+use Rattle.history.specs.Verdict.{Refused, Verdict, refused, done, then, value_or, refusal, refusal_at, given, checked}
+use Rattle.history.specs.Verdict.{numbers}
 use Rattle.history.specs.Image.{Image, widths, words_bytes, image_bytes, AcceptedImage}
 use Rattle.history.specs.Changes.{list_bytes, AcceptedList, after, result_of, joint_of, difference, applied, join}
 use Rattle.history.specs.Changes.{turned}

@@ -1,19 +1,22 @@
 -- The turns of a backlog's loop: what the whole backlog comes to, and what is left of it comes to the same.
 -- Assumes nothing.
 use Prim.Native.Nat.{ℕ, suc, ◌+◌, ◌-◌, ◌^◌, ◌≤◌, ◌<◌}
-use Rattle.kinds.specs.declared.Kind.{Kind}
 use native.Mathlib.Omega.{arith}
 use native.Mathlib.Numerals.{add-one}
 use mathlib.Core.Path.{◌≡◌, refl, sym, ap, ◌∙◌}
 use mathlib.Core.List.{List, [], ◌∷◌}
-use lib.ListN.{length, take, drop, get_or, length-drop}
-use lib.Seq.{take_all, drop-drop, drop-length}
+use lib.ListN.{length, take, drop, get_or, length-take, length-drop}
+use lib.Seq.{take_all}
+use borrow.Author.Tests.{false-eqb, true-eqb}
 use mir.Syntax.{w8}
 use mir.Val.{Fits}
+use Rattle.std.proofs.Common.{Ok, Err, ◌==◌, true, false}
+use Rattle.std.proofs.lemmas.List.{nil_from_length}
+use Rattle.octets.specs.Octets.{Bytes}
 use Rattle.octets.proofs.NumberLaws.{drop_is}
 use Rattle.history.specs.declared.Answer.{Answer}
 use Rattle.history.specs.declared.Standing.{Standing}
-use Rattle.history.specs.Verdict.{Verdict, refused, done, decide, value_or, unnamed, told, of_length}
+use Rattle.history.specs.Verdict.{Verdict, refused, done, decide, value_or, numbers, unnamed, of_length, checked}
 use Rattle.heads.specs.Heads as Heads
 use Rattle.history.specs.Form.{front_form, forms_in}
 use Rattle.history.specs.Table.{Plan}
@@ -23,133 +26,129 @@ use Rattle.history.specs.Standing.{counted}
 use Rattle.history.specs.Backlog.{ended, take_lists}
 use Rattle.history.proofs.FrontLaws.{after_is, front_some, front_short, front_bytes, forms_none, forms_more}
 use Rattle.history.proofs.ImageLaws.{widths_few, image_long}
-use Rattle.history.proofs.CodeLaws.{apply_coded, zero_told}
 use Rattle.history.proofs.AcceptedLaws.{after_list}
-use Rattle.tables.specs.Plans.{plan_with}
-use Rattle.forms.proofs.KindLaws.{length_kinds}
-use Rattle.receiver.specs.declared.backlog.Turn.{Turn}
-use Rattle.receiver.specs.Backlogs.{Advances, Turned}
+use Rattle.history.proofs.OutputLaws.{given_done}
+use Rattle.receiver.specs.Backlogs.{Advances}
 
 -- the length of an accepted image fits in 32 bits
-pub image_small : {x y : ℕ} (ns : List Kind) {A : List ℕ} → AcceptedImage (plan_with x y ns) A → length ns ≤ 1024
-    → length A < 2 ^ 32
-image_small ns {A} a few =
-    omega (arith, ap length a.same ∙ image_long a.legal, widths_few ns, length_kinds ns)
+pub image_small : {p : Plan} {A : List ℕ} → AcceptedImage p A → length p.kinds ≤ 1024 → length A < 2 ^ 32
+image_small {p} a few = omega (arith, ap length a.same ∙ image_long a.legal, widths_few p.kinds)
 
 -- the first form as `heads` says it is the one of the meaning
 front_same : (b : List ℕ) → Heads.front_form b ≡ front_form b
 unfolding Heads.front_form front_form
 front_same b = refl
 
--- one turn, from what its two calls ensure
-pub turned : {p : Plan} (b : List ℕ) (at : ℕ) {A L : List ℕ} → at ≤ length b
-    → L ≡ Heads.front_form (take (length b - at) (drop at b))
-    → {r : Answer} {m : List ℕ}
-    → (r ≡ told (apply_under p A L)) × (m ≡ value_or A (apply_under p A L))
-    → Turned p (drop at b) A (record { answer = r; size = length L }) m
-turned b at {L = L} h e q =
-    let f : L ≡ front_form (drop at b) =
-    e ∙ front_same _ ∙ ap front_form (take_all (length b - at) (drop at b) (rw (length-drop at b) (omega arith))) in
-    record { answer = rw f at q.0; size = ap length f; image = rw f at q.1 }
+-- what the loop's test says
+some_left : (b : List ℕ) → false ≡ (length b == 0) → 0 < length b
+some_left b h = let n = false-eqb _ _ h in omega arith
 
--- n lists and `at` bytes of b are taken, which led to the image A and the standing s
-pub record Taking (x y : ℕ) (ns : List Kind) (b A₀ : List ℕ) (s₀ : Standing) (A : List ℕ) (s : Standing) (n at : ℕ) : Type 0 where
-  pub same : take_lists (plan_with x y ns) A₀ (forms_in b) s₀ 0 ≡ take_lists (plan_with x y ns) A (forms_in (drop at b)) s n
-  pub accepted : AcceptedImage (plan_with x y ns) A
-  pub inside : at ≤ length b
-  pub few : n ≤ at
+none_left : (b : List ℕ) → true ≡ (length b == 0) → b ≡ []
+none_left b h = nil_from_length b (true-eqb _ _ h)
+
+-- n lists of b₀ are taken, which led to the image A and the standing s; b is left
+pub record Taking (p : Plan) (b₀ A₀ : List ℕ) (s₀ : Standing) (b A : List ℕ) (s : Standing) (n : ℕ) : Type 0 where
+  pub same : take_lists p A₀ (forms_in b₀) s₀ 0 ≡ take_lists p A (forms_in b) s n
+  pub accepted : AcceptedImage p A
+  pub bytes : Bytes b
+  pub few : n + length b ≤ length b₀
   pub long : length A ≡ length A₀
 
-pub none_yet : {x y : ℕ} {ns : List Kind} {A : List ℕ} (b : List ℕ) (s : Standing) → AcceptedImage (plan_with x y ns) A
-    → Taking x y ns b A s A s 0 0
-none_yet b s a = record { same = refl; accepted = a; inside = omega arith; few = omega arith; long = refl }
+pub none_yet : {p : Plan} {A : List ℕ} (b : List ℕ) (s : Standing) → AcceptedImage p A
+    → ((i : ℕ) → Fits w8 (get_or b i 0))
+    → Taking p b A s b A s 0
+none_yet b s a h = record { same = refl; accepted = a; bytes = λ i. (h i).fits; few = omega arith; long = refl }
 
-module _ {x y : ℕ} {ns : List Kind} {b A₀ : List ℕ} {s₀ : Standing} {A : List ℕ} {s : Standing} {n at : ℕ}
-    (z : Taking x y ns b A₀ s₀ A s n at) where
-  pub keeps : length A ≡ length A₀
-  keeps = z.long
-
+module _ {p : Plan} {b₀ A₀ : List ℕ} {s₀ : Standing} {b A : List ℕ} {s : Standing} {n : ℕ}
+    (z : Taking p b₀ A₀ s₀ b A s n) where
   -- no byte is left
-  pub all_taken : length b ≤ at → {q : Answer} {size : ℕ} → size ≡ length A₀ → q ≡ unnamed 0 size
-      → Advances (take_lists (plan_with x y ns) A₀ (forms_in b) s₀ 0)
+  pub all_taken : true ≡ (length b == 0) → {q : Answer} {size : ℕ} → size ≡ length A₀ → q ≡ unnamed 0 size
+      → Advances (take_lists p A₀ (forms_in b₀) s₀ 0)
       (record { progress = record { answer = q; taken = n }; standing = s }) A
   all_taken h {q} {size} es eq =
-      let all : at ≡ length b = omega (arith, z.inside) in
-      let over : drop at b ≡ [] = ap (λ (n : ℕ). drop n b) all ∙ drop-length b in
       let whole =
-      z.same ∙ ap (λ (c : List ℕ). take_lists (plan_with x y ns) A (forms_in c) s n) over
-      ∙ ap (λ (Ls : List (List ℕ)). take_lists (plan_with x y ns) A Ls s n) forms_none in
+      z.same ∙ ap (λ (c : List ℕ). take_lists p A (forms_in c) s n) (none_left b h)
+      ∙ ap (λ (Ls : List (List ℕ)). take_lists p A Ls s n) forms_none in
       rw (whole, eq, es ∙ sym z.long) (refl, refl)
 
   -- the next list is taken or refused
-  module _ (h : at < length b) {r : Turn} {m : List ℕ} (t : Turned (plan_with x y ns) (drop at b) A r m) where
-    left : 0 < length (drop at b)
-    left = rw (length-drop at b) (omega arith)
+  module _ (h : false ≡ (length b == 0)) {L : List ℕ} (front : L ≡ Heads.front_form b) where
+    some : 0 < length b
+    some = some_left b h
 
-    pub turn_on : 0 < r.size
-    turn_on = rw t.size (front_some (drop at b) left)
+    first : L ≡ front_form b
+    first = front ∙ front_same b
 
-    pub turn_inside : at + r.size ≤ length b
-    turn_inside = omega (arith, t.size, front_short (drop at b), length-drop at b)
+    turn_on : 0 < length L
+    turn_on = rw first (front_some b some)
 
-    whole : take_lists (plan_with x y ns) A₀ (forms_in b) s₀ 0
-        ≡ decide (apply_under (plan_with x y ns) A (front_form (drop at b))) (ended A s n)
-        (λ B. take_lists (plan_with x y ns) B (forms_in (drop (at + r.size) b)) (counted 0 s) (suc n))
+    pub turn_inside : length L ≤ length b
+    turn_inside = rw first (front_short b)
+
+    pub turn_shrinks : length (take (length b - length L) (drop (length L) b)) < length b
+    turn_shrinks =
+        omega (
+          arith,
+          turn_on,
+          turn_inside,
+          length-take (length b - length L) (drop (length L) b),
+          length-drop (length L) b,
+        )
+
+    whole : take_lists p A₀ (forms_in b₀) s₀ 0
+        ≡ decide (apply_under p A L) (ended A s n)
+        (λ B. take_lists p B (forms_in (drop (length L) b)) (counted 0 s) (suc n))
     whole =
-        let rest = after_is (drop at b) ∙ drop-drop (length (front_form (drop at b))) at b
-        ∙ ap (λ (k : ℕ). drop (at + k) b) (sym t.size) in
+        let rest = after_is b ∙ ap (λ (l : List ℕ). drop (length l) b) (sym first) in
         z.same
-        ∙ ap (λ (Ls : List (List ℕ)). take_lists (plan_with x y ns) A Ls s n)
-        (forms_more (drop at b) left ∙ ap (λ (c : List ℕ). front_form (drop at b) ∷ forms_in c) rest)
+        ∙ ap (λ (Ls : List (List ℕ)). take_lists p A Ls s n)
+        (forms_more b some
+        ∙ ap (λ (c : List ℕ). front_form b ∷ forms_in c) rest
+        ∙ ap (λ (l : List ℕ). l ∷ forms_in (drop (length L) b)) (sym first))
 
-    -- the image after the list, whether it is taken or refused, is accepted and as long
-    module _ (few : length ns ≤ 1024) (bytes : (i : ℕ) → Fits w8 (get_or b i 0)) where
-      after : AcceptedImage (plan_with x y ns) m × (length m ≡ length A)
-      after = rw t.image (go (apply_under (plan_with x y ns) A (front_form (drop at b))) refl)
-        where
-          go : (v : Verdict (List ℕ)) → apply_under (plan_with x y ns) A (front_form (drop at b)) ≡ v
-              → AcceptedImage (plan_with x y ns) (value_or A v) × (length (value_or A v) ≡ length A)
-          go (refused f) e = (z.accepted, refl)
-          go (done B) e =
-              after_list (record { count = omega (arith, length_kinds ns) }) (front_form (drop at b)) z.accepted
-              (front_bytes (drop at b) (drop_is at b λ i. (bytes i).fits)) e
-
-      pub turn_keeps : length m ≡ length A₀
-      turn_keeps = after.1 ∙ z.long
-
-    module _ {k : Standing} (c : k ≡ counted r.answer.code s) where
-      pub turn_refused : (r.answer.code ≡ 0 → ⊥) → {q : Answer} {size : ℕ} → size ≡ length A₀
-          → q ≡ of_length size r.answer
-          → Advances (take_lists (plan_with x y ns) A₀ (forms_in b) s₀ 0)
+    module _ {m : List ℕ} (image : m ≡ value_or A (apply_under p A L)) where
+      pub turn_refused : {a : Answer} → Err a ≡ checked (apply_under p A L) → {k : Standing} → k ≡ counted a.code s
+          → {q : Answer} {size : ℕ} → size ≡ length A₀ → q ≡ of_length size a
+          → Advances (take_lists p A₀ (forms_in b₀) s₀ 0)
           (record { progress = record { answer = q; taken = n }; standing = k }) m
-      unfolding told
-      turn_refused bad {q} {size} es eq =
-          go (apply_under (plan_with x y ns) A (front_form (drop at b))) whole t.answer t.image
+      turn_refused {a} e {k} c {q} {size} es eq = go (apply_under p A L) whole e image
         where
           go : (v : Verdict (List ℕ))
-              → take_lists (plan_with x y ns) A₀ (forms_in b) s₀ 0
+              → take_lists p A₀ (forms_in b₀) s₀ 0
               ≡ decide v (ended A s n)
-              (λ B. take_lists (plan_with x y ns) B (forms_in (drop (at + r.size) b)) (counted 0 s) (suc n))
-              → r.answer ≡ told v → m ≡ value_or A v
-              → Advances (take_lists (plan_with x y ns) A₀ (forms_in b) s₀ 0)
+              (λ B. take_lists p B (forms_in (drop (length L) b)) (counted 0 s) (suc n))
+              → Err a ≡ checked v → m ≡ value_or A v
+              → Advances (take_lists p A₀ (forms_in b₀) s₀ 0)
               (record { progress = record { answer = q; taken = n }; standing = k }) m
-          go (refused f) w e i = rw (w, i, c, eq, es ∙ sym z.long, e) (refl, refl)
-          go (done B) w e i = absurd (bad (ap (λ (r : Answer). r.code) e))
+          go (refused f) w e i =
+              let told : a ≡ numbers f 0 = cc in
+              rw (w, i, c, eq, es ∙ sym z.long, told) (refl, refl)
+          go (done B) w e i = absurd (let z : ◌≡◌ {A = ℕ} 0 1 = cc in omega arith)
 
-      pub turn_taken : length ns ≤ 1024 → ((i : ℕ) → Fits w8 (get_or b i 0)) → r.answer.code ≡ 0
-          → Taking x y ns b A₀ s₀ m k (n + 1) (at + r.size)
-      turn_taken few bytes good =
-          let p = plan_with x y ns in
-          let L : List ℕ = front_form (drop at b) in
-          let f =
-          zero_told (apply_under p A L) (apply_coded p A L)
-          (ap (λ (r : Answer). r.code) (sym t.answer) ∙ good) in
-          let m-is : m ≡ f.0 = t.image ∙ ap (value_or A) f.1 in
-          let k-is : k ≡ counted 0 s = c ∙ ap (λ (code : ℕ). counted code s) good in
-          record {
-            same = rw (m-is, k-is) (rw (f.1, ← (add-one n)) at whole);
-            accepted = (after few bytes).0;
-            inside = turn_inside;
-            few = omega (arith, z.few, turn_on);
-            long = turn_keeps few bytes;
-          }
+      -- the image after the list, whether it is taken or refused, is as long
+      module _ (few : length p.kinds ≤ 1024) where
+        after : AcceptedImage p m × (length m ≡ length A)
+        after = rw image (go (apply_under p A L) refl)
+          where
+            go : (v : Verdict (List ℕ)) → apply_under p A L ≡ v
+                → AcceptedImage p (value_or A v) × (length (value_or A v) ≡ length A)
+            go (refused f) e = (z.accepted, refl)
+            go (done B) e =
+                after_list (record { count = few }) (front_form b) z.accepted
+                (front_bytes b z.bytes) (ap (apply_under p A) (sym first) ∙ e)
+
+        -- what is left is lent as the part of b from L's end to b's
+        pub turn_taken : Ok tt ≡ checked (apply_under p A L) → {k : Standing} → k ≡ counted 0 s
+            → Taking p b₀ A₀ s₀ (take (length b - length L) (drop (length L) b)) m k (n + 1)
+        turn_taken e {k} c =
+            let f = given_done (apply_under p A L) _ e in
+            let m-is : m ≡ f.0 = image ∙ ap (value_or A) f.1 in
+            let left =
+            take_all (length b - length L) (drop (length L) b) (rw (length-drop (length L) b) (omega arith)) in
+            record {
+              same = rw (left, m-is, c) (rw (f.1, ← (add-one n)) at whole);
+              accepted = after.0;
+              bytes = rw left (drop_is (length L) b z.bytes);
+              few = rw left (omega (arith, z.few, turn_on, turn_inside, length-drop (length L) b));
+              long = after.1 ∙ z.long;
+            }

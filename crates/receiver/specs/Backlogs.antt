@@ -1,14 +1,9 @@
--- A backlog's outcome as the code returns it: the answer and the number taken, beside the standing; and one turn of it.
-use Rattle.std.specs.Prelude.{ℕ, ◌≡◌, List, length}
+-- A backlog's outcome as the code returns it: the answer and the number taken, beside the standing.
+use Rattle.std.specs.Prelude.{ℕ, ◌≡◌, List}
 use Rattle.history.specs.declared.Standing.{Standing}
-use Rattle.history.specs.Verdict.{value_or, told}
-use Rattle.history.specs.Form.{front_form}
-use Rattle.history.specs.Table.{Plan}
-use Rattle.history.specs.Calls.{apply_under}
 use Rattle.history.specs.Backlog.{Backlog, backlog_call}
 use Rattle.receiver.specs.declared.Progress.{Progress}
 use Rattle.receiver.specs.declared.Advance.{Advance}
-use Rattle.receiver.specs.declared.backlog.Turn.{Turn}
 
 abbrev pub progress_of : Backlog → Progress
 progress_of g = record { answer = g.answer; taken = g.taken }
@@ -26,9 +21,3 @@ backlog_advance T A b out s = advance_of (backlog_call T A b out s)
 
 abbrev pub backlog_output : List ℕ → List ℕ → List ℕ → List ℕ → Standing → List ℕ
 backlog_output T A b out s = (backlog_call T A b out s).output
-
--- the first list in b is applied to the image A, which is m then: its answer, and how long it is
-pub record Turned (p : Plan) (b A : List ℕ) (r : Turn) (m : List ℕ) : Type 0 where
-  pub answer : r.answer ≡ told (apply_under p A (front_form b))
-  pub size : r.size ≡ length (front_form b)
-  pub image : m ≡ value_or A (apply_under p A (front_form b))

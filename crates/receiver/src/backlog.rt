@@ -1,11 +1,11 @@
 // A backlog under an accepted table: the lists that lie end to end in one slice are taken in turn into a copy of the
 // image, up to the first that is refused.
-ghost use Rattle.std.specs.Prelude.{◌≡◌, ◌≤◌, [], length, drop};
+ghost use Rattle.std.specs.Prelude.{◌≡◌, []};
 ghost use Rattle.history.specs.Form.{forms_in};
 ghost use Rattle.history.specs.Image.{AcceptedImage};
 ghost use Rattle.history.specs.Backlog.{nothing_taken, take_lists, backlog_under};
 ghost use Rattle.tables.specs.Plans.{plan_in};
-ghost use Rattle.receiver.specs.Backlogs.{advance_of, Advances, Turned};
+ghost use Rattle.receiver.specs.Backlogs.{advance_of, Advances};
 
 use super::{Advance, Progress, count};
 use changes::take_under;
@@ -48,12 +48,8 @@ pub fn none_taken(answer: Answer, standing: Standing) -> Advance
 }
 
 // Takes the lists in turn into the image, in place, and counts each.
-fn take_lists(
-    plan: Plan<'_>,
-    lists: &[u8],
-    image: &mut [u8],
-    standing: Standing,
-) -> Advance
+// Bytes that hold no list in full are refused as a list is.
+fn take_lists(plan: Plan<'_>, lists: &[u8], image: &mut [u8], standing: Standing) -> Advance
     requires accepted_image { AcceptedImage (plan_in plan) image.old }
     ensures { Advances
         (take_lists (plan_in plan.entry) image.old (forms_in lists.now) standing 0) result
@@ -62,22 +58,21 @@ fn take_lists(
     let size = image.len() as u32;
     let mut counted = standing;
     let mut taken: usize = 0;
-    let mut at: usize = 0;
-    while at < lists.len() {
-        let turn = take_next(plan, lists, at, image);
-        let answer = turn.answer;
-        counted = count(counted, answer.code);
-        if answer.code != 0 {
+    let mut rest = lists;
+    while !rest.is_empty() {
+        let list = front_form(rest);
+        if let Err(answer) = take_under(plan, list, image) {
             return Advance {
                 progress: Progress {
                     answer: with_length(answer, size),
                     taken,
                 },
-                standing: counted,
+                standing: count(counted, answer.code),
             };
         }
+        counted = count(counted, 0);
         taken += 1;
-        at += turn.size;
+        rest = &rest[list.len()..];
     }
     Advance {
         progress: Progress {
@@ -85,27 +80,5 @@ fn take_lists(
             taken,
         },
         standing: counted,
-    }
-}
-
-// The answer of one list, and how many bytes it takes.
-#[derive(Clone, Copy)]
-struct Turn {
-    answer: Answer,
-    size: usize,
-}
-
-// Takes the list at a place into the image. Bytes that hold none in full are refused as a list is.
-fn take_next(plan: Plan<'_>, lists: &[u8], at: usize, image: &mut [u8]) -> Turn
-    requires at_in_bounds { at ≤ length lists.now }
-    requires accepted_image { AcceptedImage (plan_in plan) image.old }
-    ensures { Turned (plan_in plan.entry) (drop at lists.now) image.old result
-        image.new }
-{
-    let list = front_form(&lists[at..]);
-    let answer = take_under(plan, list, image).into();
-    Turn {
-        answer,
-        size: list.len(),
     }
 }

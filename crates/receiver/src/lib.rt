@@ -38,6 +38,7 @@ pub struct Advance {
 }
 
 // The standing of a receiver that has received nothing.
+#[tactic(auto, unfolding(history::specs::Standing::fresh))]
 pub fn fresh() -> Standing
     ensures { result ≡ fresh }
 {
@@ -130,38 +131,27 @@ pub fn backlog_received(
 }
 
 // Adds one to the tally of the answer's code: 0 is applied, 16 late, 17 gap, any other is other.
+#[tactic(auto, unfolding(history::specs::Standing::counted))]
 fn count(standing: Standing, code: u8) -> Standing
     ensures { result ≡ counted code standing }
 {
-    if code == 0 {
-        return Standing {
+    match code {
+        0 => Standing {
             applied: one_more(standing.applied),
-            late: standing.late,
-            gap: standing.gap,
-            other: standing.other,
-        };
-    }
-    if code == 16 {
-        return Standing {
-            applied: standing.applied,
+            ..standing
+        },
+        16 => Standing {
             late: one_more(standing.late),
-            gap: standing.gap,
-            other: standing.other,
-        };
-    }
-    if code == 17 {
-        return Standing {
-            applied: standing.applied,
-            late: standing.late,
+            ..standing
+        },
+        17 => Standing {
             gap: one_more(standing.gap),
-            other: standing.other,
-        };
-    }
-    Standing {
-        applied: standing.applied,
-        late: standing.late,
-        gap: standing.gap,
-        other: one_more(standing.other),
+            ..standing
+        },
+        _ => Standing {
+            other: one_more(standing.other),
+            ..standing
+        },
     }
 }
 
@@ -169,8 +159,5 @@ fn count(standing: Standing, code: u8) -> Standing
 fn one_more(tally: u32) -> u32
     ensures { result ≡ one_more tally }
 {
-    if tally < 4294967295 {
-        return tally + 1;
-    }
-    tally
+    tally.saturating_add(1)
 }

@@ -12,7 +12,8 @@ returns-in_err-check_image_under c =
 pub returns-in_err-check_list_under : goal.returns-in_err-check_list_under
 returns-in_err-check_list_under c =
     passed _ _ c.from_residual-in_err-check_list_under.ensures.1
-    (apply_second _ _ _ _ (image_accepted _ _ c.type_inv.image c.in_ok-check_image_under.ensures) c.in_err-check_list_under.ensures)
+    (apply_second _ _ _ _ (image_accepted _ _ c.type_inv.image c.in_ok-check_image_under.ensures)
+    c.in_err-check_list_under.ensures)
 
 pub write_applied-requires-clause-accepted_image : goal.write_applied-requires-clause-accepted_image
 write_applied-requires-clause-accepted_image c = image_accepted _ _ c.type_inv.image c.in_ok-check_image_under.ensures

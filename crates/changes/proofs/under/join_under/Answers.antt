@@ -12,7 +12,8 @@ returns-in_err-check_list_under c =
 pub returns-in_err-check_list_under-2 : goal.returns-in_err-check_list_under-2
 returns-in_err-check_list_under-2 c =
     passed _ _ c.from_residual-in_err-check_list_under-2.ensures.1
-    (join_second _ _ _ _ (list_accepted _ _ c.type_inv.first c.in_ok-check_list_under.ensures) c.in_err-check_list_under-2.ensures)
+    (join_second _ _ _ _ (list_accepted _ _ c.type_inv.first c.in_ok-check_list_under.ensures)
+    c.in_err-check_list_under-2.ensures)
 
 pub write_joined-requires-clause-accepted_list : goal.write_joined-requires-clause-accepted_list
 write_joined-requires-clause-accepted_list c = list_accepted _ _ c.type_inv.first c.in_ok-check_list_under.ensures
