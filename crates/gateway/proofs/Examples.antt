@@ -2,24 +2,26 @@
 -- Assumes nothing.
 use mathlib.Core.Path.{◌≡◌, refl}
 use mathlib.Core.List.{[], ◌∷◌, map}
+use Rattle.std.specs.Prelude.{Ok, Err}
 use Rattle.history.proofs.Examples.{computed}
 use Rattle.history.specs.Verdict.{naming, refused, done, numbers, unnamed}
 use Rattle.history.specs.Standing.{tallies_of}
 use Rattle.gateway.specs.Slots.{answer_slots, read_slots, label_slots, capped, progress_slots, standing_in}
 use Rattle.gateway.specs.Calls.{element_call}
 
--- code, object, bit, length, 0, zeros; with the kind; with the label's offset and size; with the number taken, up to
--- the highest of 32 bits; applied, late, gap, other
+-- code, object, bit, length, 0, zeros; with the kind; with the label's offset and size, each with its refusal, which
+-- adds nothing; with the number taken, up to the highest of 32 bits; applied, late, gap, other
 pub places : (answer_slots (numbers (naming 11 4 10) 3) ≡ 11 ∷ 4 ∷ 10 ∷ 3 ∷ 0 ∷ 0 ∷ 0 ∷ 0 ∷ [])
-    × (read_slots (record { answer = unnamed 0 0; kind = 5; count = 8; fields = [] })
-    ≡ 0 ∷ 65535 ∷ 255 ∷ 0 ∷ 0 ∷ 5 ∷ 0 ∷ 0 ∷ [])
-    × (label_slots (record { answer = unnamed 0 0; offset = 19; size = 6 }) ≡ 0 ∷ 65535 ∷ 255 ∷ 0 ∷ 0 ∷ 19 ∷ 6 ∷ 0 ∷ [])
+    × (read_slots (Ok (record { kind = 5; count = 8; fields = [] })) ≡ 0 ∷ 65535 ∷ 255 ∷ 0 ∷ 0 ∷ 5 ∷ 0 ∷ 0 ∷ [])
+    × (read_slots (Err (numbers (naming 13 7 255) 0)) ≡ 13 ∷ 7 ∷ 255 ∷ 0 ∷ 0 ∷ 0 ∷ 0 ∷ 0 ∷ [])
+    × (label_slots (Ok (record { offset = 19; size = 6 })) ≡ 0 ∷ 65535 ∷ 255 ∷ 0 ∷ 0 ∷ 19 ∷ 6 ∷ 0 ∷ [])
+    × (label_slots (Err (numbers (naming 13 7 255) 0)) ≡ 13 ∷ 7 ∷ 255 ∷ 0 ∷ 0 ∷ 0 ∷ 0 ∷ 0 ∷ [])
     × (progress_slots (record { answer = unnamed 16 14; taken = 1 }) ≡ 16 ∷ 65535 ∷ 255 ∷ 14 ∷ 0 ∷ 1 ∷ 0 ∷ 0 ∷ [])
     × (map capped (0 ∷ 4294967294 ∷ 4294967295 ∷ 4294967296 ∷ []) ≡ 0 ∷ 4294967294 ∷ 4294967295 ∷ 4294967295 ∷ [])
     × (tallies_of (record { applied = 1; late = 2; gap = 3; other = 4 }) ≡ 1 ∷ 2 ∷ 3 ∷ 4 ∷ [])
     × (standing_in (1 ∷ 2 ∷ 3 ∷ 4 ∷ []) ≡ record { applied = 1; late = 2; gap = 3; other = 4 })
 unfolding answer_slots read_slots label_slots progress_slots
-places = (refl, refl, refl, refl, refl, refl, refl)
+places = (refl, refl, refl, refl, refl, refl, refl, refl, refl)
 
 -- IC 03, AVG 01 00, SIG 00 00 01 D5; a type that is not carried, whatever the length; a length that is not the type's,
 -- whatever the bits; a catalogue that is not carried, whatever the type

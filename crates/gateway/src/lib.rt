@@ -36,7 +36,7 @@ use tables::check_table;
 pub fn shefumbari_check_element(x: u8, y: u8, ty: u8, element: &[u8], answer: &mut [u32; 8])
     ensures { answer.new ≡ answer_slots (told (element_call x y ty element.now)) }
 {
-    *answer = answer_slots(check_element_alone(x, y, ty, element));
+    *answer = answer_slots(check_element_alone(x, y, ty, element).into());
 }
 
 pub fn shefumbari_check_table(table: &[u8], answer: &mut [u32; 8])
@@ -73,11 +73,15 @@ pub fn shefumbari_read_state(
     ensures answer_after { answer.new
         ≡ read_slots (plain_of (reading_of (read_state_call table.now image.now object))) }
 {
-    let plain = read_fields(table, image, object);
-    *answer = read_slots(plain.answer, plain.kind);
-    if plain.answer.code == 0 {
-        let shown = plain.fields;
-        *fields = shown;
+    match read_fields(table, image, object) {
+        Ok(plain) => {
+            let shown = plain.fields;
+            *fields = shown;
+            *answer = read_slots(plain.kind);
+        }
+        Err(refusal) => {
+            *answer = answer_slots(refusal);
+        }
     }
 }
 

@@ -1,5 +1,7 @@
-// Answers, label places, backlogs and tallies as arrays of numbers.
+// Answers, label places, backlogs and tallies as arrays of numbers, in C's order. No `From` can say it: none of the types
+// is this crate's, and those that have them know no C.
 ghost use Rattle.std.specs.Prelude.{◌≡◌};
+ghost use Rattle.history.specs.Verdict.{unnamed};
 ghost use Rattle.history.specs.Calls.{label_call};
 ghost use Rattle.tables.specs.LabelPlaces.{label_told};
 ghost use Rattle.history.specs.Standing.{tallies_of};
@@ -7,7 +9,7 @@ ghost use Rattle.gateway.specs.Slots.{slots, answer_slots, label_slots, capped, 
 
 use history::{Answer, Standing};
 use receiver::Progress;
-use tables::label_place;
+use tables::{accepted, label_place};
 
 // An answer's four numbers, then zeros.
 pub fn answer_slots(answer: Answer) -> [u32; 8]
@@ -16,19 +18,21 @@ pub fn answer_slots(answer: Answer) -> [u32; 8]
     slots(answer, 0, 0)
 }
 
-// The answer of reading, and the kind of the state.
-pub fn read_slots(answer: Answer, kind: u32) -> [u32; 8]
-    ensures { result ≡ slots answer kind 0 }
+// Success, and the kind of the state that was read.
+pub fn read_slots(kind: u32) -> [u32; 8]
+    ensures { result ≡ slots (unnamed 0 0) kind 0 }
 {
-    slots(answer, kind, 0)
+    slots(accepted(), kind, 0)
 }
 
-// The answer of finding a label, and the label's offset and size.
+// Success, and a label's offset and size; or the refusal.
 pub fn label_slots(table: &[u8], object: u16) -> [u32; 8]
     ensures { result ≡ label_slots (label_told (label_call table.now object)) }
 {
-    let found = label_place(table, object);
-    slots(found.answer, found.offset as u32, found.size as u32)
+    match label_place(table, object) {
+        Ok(label) => slots(accepted(), label.offset as u32, label.size as u32),
+        Err(answer) => answer_slots(answer),
+    }
 }
 
 // The answer of a backlog, and how many lists were taken.
@@ -42,10 +46,7 @@ pub fn progress_slots(progress: Progress) -> [u32; 8]
 fn capped(count: usize) -> u32
     ensures { result ≡ capped count }
 {
-    if count < 4294967295 {
-        return count as u32;
-    }
-    4294967295
+    u32::try_from(count).unwrap_or(u32::MAX)
 }
 
 // An answer's four numbers, a place kept for a value, two more numbers, and a zero.
