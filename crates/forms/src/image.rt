@@ -8,7 +8,6 @@ ghost use Rattle.tables.specs.Plans.{plan_in};
 use super::objects::widths_of;
 use heads::{elements_of, elements_place, is_under, is_whole};
 use history::Answer;
-use kinds::Kind;
 use tables::{Plan, outline, refused, refused_by};
 
 // Checks an image under its table.
@@ -42,7 +41,7 @@ pub fn check_image_under(plan: Plan<'_>, image: &[u8]) -> Result<(), Answer>
     if image.len() != elements_place(image[4]) + widths_of(plan.kinds) {
         return Err(refused(8));
     }
-    check_words(plan.kinds, elements_of(image))
+    check_words(plan, elements_of(image))
 }
 
 // Which versions of an image are read: only 1.
@@ -53,12 +52,12 @@ fn is_image_version(version: u8) -> bool
 }
 
 // Checks all objects' elements, in table order.
-fn check_words(kinds: &[Kind], words: &[u8]) -> Result<(), Answer>
-    requires { (length words.now ≡ widths kinds.now) × (length kinds.now ≤ 1024) }
-    ensures { result ≡ checked (read_words 0 kinds.now words.now) }
+fn check_words(plan: Plan<'_>, words: &[u8]) -> Result<(), Answer>
+    requires { length words.now ≡ widths plan.kinds.now }
+    ensures { result ≡ checked (read_words 0 plan.entry.kinds.now words.now) }
 {
     let mut at: usize = 0;
-    for (i, kind) in kinds.iter().enumerate() {
+    for (i, kind) in plan.kinds.iter().enumerate() {
         if let Err(r) = elements::check_at(words, at, *kind) {
             return Err(refused_by(r, i as u16));
         }

@@ -39,18 +39,17 @@ pub fn check_list_under(plan: Plan<'_>, list: &[u8]) -> Result<(), Answer>
     if !is_under(list, plan.x, plan.y) {
         return Err(refused(9));
     }
-    check_entries(plan.kinds, entry_count(list), entries_of(list))
+    check_entries(plan, entry_count(list), entries_of(list))
 }
 
 // Checks `count` entries, which must fill the bytes exactly.
-fn check_entries(kinds: &[Kind], count: usize, entries: &[u8]) -> Result<(), Answer>
-    requires { length kinds.now ≤ 1024 }
-    ensures { result ≡ checked (read_entries kinds.now 0 count entries.now) }
+fn check_entries(plan: Plan<'_>, count: usize, entries: &[u8]) -> Result<(), Answer>
+    ensures { result ≡ checked (read_entries plan.entry.kinds.now 0 count entries.now) }
 {
     let mut at: usize = 0;
     let mut low: usize = 0;
     for _ in 0..count {
-        let entry = check_entry(kinds, low, entries, at)?;
+        let entry = check_entry(plan, low, entries, at)?;
         low = entry.object + 1;
         at = entry.next;
     }
@@ -70,16 +69,16 @@ pub struct Passed {
 }
 
 // Checks the entry at a place, whose object must not be below `low`: its number, 14, its elements, 15.
-fn check_entry(kinds: &[Kind], low: usize, entries: &[u8], at: usize) -> Result<Passed, Answer>
-    requires { (at ≤ length entries.now) × (length kinds.now ≤ 1024) }
-    ensures { result ≡ given (passed (at + 2)) (check_entry kinds.now low (drop at entries.now)) }
+fn check_entry(plan: Plan<'_>, low: usize, entries: &[u8], at: usize) -> Result<Passed, Answer>
+    requires { at ≤ length entries.now }
+    ensures { result ≡ given (passed (at + 2)) (check_entry plan.entry.kinds.now low (drop at entries.now)) }
 {
-    let object = check_number(kinds, entries, at)?;
+    let object = check_number(plan.kinds, entries, at)?;
     let index = object as usize;
     if index < low {
         return Err(refused_at(14, object));
     }
-    let entry = check_elements(kinds[index], object, entries, at + 2)?;
+    let entry = check_elements(plan.kinds[index], object, entries, at + 2)?;
     if entry.old == entry.new {
         return Err(refused_at(15, object));
     }

@@ -38,10 +38,7 @@ pub elements_of-requires : goal.elements_of-requires
 elements_of-requires c = head_inside _ _ c.elements_place.ensures.0 (omega arith)
 
 pub check_words-requires : goal.check_words-requires
-check_words-requires c = (
-  elements_fill _ _ c.elements_place.ensures.0 (omega arith) c.elements_of.ensures,
-  search rules,
-)
+check_words-requires c = elements_fill _ _ c.elements_place.ensures.0 (omega arith) c.elements_of.ensures
 
 pub returns : goal.returns
 returns c = c.check_words.ensures

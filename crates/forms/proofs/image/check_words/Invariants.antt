@@ -4,4 +4,4 @@ use Rattle.forms.proofs.WordLaws.{Left}
 use Rattle.forms.proofs.image.check_words.Given as goal
 
 abbrev pub invariant-loop-i : goal.invariant-loop-i
-invariant-loop-i l = Left l.kinds l.words l.i l.at
+invariant-loop-i l = Left l.plan.kinds.now l.words l.i l.at

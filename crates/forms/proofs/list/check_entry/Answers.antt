@@ -14,8 +14,8 @@ returns-in_err-object c =
 pub returns-then-index-low : goal.returns-then-index-low
 returns-then-index-low c = refuses _ (search (falling, c.in_ok-object.ensures)) c.refused_at.ensures
 
-pub bounds-kinds-index : goal.bounds-kinds-index
-bounds-kinds-index c = search (object_there, c.in_ok-object.ensures)
+pub bounds-plan-index : goal.bounds-plan-index
+bounds-plan-index c = search (object_there, c.in_ok-object.ensures)
 
 pub check_elements-requires : goal.check_elements-requires
 check_elements-requires c = search (number_there, c.in_ok-object.ensures)
