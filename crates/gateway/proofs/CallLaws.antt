@@ -1,5 +1,5 @@
--- The check of an element by itself, at each return; that a label's offset and size fit 32 bits; the fields of a state
--- that is read; and the numbers that C gets.
+-- The check of an element by itself, at each return; that a label's offset and size fit 32 bits; and the fields of a
+-- state that is read.
 -- Assumes nothing.
 use Prim.Native.Nat.{ℕ, zero, suc, ◌*◌, ◌≤◌, ◌<◌}
 use native.Mathlib.Omega.{arith}
@@ -18,8 +18,7 @@ use Rattle.kinds.specs.declared.Element.{Element}
 use Rattle.octets.specs.Octets.{number}
 use Rattle.elements.specs.Elements.{carried, kind_of, element_check}
 use Rattle.history.specs.declared.Answer.{Answer}
-use Rattle.history.specs.declared.Standing.{Standing}
-use Rattle.history.specs.Verdict.{Verdict, refused, done, numbers, unnamed, checked, Leaves}
+use Rattle.history.specs.Verdict.{Verdict, refused, done, numbers, unnamed, checked}
 use Rattle.history.specs.Table.{catalogue_good, Object, Table, object_bytes, objects_bytes, label_limit, read_table}
 use Rattle.history.specs.Table.{LegalTable}
 use Rattle.history.specs.Image.{element, found_in, ◌of◌⨾◌}
@@ -32,15 +31,8 @@ use Rattle.tables.proofs.AnswerLaws.{yes, no}
 use Rattle.panel.specs.Readings.{reading_of}
 use Rattle.fields.specs.declared.Plain.{Plain}
 use Rattle.fields.specs.PlainFields.{shown_plain, plain_of}
-use Rattle.receiver.specs.declared.Taken.{Taken}
-use Rattle.receiver.specs.Receive.{answer_of, standing_of, taken_of}
-use Rattle.receiver.specs.declared.Advance.{Advance}
-use Rattle.receiver.specs.Backlogs.{progress_of, advance_of}
-use Rattle.history.specs.Backlog.{backlog_call}
-use Rattle.history.specs.Standing.{tallies_of}
 use Rattle.gateway.specs.Calls.{element_call}
-use Rattle.gateway.specs.Slots.{slots, answer_slots, LeavesSlots, read_slots, fields_after, label_slots, progress_slots}
-use Rattle.gateway.specs.Slots.{standing_in}
+use Rattle.gateway.specs.Slots.{slots, answer_slots, read_slots, fields_after, label_slots}
 
 -- ---- a label is within the first 65,536 bytes
 
@@ -177,39 +169,3 @@ refused_read T A i before {fields} {a} e q n = e ∙ go (read_state_call T A i) 
     go : (v : Verdict Element) → a ≡ read_slots (plain_of (reading_of v)) → fields_after v before ≡ before
     go (refused r) q = refl
     go (done state) q = absurd (n (ap (λ (l : List ℕ). get_or l 0 0) q))
-
--- ---- the numbers that C gets
-
-pub answered : {l : List ℕ} {a b : Answer} → l ≡ answer_slots a → a ≡ b → l ≡ answer_slots b
-answered e f = e ∙ ap answer_slots f
-
--- for a call that writes: its answer's numbers, and its output
-pub wrote : (v : Verdict (List ℕ)) (out : List ℕ) {a : Answer} {l m : List ℕ} → l ≡ answer_slots a → Leaves v out a m
-    → LeavesSlots v out l m
-wrote v out e q = (answered e q.0, q.1)
-
-module _ (T A L out : List ℕ) (s : Standing) {t : Taken} (t-is : t ≡ taken_of T A L out s) where
-  pub received_answer : {l : List ℕ} → l ≡ answer_slots t.answer → l ≡ answer_slots (answer_of T A L out)
-  received_answer e = answered e (ap (λ (t : Taken). t.answer) t-is)
-
-  pub received_tallies : {l : List ℕ} → l ≡ tallies_of t.standing → (tallies : List ℕ) → s ≡ standing_in tallies
-      → l ≡ tallies_of (standing_of T A L out (standing_in tallies))
-  received_tallies e tallies s-is =
-      e ∙ ap (λ (t : Taken). tallies_of t.standing) t-is
-      ∙ ap (λ (s : Standing). tallies_of (standing_of T A L out s)) s-is
-
-module _ (T A b out : List ℕ) (s : Standing) {r : Advance} (r-is : r ≡ advance_of (backlog_call T A b out s))
-    (tallies : List ℕ) (s-is : s ≡ standing_in tallies) where
-  pub backlog_answer : {l : List ℕ} → l ≡ progress_slots r.progress
-      → l ≡ progress_slots (progress_of (backlog_call T A b out (standing_in tallies)))
-  backlog_answer e = e ∙ ap (λ (r : Advance). progress_slots r.progress) r-is
-      ∙ ap (λ (s : Standing). progress_slots (progress_of (backlog_call T A b out s))) s-is
-
-  pub backlog_output_lem : {m : List ℕ} → m ≡ (backlog_call T A b out s).output
-      → m ≡ (backlog_call T A b out (standing_in tallies)).output
-  backlog_output_lem e = e ∙ ap (λ (s : Standing). (backlog_call T A b out s).output) s-is
-
-  pub backlog_tallies : {l : List ℕ} → l ≡ tallies_of r.standing
-      → l ≡ tallies_of (backlog_call T A b out (standing_in tallies)).standing
-  backlog_tallies e = e ∙ ap (λ (r : Advance). tallies_of r.standing) r-is
-      ∙ ap (λ (s : Standing). tallies_of (backlog_call T A b out s).standing) s-is

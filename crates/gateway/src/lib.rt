@@ -33,6 +33,7 @@ use tables::check_table;
 
 // ---- checks
 
+#[tactic(auto, using(history::proofs::OutputLaws::check_tells))]
 pub fn shefumbari_check_element(x: u8, y: u8, ty: u8, element: &[u8], answer: &mut [u32; 8])
     ensures { answer.new ≡ answer_slots (told (element_call x y ty element.now)) }
 {

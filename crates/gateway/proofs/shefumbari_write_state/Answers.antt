@@ -1,7 +1,0 @@
--- `gateway::shefumbari_write_state` meets its contract: the answer and the output of the call that it wraps.
--- Assumes nothing.
-use Rattle.gateway.proofs.CallLaws.{wrote}
-use Rattle.gateway.proofs.shefumbari_write_state.Goals as goal
-
-pub returns : goal.returns
-returns c = wrote _ _ c.answer_slots.ensures c.write_fields.ensures
