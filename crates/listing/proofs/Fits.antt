@@ -3,14 +3,11 @@
 -- Assumes nothing.
 use Prim.Native.Nat.{ℕ, suc, ◌+◌, ◌*◌, ◌-◌, ◌≤◌, ◌<◌}
 use native.Mathlib.Omega.{arith}
-use mathlib.Core.Path.{◌≡◌, refl, ap, ◌∙◌}
+use mathlib.Core.Path.{◌≡◌, refl, ap}
 use mathlib.Core.Bool.{Bool, true, false}
 use mathlib.Core.List.{List, [], ◌∷◌, map}
 use lib.Dec.{leb, ltb, leb→le}
 use lib.ListN.{length, get_or, take, drop, length-append}
-use lib.Seq.{length-sets}
-use mir.Syntax.{w32}
-use mir.Val.{Fits}
 use borrow.Author.Tests.{ltb-true, ltb-false}
 use Rattle.octets.specs.Octets.{bytes}
 use Rattle.octets.proofs.NumberLaws.{length_bytes}
@@ -25,7 +22,8 @@ use Rattle.history.specs.Image.{Image, read_image}
 use Rattle.history.proofs.TableLaws.{nobody, table_is}
 use Rattle.history.proofs.VerdictLaws.{used, held}
 use Rattle.text.specs.Decimal.{decimal_in, decimal}
-use Rattle.text.specs.Wrote.{Wrote}
+use Rattle.text.specs.Grew.{Grew}
+use Rattle.text.specs.declared.Page.{Page}
 use Rattle.text.proofs.Laws.{decimal_fits}
 use Rattle.listing.specs.Listing.{Panel, read_both, table_size, read_panel, first_line, object_line, lines_of}
 use Rattle.listing.specs.Listing.{refused_line, panel_text, text_of, listing_call, printed, listing_of}
@@ -182,32 +180,28 @@ below_few (refused r) h = omega arith
 below_few (done p) h = table_few p.image (h p refl)
 
 -- once the first line is written: the room for the lines below, and where they end
-module _ (b a : List ℕ) (x y position count : ℕ) {l m : List ℕ} {p : ℕ}
-    (w : Wrote l 0 (first_line x y position count) m p) where
-  pub lines_room : 65536 ≤ length l → p + length (lines_in (read_both b a)) ≤ length m
+module _ (b a : List ℕ) (x y position count : ℕ) {p q : Page} (begins : p.at ≡ 0)
+    (w : Grew p (first_line x y position count) q) where
+  pub lines_room : 65536 ≤ length p.out.now → q.at + length (lines_in (read_both b a)) ≤ length q.out.now
   lines_room h =
-      let first : List ℕ = first_line x y position count in
       omega (
         arith,
-        w.next,
-        ap length w.text ∙ length-sets l 0 first,
+        w.wrote.next,
+        w.size,
         first_length x y position count,
         below_few (read_both b a) (λ p e. both_legal b a e),
       )
 
-  module _ {n : List ℕ} {q : ℕ} (v : Wrote m p (lines_in (read_both b a)) n q) where
-    pub lines_end : q ≤ 65536
+  module _ {r : Page} (v : Grew q (lines_in (read_both b a)) r) where
+    pub lines_end : r.at ≤ 65536
     lines_end =
         omega (
           arith,
-          w.next,
-          v.next,
+          w.wrote.next,
+          v.wrote.next,
           first_length x y position count,
           below_few (read_both b a) (λ p e. both_legal b a e),
         )
-
-    pub lines_cast : Fits w32 q
-    lines_cast = record { fits = omega (arith, lines_end) }
 
 panel_legal : (input : List ℕ) {p : Panel} → read_panel input ≡ done p → LegalTable p.table
 unfolding read_panel

@@ -10,8 +10,9 @@ use lib.ListN.{length, length-append}
 use lib.Seq.{append_snoc}
 use Rattle.text.specs.Decimal.{decimal_in, decimal}
 use Rattle.text.specs.Hex.{hexes}
-use Rattle.text.specs.Wrote.{Wrote}
-use Rattle.text.proofs.Laws.{then, hexes_length}
+use Rattle.text.specs.Grew.{Grew}
+use Rattle.text.specs.declared.Page.{Page}
+use Rattle.text.proofs.Laws.{grew_then, hexes_length}
 use Rattle.listing.specs.Listing.{refused_word, first_line, object_line, refused_line}
 use Rattle.listing.specs.Walk.{Numbered, line_size}
 
@@ -36,43 +37,42 @@ room n at size h = omega (arith, ten n)
 
 -- ---- a number and the byte after it, and the next
 
-pub numbered : {l : List ℕ} {at : ℕ} (n mark : ℕ) {m₁ m : List ℕ} {p r : ℕ} → Wrote l at (decimal n) m₁ p
-    → Wrote m₁ p (mark ∷ []) m r → Numbered l at n mark m r
-numbered n mark w v =
-    record { written = then w v; place = omega (arith, w.next, v.next); few = omega (arith, w.next, v.next, ten n) }
+pub numbered : {p q r : Page} (n mark : ℕ) → Grew p (decimal n) q → Grew q (mark ∷ []) r → Numbered p n mark r
+numbered n mark w v = record {
+  written = grew_then w v;
+  place = omega (arith, w.wrote.next, v.wrote.next);
+  few = omega (arith, w.wrote.next, v.wrote.next, ten n);
+}
 
-next : {l : List ℕ} {at n mark : ℕ} {m : List ℕ} {p : ℕ} → Numbered l at n mark m p → {ys k : List ℕ} {r : ℕ}
-    → Wrote m p ys k r → Wrote l at (decimal n ++ (mark ∷ ys)) k r
-next {n = n} {mark = mark} w {ys} v = rw (append_snoc (decimal n) mark ys) at (then w.written v)
+next : {p q r : Page} {n mark : ℕ} {ys : List ℕ} → Numbered p n mark q → Grew q ys r
+    → Grew p (decimal n ++ (mark ∷ ys)) r
+next {n = n} {mark = mark} {ys = ys} w v = rw (append_snoc (decimal n) mark ys) at (grew_then w.written v)
 
 -- where an element in hex ends
-pub after_hexes : (element : List ℕ) {l : List ℕ} {at : ℕ} {m : List ℕ} {r : ℕ} → Wrote l at (hexes element) m r
-    → r ≡ at + 2 * length element
-after_hexes element w = omega (arith, w.next, hexes_length element)
+pub after_hexes : (element : List ℕ) {p q : Page} → Grew p (hexes element) q → q.at ≡ p.at + 2 * length element
+after_hexes element w = omega (arith, w.wrote.next, hexes_length element)
 
 -- ---- the three lines
 
-pub first_line_lem : {x y position count : ℕ} {l m₁ m₂ m₃ n : List ℕ} {p₁ p₂ p₃ r : ℕ}
-    → Numbered l 0 x 46 m₁ p₁ → Numbered m₁ p₁ y 32 m₂ p₂
-    → Numbered m₂ p₂ position 32 m₃ p₃ → Numbered m₃ p₃ count 10 n r
-    → Wrote l 0 (first_line x y position count) n r
+pub first_line_lem : {x y position count : ℕ} {p₀ p₁ p₂ p₃ p₄ : Page}
+    → Numbered p₀ x 46 p₁ → Numbered p₁ y 32 p₂ → Numbered p₂ position 32 p₃ → Numbered p₃ count 10 p₄
+    → Grew p₀ (first_line x y position count) p₄
 unfolding first_line
 first_line_lem w₁ w₂ w₃ w₄ = next w₁ (next w₂ (next w₃ w₄.written))
 
-pub object_line_lem : {i type : ℕ} {label : List ℕ} (element : List ℕ) {l : List ℕ} {at : ℕ} {m₁ m₂ m₃ m₄ m₅ n : List ℕ}
-    {p₁ p₂ p₃ p₄ p₅ r : ℕ}
-    → Numbered l at i 32 m₁ p₁ → Numbered m₁ p₁ type 32 m₂ p₂ → Wrote m₂ p₂ label m₃ p₃ → Wrote m₃ p₃ (32 ∷ []) m₄ p₄
-    → Wrote m₄ p₄ (hexes element) m₅ p₅ → Wrote m₅ p₅ (10 ∷ []) n r
-    → Wrote l at (object_line i type label element) n r
+pub object_line_lem : {i type : ℕ} {label : List ℕ} (element : List ℕ) {p₀ p₁ p₂ p₃ p₄ p₅ p₆ : Page}
+    → Numbered p₀ i 32 p₁ → Numbered p₁ type 32 p₂ → Grew p₂ label p₃ → Grew p₃ (32 ∷ []) p₄
+    → Grew p₄ (hexes element) p₅ → Grew p₅ (10 ∷ []) p₆
+    → Grew p₀ (object_line i type label element) p₆
 unfolding object_line
-object_line_lem element w₁ w₂ w₃ w₄ w₅ w₆ = next w₁ (next w₂ (then w₃ (then w₄ (then w₅ w₆))))
+object_line_lem element w₁ w₂ w₃ w₄ w₅ w₆ = next w₁ (next w₂ (grew_then w₃ (grew_then w₄ (grew_then w₅ w₆))))
 
-pub refused_line_lem : {code object bit : ℕ} {l m₁ m₂ m₃ n : List ℕ} {p₁ p₂ p₃ r : ℕ}
-    → Wrote l 0 (refused_word ++ (32 ∷ [])) m₁ p₁ → Numbered m₁ p₁ code 32 m₂ p₂
-    → Numbered m₂ p₂ object 32 m₃ p₃ → Numbered m₃ p₃ bit 10 n r
-    → Wrote l 0 (refused_line code object bit) n r
+pub refused_line_lem : {code object bit : ℕ} {p₀ p₁ p₂ p₃ p₄ : Page}
+    → Grew p₀ (refused_word ++ (32 ∷ [])) p₁ → Numbered p₁ code 32 p₂ → Numbered p₂ object 32 p₃
+    → Numbered p₃ bit 10 p₄
+    → Grew p₀ (refused_line code object bit) p₄
 unfolding refused_line
-refused_line_lem w₁ w₂ w₃ w₄ = then w₁ (next w₂ (next w₃ w₄.written))
+refused_line_lem w₁ w₂ w₃ w₄ = grew_then w₁ (next w₂ (next w₃ w₄.written))
 
 -- ---- lengths
 

@@ -13,7 +13,7 @@ use mir.Val.{Fits}
 use Rattle.octets.specs.Octets.{bytes}
 use Rattle.elements.specs.Elements.{kind_of}
 use Rattle.history.specs.declared.Answer.{Answer}
-use Rattle.history.specs.Verdict.{Verdict, refused, done, then, unnamed, told, settled, Leaves}
+use Rattle.history.specs.Verdict.{Verdict, refused, done, then, unnamed, told, Leaves}
 use Rattle.history.specs.Form.{form_bytes}
 use Rattle.history.specs.Table.{Object, Table, Plan, objects_bytes, table_bytes, read_table, plan_of, LegalTable}
 use Rattle.history.specs.Image.{Image, words_bytes, read_image, Every, admits}
@@ -32,8 +32,10 @@ use Rattle.tables.proofs.AnswerLaws.{told_then}
 use Rattle.forms.proofs.UnderPlan.{table_refused, image_starts, image_under}
 use Rattle.forms.proofs.Accepted.{image_accepted}
 use Rattle.forms.proofs.KindLaws.{length_kinds}
+use Rattle.text.specs.Grew.{Grew}
 use Rattle.text.specs.Wrote.{Wrote}
-use Rattle.text.proofs.Laws.{then as text-then}
+use Rattle.text.specs.declared.Page.{Page}
+use Rattle.text.proofs.Laws.{grew_then, grew_front}
 use Rattle.listing.specs.Listing.{Panel, read_both, first_line, panel_text, text_of}
 use Rattle.listing.specs.Walk.{Ready, lines_in}
 use Rattle.listing.proofs.Fits.{lines_end}
@@ -184,23 +186,16 @@ wrote_leaves {text = text} {l} e w h q =
     let here = w.text ∙ sets-eq text l 0 (omega (arith, w.next)) ∙ ap (λ (n : ℕ). text ++ drop n l) (zero ∙ long) in
     leaves_as l (sym e) (written_leaves text l long h q here)
 
--- the first line and those below it are all that is written
-module _ {b a : List ℕ} {ns : List Kind} (ready : Ready b a ns) (hb : Held b) (ha : Held a) {position : ℕ}
-    (e : position ≡ position_in a) {l m n : List ℕ} {p q : ℕ}
-    (w : Wrote l 0 (first_line (get_or b 5 0) (get_or b 6 0) position (length ns)) m p)
-    (v : Wrote m p (lines_in (read_both b a)) n q) (h : 65536 ≤ length l)
-    {r : Answer} (r-is : r ≡ unnamed 0 q) where
-  lines_leave : Leaves (text_of (read_both b a)) l r n
-  lines_leave =
-      let text =
-      text_in (read_as ready hb ha)
-      ∙ ap (λ (k : ℕ). done
-      (first_line (get_or b 5 0) (get_or b 6 0) k (length ns) ++ lines_in (read_both b a))) (sym e) in
-      wrote_leaves text (text-then w v)
-      (omega (arith, lines_end b a (get_or b 5 0) (get_or b 6 0) position (length ns) w v)) r-is
-
-  pub lines_answer : r ≡ (settled (text_of (read_both b a)) l).answer
-  lines_answer = lines_leave.0
-
-  pub lines_output : n ≡ (settled (text_of (read_both b a)) l).output
-  lines_output = lines_leave.1
+-- the first line and those below it are all that is written, into a page that begins at the buffer's front
+pub lines_leave : {b a : List ℕ} {ns : List Kind} → Ready b a ns → Held b → Held a → {position : ℕ} → position ≡ position_in a
+    → {l n : List ℕ} {p q s : Page} → 65536 ≤ length l → p.out.now ≡ l → p.at ≡ 0
+    → Grew p (first_line (get_or b 5 0) (get_or b 6 0) position (length ns)) q → Grew q (lines_in (read_both b a)) s
+    → n ≡ s.out.now → {size : ℕ} → size ≡ s.at → {r : Answer} → r ≡ unnamed 0 size
+    → Leaves (text_of (read_both b a)) l r n
+lines_leave {b} {a} {ns} ready hb ha {position} e {l} h front begins w v left size r-is =
+    let text =
+    text_in (read_as ready hb ha)
+    ∙ ap (λ (k : ℕ). done
+    (first_line (get_or b 5 0) (get_or b 6 0) k (length ns) ++ lines_in (read_both b a))) (sym e) in
+    let end = lines_end b a (get_or b 5 0) (get_or b 6 0) position (length ns) begins w v in
+    wrote_leaves text (grew_front front begins (grew_then w v) left size) (omega (arith, end)) r-is

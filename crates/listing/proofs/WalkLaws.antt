@@ -17,8 +17,9 @@ use Rattle.history.specs.Table.{Object, objects_bytes, kind_at}
 use Rattle.history.specs.Image.{words_bytes, Every, and, admits}
 use Rattle.heads.specs.Heads.{objects_place, elements_in}
 use Rattle.forms.proofs.KindLaws.{length_kinds, kinds_next, kinds_end}
-use Rattle.text.specs.Wrote.{Wrote}
-use Rattle.text.proofs.Laws.{then}
+use Rattle.text.specs.Grew.{Grew}
+use Rattle.text.specs.declared.Page.{Page}
+use Rattle.text.proofs.Laws.{grew_then}
 use Rattle.listing.specs.Listing.{read_both, object_line, lines_of}
 use Rattle.listing.specs.Walk.{line_size, Ready, lines_in}
 use Rattle.listing.proofs.LineLaws.{object_length}
@@ -105,23 +106,22 @@ lines_in_lem r =
     ap lines_in r.reads ∙ ap (λ (ks : List Kind). lines_of 0 r.table.objects ks r.image.words) r.kinds
 
 -- the lines so far are written, and the objects from i on are ahead
-pub record Walked (b a : List ℕ) (ns : List Kind) (elements out₀ : List ℕ) (at : ℕ) (out : List ℕ) (to entry place i : ℕ) : Type 0 where
+pub record Walked (b a : List ℕ) (ns : List Kind) (elements : List ℕ) (page₀ page : Page) (entry place i : ℕ) : Type 0 where
   pub written : List ℕ
   pub objects : List Object
   pub words : List ℕ
   pub bound : i ≤ length ns
   pub few : length ns ≤ 1024
-  pub kept : length out ≡ length out₀
-  pub space : at + length (lines_in (read_both b a)) ≤ length out₀
-  pub so_far : Wrote out₀ at written out to
+  pub space : page₀.at + length (lines_in (read_both b a)) ≤ length page₀.out.now
+  pub so_far : Grew page₀ written page
   pub whole : lines_in (read_both b a) ≡ written ++ lines_of i objects (drop i ns) words
   pub ahead : Ahead b elements (drop i ns) objects words entry place
 
 pub begin : {b a : List ℕ} {ns : List Kind} → Ready b a ns → Held b → Held a → (elements : List ℕ) → elements ≡ elements_in a
     → (entry : ℕ) → entry ≡ objects_place
-    → (out : List ℕ) (at : ℕ) → at + length (lines_in (read_both b a)) ≤ length out
-    → Walked b a ns elements out at out at entry 0 0
-begin {b} {a} {ns} ready hb ha elements e entry f out at h =
+    → (page : Page) → page.at + length (lines_in (read_both b a)) ≤ length page.out.now
+    → Walked b a ns elements page page entry 0 0
+begin {b} {a} {ns} ready hb ha elements e entry f page h =
     let r = read_as ready hb ha in
     record {
       written = [];
@@ -129,9 +129,8 @@ begin {b} {a} {ns} ready hb ha elements e entry f out at h =
       words = r.image.words;
       bound = omega arith;
       few = few ready;
-      kept = refl;
       space = h;
-      so_far = record { next = omega arith; text = refl };
+      so_far = record { same = refl; size = refl; wrote = record { next = omega arith; text = refl } };
       whole = lines_in_lem r;
       ahead =
           record {
@@ -143,9 +142,9 @@ begin {b} {a} {ns} ready hb ha elements e entry f out at h =
           };
     }
 
-module _ {b a : List ℕ} {ns : List Kind} {elements out₀ : List ℕ} {at : ℕ} {out : List ℕ} {to entry place i : ℕ}
-    (l : Walked b a ns elements out₀ at out to entry place i) where
-  pub ended : length ns ≤ i → Wrote out₀ at (lines_in (read_both b a)) out to
+module _ {b a : List ℕ} {ns : List Kind} {elements : List ℕ} {page₀ page : Page} {entry place i : ℕ}
+    (l : Walked b a ns elements page₀ page entry place i) where
+  pub ended : length ns ≤ i → Grew page₀ (lines_in (read_both b a)) page
   ended h =
       let last : lines_of i l.objects (drop i ns) l.words ≡ [] =
       ap (λ (ks : List Kind). lines_of i l.objects ks l.words) (kinds_end ns i h)
@@ -206,31 +205,29 @@ module _ {b a : List ℕ} {ns : List Kind} {elements out₀ : List ℕ} {at : �
             (take (sym wide j) (drop place elements))
             ++ lines_of (sym (add-one i) j) here.objects (drop (i + 1) ns) here.words))
 
-        pub has_room : to + line_size i (get_or b entry 0) label element ≤ length out
+        pub has_room : page.at + line_size i (get_or b entry 0) label element ≤ length page.out.now
         has_room =
             omega (
               arith,
-              l.kept,
               l.space,
-              l.so_far.next,
+              l.so_far.size,
+              l.so_far.wrote.next,
               ap length lines_are,
               length-append l.written (object_line i (get_or b entry 0) label element ++ later),
               length-append (object_line i (get_or b entry 0) label element) later,
               object_length i (get_or b entry 0) label element,
             )
 
-        pub goes_on : {out' : List ℕ} {to' : ℕ} → length out' ≡ length out
-            → Wrote out to (object_line i (get_or b entry 0) label element) out' to'
-            → Walked b a ns elements out₀ at out' to' end (place + w) (i + 1)
-        goes_on e v = record {
+        pub goes_on : {page' : Page} → Grew page (object_line i (get_or b entry 0) label element) page'
+            → Walked b a ns elements page₀ page' end (place + w) (i + 1)
+        goes_on v = record {
           written = l.written ++ object_line i (get_or b entry 0) label element;
           objects = here.objects;
           words = here.words;
           bound = omega arith;
           few = l.few;
-          kept = e ∙ l.kept;
           space = l.space;
-          so_far = then l.so_far v;
+          so_far = grew_then l.so_far v;
           whole = lines_are ∙ sym (append_assoc l.written (object_line i (get_or b entry 0) label element) later);
           ahead = rw (end_is, width_is) here.rest;
         }

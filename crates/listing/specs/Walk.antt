@@ -3,19 +3,20 @@
 use Rattle.std.specs.Prelude.{ℕ, ◌+◌, ◌*◌, ◌≤◌, ◌≡◌, List, [], ◌∷◌, ◌++◌, length}
 use Rattle.kinds.specs.declared.Kind.{Kind}
 use Rattle.text.specs.Decimal.{decimal}
-use Rattle.text.specs.Wrote.{Wrote}
+use Rattle.text.specs.Grew.{Grew}
+use Rattle.text.specs.declared.Page.{Page}
 use Rattle.history.specs.Verdict.{Verdict, refused, done, told}
 use Rattle.history.specs.Table.{plan_of}
 use Rattle.history.specs.Image.{read_image}
 use Rattle.history.specs.Calls.{read_plan}
-use Rattle.tables.specs.Outlines.{plan_with}
+use Rattle.tables.specs.Plans.{plan_with}
 use Rattle.listing.specs.Listing.{Panel, lines_of}
 
 -- a number and the byte after it were written
-pub record Numbered (l : List ℕ) (at n mark : ℕ) (m : List ℕ) (r : ℕ) : Type 0 where
-  pub written : Wrote l at (decimal n ++ (mark ∷ [])) m r
-  pub place : r ≡ at + (length (decimal n) + 1)
-  pub few : r ≤ at + 11
+pub record Numbered (old : Page) (n mark : ℕ) (new : Page) : Type 0 where
+  pub written : Grew old (decimal n ++ (mark ∷ [])) new
+  pub place : new.at ≡ old.at + (length (decimal n) + 1)
+  pub few : new.at ≤ old.at + 11
 
 -- how long an object's line is
 abbrev pub line_size : ℕ → ℕ → List ℕ → List ℕ → ℕ

@@ -1,7 +1,7 @@
 // A table and its image as text: both are checked, then walked once, object by object.
 ghost use Rattle.std.specs.Prelude.{◌≡◌, ◌+◌, ◌≤◌, ◌<◌, length, get_or};
 ghost use Rattle.history.specs.Verdict.{Leaves};
-ghost use Rattle.text.specs.Wrote.{Wrote};
+ghost use Rattle.text.specs.Grew.{Grew};
 ghost use Rattle.listing.specs.Listing.{read_both, text_of};
 ghost use Rattle.listing.specs.Walk.{Ready, lines_in};
 
@@ -10,6 +10,7 @@ use forms::{check_image_under, kind_at};
 use heads::{elements_of, objects_place, position_of};
 use history::Answer;
 use tables::{outline, written};
+use text::Page;
 
 // Writes the lines of both, or returns the first refusal.
 pub fn put_panel(table: &[u8], image: &[u8], out: &mut [u8]) -> Answer
@@ -42,29 +43,28 @@ fn put_accepted(table: &[u8], image: &[u8], kinds: &[u8], out: &mut [u8]) -> Ans
 {
     let position = position_of(image);
     let count = kinds.len() as u32;
-    let at = put_first_line(out, table[5], table[6], position, count);
-    written(put_objects(table, image, kinds, out, at) as u32)
+    let mut page = Page::new(out);
+    put_first_line(&mut page, table[5], table[6], position, count);
+    put_objects(table, image, kinds, &mut page);
+    written(page.len() as u32)
 }
 
 // Writes a line for each object: `entry` moves along the table's entries, `place` along the image's elements.
-fn put_objects(table: &[u8], image: &[u8], kinds: &[u8], out: &mut [u8], at: usize) -> usize
+fn put_objects(table: &[u8], image: &[u8], kinds: &[u8], page: &mut Page)
     requires ready { Ready table.now image.now kinds.now }
-    requires image_in_bounds { at + length (lines_in (read_both table.now image.now)) ≤ length out.old }
-    ensures { Wrote out.old at (lines_in (read_both table.now image.now))
-        out.new result }
+    requires image_in_bounds { page.old.at + length (lines_in (read_both table.now image.now))
+        ≤ length page.old.out.now }
+    ensures { Grew page.old (lines_in (read_both table.now image.now)) page.new }
 {
     let elements = elements_of(image);
-    let mut to = at;
     let mut entry = objects_place();
     let mut place = 0;
-    let mut i = 0;
-    while i < kinds.len() {
+    for i in 0..kinds.len() {
         let label = entry + 2;
         let next = label_end(table, entry);
         let end = place + elements::width(kind_at(kinds, i));
-        to = put_object_line(
-            out,
-            to,
+        put_object_line(
+            page,
             i as u32,
             table[entry],
             &table[label..next],
@@ -72,9 +72,7 @@ fn put_objects(table: &[u8], image: &[u8], kinds: &[u8], out: &mut [u8], at: usi
         );
         entry = next;
         place = end;
-        i += 1;
     }
-    to
 }
 
 // Where an entry and its label end: the label follows the entry's two bytes.

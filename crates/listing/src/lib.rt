@@ -14,6 +14,7 @@ use both::put_panel;
 use history::Answer;
 use lines::put_refusal;
 use tables::{refused, short, written};
+use text::Page;
 
 // The most bytes of input that are accepted; also the bytes that every listing fits in.
 const MOST: usize = 65536;
@@ -44,7 +45,9 @@ pub fn print_into(input: &[u8], out: &mut [u8]) -> usize
     }
     let answer = list_into(input, out);
     if answer.code != 0 {
-        return put_refusal(out, answer);
+        let mut page = Page::new(out);
+        put_refusal(&mut page, answer);
+        return page.len();
     }
     answer.length as usize
 }

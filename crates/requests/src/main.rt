@@ -17,7 +17,7 @@ mod without_table;
 
 ghost use Rattle.std.specs.Prelude.{◌≤◌, length, IfOk};
 
-use script::{begins, bytes_of, print};
+use script::{begins, bytes_of, find, print};
 use shell::read_full;
 use std::io;
 use std::io::{Read, Write};
@@ -59,7 +59,8 @@ fn take_text<R: Read, W: Write>(
     let n = read_full(input, &mut text[held..])?;
     let end = held + n;
     let done = answer_lines(output, &text[..end])?;
-    Ok(keep_rest(text, done, end))
+    text.copy_within(done..end, 0);
+    Ok(end - done)
 }
 
 // Answers each complete line; returns where the rest begins.
@@ -67,31 +68,12 @@ fn answer_lines<W: Write>(to: &mut W, text: &[u8]) -> io::Result<usize>
     ensures { IfOk result (λ r. r ≤ length text.now) }
 {
     let mut at = 0;
-    while at < text.len() {
-        let end = script::find(text, at, b'\n');
-        if text.len() <= end {
-            return Ok(at);
-        }
+    while let Some(end) = find(text, at, b'\n') {
         answer(to, &text[at..end])?;
         print(to, b"\n")?;
         at = end + 1;
     }
     Ok(at)
-}
-
-// Copies what is between two places to the front; returns its length.
-fn keep_rest(text: &mut [u8], from: usize, to: usize) -> usize {
-    let mut n = 0;
-    let mut i = from;
-    while i < to {
-        if text.len() <= i {
-            return n;
-        }
-        text[n] = text[i];
-        n += 1;
-        i += 1;
-    }
-    n
 }
 
 fn answer<W: Write>(to: &mut W, line: &[u8]) -> io::Result<()> {

@@ -1,7 +1,10 @@
 // The calls that name an object: its state and its label.
 use super::operations::print_written;
 use fields::Plain;
-use script::{number_of, print, print_answer, print_hex, print_number, print_numbers, value_of};
+use script::{
+    decimal, find, number_of, numbers, print, print_answer, print_hex, print_number, print_numbers,
+    value_of,
+};
 use std::io;
 use std::io::Write;
 
@@ -24,7 +27,7 @@ pub fn read_state<W: Write>(to: &mut W, line: &[u8], table: &[u8], image: &[u8])
 }
 
 fn print_state<W: Write>(to: &mut W, plain: Plain) -> io::Result<()> {
-    print_number(to, plain.kind)?;
+    print_number(to, plain.kind as u64)?;
     print(to, b":")?;
     print_numbers(to, plain.fields, plain.count)
 }
@@ -38,12 +41,22 @@ pub fn write_state<W: Write>(
     out: &mut [u8],
 ) -> io::Result<()> {
     let object = object_of(line);
-    let state = value_of(line, b" state=");
-    let kind = script::decimal(line, state);
-    let values = script::numbers(line, script::find(line, state, b':') + 1);
+    let (kind, values) = state_of(line);
     let position = number_of(line, b" position=");
     let answer = fields::write_fields(table, image, object, kind, values, position, out);
     print_written(to, answer, out)
+}
+
+// The kind and the values of the state that a line names; zeros if it names none.
+fn state_of(line: &[u8]) -> (u32, [u32; 32]) {
+    let Some(state) = value_of(line, b" state=") else {
+        return (0, [0; 32]);
+    };
+    let kind = decimal(line, state);
+    match find(line, state, b':') {
+        Some(colon) => (kind, numbers(line, colon + 1)),
+        None => (kind, [0; 32]),
+    }
 }
 
 // Prints where in the table the label begins, and the label's bytes.
@@ -52,7 +65,7 @@ pub fn label<W: Write>(to: &mut W, line: &[u8], table: &[u8]) -> io::Result<()> 
     print_answer(to, view::label_answer(table, object))?;
     print(to, b" offset=")?;
     let offset = tables::label_place(table, object).map_or(0, |label| label.offset);
-    print_number(to, (offset % 4294967296) as u32)?;
+    print_number(to, (offset % 4294967296) as u64)?;
     print(to, b" label=")?;
     print_hex(to, view::table_label(table, object))
 }

@@ -1,6 +1,8 @@
 // The calls that make a list or an image from other forms: the operations, and a list or a backlog received.
 use history::{Answer, Standing};
-use script::{begins, print, print_answer, print_hex};
+use script::{
+    begins, numbers, print, print_answer, print_hex, print_number, print_numbers, value_of,
+};
 use std::io;
 use std::io::Write;
 
@@ -64,14 +66,17 @@ fn receive_backlog<W: Write>(
     let advance = receiver::backlog_received(table, image, lists, out, standing_of(line));
     print_answer(to, advance.progress.answer)?;
     print(to, b" taken=")?;
-    script::print_count(to, advance.progress.taken)?;
+    print_number(to, advance.progress.taken as u64)?;
     print(to, b" out=")?;
     print_hex(to, out)?;
     print_standing(to, advance.standing)
 }
 
 fn standing_of(line: &[u8]) -> Standing {
-    let tallies = script::numbers(line, script::value_of(line, b" standing="));
+    let tallies = match value_of(line, b" standing=") {
+        Some(at) => numbers(line, at),
+        None => [0; 32],
+    };
     Standing {
         applied: tallies[0],
         late: tallies[1],
@@ -87,5 +92,5 @@ fn print_standing<W: Write>(to: &mut W, standing: Standing) -> io::Result<()> {
     tallies[2] = standing.gap;
     tallies[3] = standing.other;
     print(to, b" standing=")?;
-    script::print_numbers(to, tallies, 4)
+    print_numbers(to, tallies, 4)
 }

@@ -1,5 +1,7 @@
 // The calls that take no table by itself: an element, and a listing, whose input is a table and an image together.
-use script::{bytes_of, number_of, print, print_answer, print_four, print_hex, value_of};
+use script::{
+    bytes_of, decimal, find, number_of, print, print_answer, print_four, print_hex, value_of,
+};
 use std::io;
 use std::io::Write;
 
@@ -14,15 +16,23 @@ const LISTED: usize = 65536;
 pub fn check_element<W: Write>(to: &mut W, line: &[u8]) -> io::Result<()> {
     let mut element = [0u8; ELEMENT];
     let n = bytes_of(line, b" word=", &mut element);
-    let at = value_of(line, b" catalogue=");
-    let mut x: u8 = 1;
-    let mut y: u8 = 0;
-    if at < line.len() {
-        x = (script::decimal(line, at) % 256) as u8;
-        y = (script::decimal(line, script::find(line, at, b'.') + 1) % 256) as u8;
-    }
+    let (x, y) = catalogue_of(line);
     let ty = (number_of(line, b" type=") % 256) as u8;
     check_under(to, x, y, ty, &element[..n])
+}
+
+// The catalogue that a line names; 1.0 if it names none.
+fn catalogue_of(line: &[u8]) -> (u8, u8) {
+    match value_of(line, b" catalogue=") {
+        Some(at) if at < line.len() => {
+            let y = match find(line, at, b'.') {
+                Some(dot) => decimal(line, dot + 1),
+                None => 0,
+            };
+            ((decimal(line, at) % 256) as u8, (y % 256) as u8)
+        }
+        _ => (1, 0),
+    }
 }
 
 fn check_under<W: Write>(to: &mut W, x: u8, y: u8, ty: u8, element: &[u8]) -> io::Result<()> {

@@ -1,7 +1,11 @@
 -- What is read from a line.
-use Rattle.std.specs.Prelude.{◌≡◌, ℕ, ◌*◌, ◌+◌, ◌<◌, ◌≤◌, List, length, take, drop, get_or, ◌⊎◌}
+use Rattle.std.specs.Prelude.{◌≡◌, ◌≢◌, ℕ, ◌*◌, ◌+◌, ◌<◌, ◌≤◌, List, length, take, drop, get_or, slice_index, ◌⊎◌}
 use Rattle.std.specs.List.{flat_map}
 use Rattle.script.specs.Printed.{hex_digit, hex_byte}
+
+-- a byte is at no place from one place to another
+abbrev pub IsNotIn : List ℕ → ℕ → ℕ → ℕ → Type 0
+IsNotIn text from to byte = (k : ℕ) → from ≤ k → k < to → slice_index text k ≢ byte
 
 -- the word is in the line from a place on
 abbrev pub IsAt : List ℕ → ℕ → List ℕ → Type 0
@@ -14,6 +18,22 @@ IsValuePlace line name place = (place ≡ length line) ⊎ ((at : ℕ) × (place
 -- the name doesn't end before the place
 abbrev pub IsFirst : List ℕ → List ℕ → ℕ → Type 0
 IsFirst line name place = (k : ℕ) → 0 < length name → k + length name < place → IsAt line k name → ⊥
+
+-- the line doesn't have the name
+abbrev pub IsUnnamed : List ℕ → List ℕ → Type 0
+IsUnnamed line name = (k : ℕ) → 0 < length name → IsAt line k name → ⊥
+
+-- a place right behind the first name
+abbrev pub IsFirstValue : List ℕ → List ℕ → ℕ → Type 0
+IsFirstValue line name place =
+    ((at : ℕ) × (place ≡ at + length name) × IsAt line at name) × IsFirst line name place
+
+-- the value of a digit is none but this, or there is none
+abbrev pub IsNoDigit : ℕ → Type 0
+IsNoDigit byte = (d : ℕ) → d < 16 → hex_digit d ≢ byte
+
+abbrev pub IsOnlyDigit : ℕ → ℕ → Type 0
+IsOnlyDigit byte d = (e : ℕ) → e < 16 → hex_digit e ≡ byte → d ≡ e
 
 -- the bytes stand in the text in hex from a place on
 abbrev pub IsHexAt : List ℕ → ℕ → List ℕ → Type 0

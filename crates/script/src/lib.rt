@@ -1,72 +1,54 @@
 // Requests and answers as text, for the program that runs stored requests: reads a line's values by their names, as
 // bytes in hex or decimal numbers, and prints an answer's numbers and bytes. It is proved what is printed, that what
-// the writer held stays in front if a write fails, and that bytes that are read stand in the line in hex; of a number
-// read that it is safe. It knows no call of the product.
+// the writer held stays in front if a write fails, and that the bytes and numbers that are read stand in the line. It
+// knows no call of the product.
 #![tactic(auto)]
 
-ghost use Rattle.std.specs.Prelude.{◌≡◌, ◌≢◌, ◌↔◌, IsTrue, ℕ, ◌∷◌, ◌+◌, ◌*◌, ◌<◌, ◌≤◌, length, take, drop, slice_index};
-ghost use Rattle.std.specs.Prelude.{OnOk, OnErr};
+ghost use Rattle.std.specs.Prelude.{◌≡◌, ◌↔◌, IsTrue, ℕ, ◌∷◌, ◌+◌, ◌*◌, ◌%◌, ◌<◌, ◌≤◌, length, take, drop, slice_index};
+ghost use Rattle.std.specs.Prelude.{MatchOption, OnOk, OnErr};
 ghost use Rattle.std.specs.Io.KnownBytes.{Appends};
 ghost use Rattle.std.specs.Fmt.{decimal};
 ghost use Rattle.shell.specs.Partly.{Extends};
 ghost use Rattle.script.specs.Counts.{IsPrefixLen};
-ghost use Rattle.script.specs.Placed.{IsAt, IsValuePlace, IsFirst, IsHexAt, HasHex};
+ghost use Rattle.script.specs.Numbers.{AreNumbers, IsNumberOf, number_at};
+ghost use Rattle.script.specs.Placed.{IsNotIn, IsAt, IsValuePlace, IsFirst, IsUnnamed, IsFirstValue};
+ghost use Rattle.script.specs.Placed.{IsNoDigit, IsOnlyDigit, IsHexAt, HasHex};
 ghost use Rattle.script.specs.Printed.{hex_digit, four_text, hex_byte, hex_text, item_text, numbers_text};
 
 use history::Answer;
 use std::io;
 use std::io::Write;
 
-// The first place of a byte from a place on; the text's end if there is none.
-pub fn find(text: &[u8], from: usize, byte: u8) -> usize
-    ensures within { (result ≤ length text.now) × (from ≤ length text.now → from ≤ result) }
-    ensures before { (k : ℕ) → from ≤ k → k < result → slice_index text.now k ≢ byte }
-    ensures found { result < length text.now → slice_index text.now result ≡ byte }
+// The first place of a byte from a place on.
+pub fn find(text: &[u8], from: usize, byte: u8) -> Option<usize>
+    ensures { MatchOption result (IsNotIn text.now from (length text.now) byte)
+        (λ i. (from ≤ i) × (i < length text.now) × (slice_index text.now i ≡ byte) × IsNotIn text.now from i byte) }
 {
     for i in from..text.len() {
         if text[i] == byte {
-            return i;
+            return Some(i);
         }
     }
-    text.len()
+    None
 }
 
 // Whether a line begins with a word of at least one byte.
 pub fn begins(line: &[u8], word: &[u8]) -> bool
     ensures { IsTrue result ↔ (0 < length word.now) × IsAt line.now 0 word.now }
 {
-    0 < behind(line, 0, word)
+    !word.is_empty() && line.starts_with(word)
 }
 
-// Where a value begins, after ` name=`; the line's end if the line doesn't name it.
-pub fn value_of(line: &[u8], name: &[u8]) -> usize
-    ensures within { result ≤ length line.now }
-    ensures place { IsValuePlace line.now name.now result }
-    ensures first { IsFirst line.now name.now result }
+// Where a value begins, after ` name=`.
+pub fn value_of(line: &[u8], name: &[u8]) -> Option<usize>
+    ensures { MatchOption result (IsUnnamed line.now name.now) (IsFirstValue line.now name.now) }
 {
     for i in 0..line.len() {
-        let place = behind(line, i, name);
-        if 0 < place {
-            return place;
+        if line[i..].starts_with(name) {
+            return Some(i + name.len());
         }
     }
-    line.len()
-}
-
-// The place after a word that is at a place of a line; 0 if it isn't there.
-fn behind(line: &[u8], at: usize, word: &[u8]) -> usize
-    ensures within { result ≤ length line.now }
-    ensures found { 0 < result → (result ≡ at + length word.now) × IsAt line.now at word.now }
-    ensures none { result ≡ 0 → IsAt line.now at word.now → at + length word.now ≡ 0 }
-{
-    if line.len() < at {
-        return 0;
-    }
-    if line[at..].starts_with(word) {
-        at + word.len()
-    } else {
-        0
-    }
+    None
 }
 
 // Decodes the bytes that a line names, in hex, as many as there is room for; returns how many.
@@ -76,24 +58,30 @@ pub fn bytes_of(line: &[u8], name: &[u8], out: &mut [u8]) -> usize
         × IsHexAt line.now from (take result out.new)
         × (result < length out.new → HasHex line.now (from + 2 * result) → ⊥) }
 {
-    decode(line, value_of(line, name), out)
+    match value_of(line, name) {
+        Some(from) => decode(line, from, out),
+        None => 0,
+    }
 }
 
 // The number that a line names, modulo 2^32; 0 if it names none.
-pub fn number_of(line: &[u8], name: &[u8]) -> u32 {
-    decimal(line, value_of(line, name))
+pub fn number_of(line: &[u8], name: &[u8]) -> u32
+    ensures { IsNumberOf line.now name.now result }
+{
+    match value_of(line, name) {
+        Some(from) => decimal(line, from),
+        None => 0,
+    }
 }
 
-// The value of a hex digit in lower case; 16 for any other byte.
-fn digit(byte: u8) -> u8
-    ensures bound { result ≤ 16 }
-    ensures value { result < 16 → hex_digit result ≡ byte }
-    ensures other { (d : ℕ) → d < 16 → hex_digit d ≡ byte → result ≡ d }
+// The value of a hex digit in lower case. `to_digit` of std takes upper case too.
+fn digit(byte: u8) -> Option<u8>
+    ensures { MatchOption result (IsNoDigit byte) (λ d. (d < 16) × (hex_digit d ≡ byte) × IsOnlyDigit byte d) }
 {
     match byte {
-        b'0'..=b'9' => byte - b'0',
-        b'a'..=b'f' => byte - b'a' + 10,
-        _ => 16,
+        b'0'..=b'9' => Some(byte - b'0'),
+        b'a'..=b'f' => Some(byte - b'a' + 10),
+        _ => None,
     }
 }
 
@@ -108,11 +96,12 @@ fn decode(text: &[u8], from: usize, out: &mut [u8]) -> usize
         if text.len() <= i || text.len() - i < 2 {
             return n;
         }
-        let high = digit(text[i]);
-        let low = digit(text[i + 1]);
-        if 15 < high || 15 < low {
+        let Some(high) = digit(text[i]) else {
             return n;
-        }
+        };
+        let Some(low) = digit(text[i + 1]) else {
+            return n;
+        };
         out[n] = high * 16 + low;
         i += 2;
     }
@@ -120,7 +109,9 @@ fn decode(text: &[u8], from: usize, out: &mut [u8]) -> usize
 }
 
 // The decimal number from a place on, modulo 2^32; 0 if there are no digits.
-pub fn decimal(text: &[u8], from: usize) -> u32 {
+pub fn decimal(text: &[u8], from: usize) -> u32
+    ensures { result ≡ number_at text.now from % 4294967296 }
+{
     let mut value: u32 = 0;
     for i in from..text.len() {
         let byte = text[i];
@@ -133,12 +124,17 @@ pub fn decimal(text: &[u8], from: usize) -> u32 {
 }
 
 // Numbers with commas between. Places after the last hold whatever reading on gives.
-pub fn numbers(text: &[u8], from: usize) -> [u32; 32] {
+pub fn numbers(text: &[u8], from: usize) -> [u32; 32]
+    ensures { AreNumbers (drop from text.now) result }
+{
     let mut values = [0u32; 32];
     let mut at = from;
     for value in values.iter_mut() {
         *value = decimal(text, at);
-        at = find(text, at, b',') + 1;
+        at = match find(text, at, b',') {
+            Some(comma) => comma + 1,
+            None => text.len(),
+        };
     }
     values
 }
@@ -159,6 +155,7 @@ pub fn print_answer<W: Write>(to: &mut W, answer: Answer) -> io::Result<()>
     )
 }
 
+// For the calls for C, whose answer is an array: to make an `Answer` of it first is no plainer.
 pub fn print_four<W: Write>(
     to: &mut W,
     code: u32,
@@ -169,7 +166,7 @@ pub fn print_four<W: Write>(
     ensures ok { OnOk result (Appends (W.contents to.old) (W.contents to.new) (four_text code object bit length)) }
     ensures err { OnErr result (Extends (W.contents to.old) (W.contents to.new)) }
 {
-    print_number(to, code)?;
+    print_number(to, code as u64)?;
     print_next(to, b' ', object)?;
     print_next(to, b' ', bit)?;
     print_next(to, b' ', length)
@@ -196,6 +193,7 @@ fn print_byte<W: Write>(to: &mut W, byte: u8) -> io::Result<()>
     print(to, &[hex_digit(byte / 16), hex_digit(byte % 16)])
 }
 
+// In lower case. The one of text is in upper case, by a definition of its own: one for both cases is no plainer.
 fn hex_digit(d: u8) -> u8
     requires { d < 16 }
     ensures { result ≡ hex_digit d }
@@ -220,7 +218,7 @@ fn print_item<W: Write>(to: &mut W, before: usize, number: u32) -> io::Result<()
     ensures err { OnErr result (Extends (W.contents to.old) (W.contents to.new)) }
 {
     if before == 0 {
-        return print_number(to, number);
+        return print_number(to, number as u64);
     }
     print_next(to, b',', number)
 }
@@ -231,27 +229,11 @@ fn print_next<W: Write>(to: &mut W, mark: u8, number: u32) -> io::Result<()>
     ensures err { OnErr result (Extends (W.contents to.old) (W.contents to.new)) }
 {
     print(to, &[mark])?;
-    print_number(to, number)
+    print_number(to, number as u64)
 }
 
-// Prints a number in decimal.
-pub fn print_number<W: Write>(to: &mut W, number: u32) -> io::Result<()>
-    ensures ok { OnOk result (Appends (W.contents to.old) (W.contents to.new) (decimal number)) }
-    ensures err { OnErr result (Extends (W.contents to.old) (W.contents to.new)) }
-{
-    print_decimal(to, number as u64)
-}
-
-// Prints a count in decimal.
-pub fn print_count<W: Write>(to: &mut W, count: usize) -> io::Result<()>
-    ensures ok { OnOk result (Appends (W.contents to.old) (W.contents to.new) (decimal count)) }
-    ensures err { OnErr result (Extends (W.contents to.old) (W.contents to.new)) }
-{
-    print_decimal(to, count as u64)
-}
-
-// The digits are put into a buffer first: of `write!` it isn't known what an error leaves.
-fn print_decimal<W: Write>(to: &mut W, number: u64) -> io::Result<()>
+// Prints a number in decimal. The digits are put into a buffer first: of `write!` it isn't known what an error leaves.
+pub fn print_number<W: Write>(to: &mut W, number: u64) -> io::Result<()>
     ensures ok { OnOk result (Appends (W.contents to.old) (W.contents to.new) (decimal number)) }
     ensures err { OnErr result (Extends (W.contents to.old) (W.contents to.new)) }
 {

@@ -77,6 +77,7 @@ pub fn read_full<R: Read>(input: &mut R, buffer: &mut [u8]) -> io::Result<usize>
     ensures loses { LosesFront (R.remaining input.old) (R.remaining input.new) }
 {
     let mut done = 0;
+    // A turn reads any number of bytes, so no `for` is plainer.
     while done < buffer.len() {
         let n = input.read(&mut buffer[done..])?;
         if n == 0 {

@@ -2,18 +2,21 @@
 -- Assumes nothing.
 use mathlib.Core.Path.{◌≡◌, refl, sym, ap, ◌∙◌}
 use mathlib.Core.Bool.{Bool, true, false, cond}
-use mathlib.Core.List.{List, [], ◌∷◌, ◌++◌}
-use Prim.Native.Nat.{ℕ, zero, suc, ◌+◌, ◌*◌, ◌/◌, ◌%◌, ◌^◌, ◌≤◌, ◌<◌}
+use mathlib.Core.List.{List, [], ◌∷◌, ◌++◌, append_assoc}
+use Prim.Native.Nat.{ℕ, zero, suc, ◌+◌, ◌-◌, ◌*◌, ◌/◌, ◌%◌, ◌^◌, ◌≤◌, ◌<◌}
 use native.Mathlib.Nat.{add-zero, add-suc, suc-add, le_of_lt, div-lt_iff_lt-mul, pow-suc}
 use native.Mathlib.Omega.{arith}
 use native.Mathlib.Numerals.{add-one}
 use lib.Dec.{ltb, lit<}
-use lib.ListN.{length, get_or, take, set, length-append}
-use lib.Seq.{sets, length-take-le, take_all, take-suc}
+use lib.ListN.{length, get_or, take, drop, set, length-append}
+use lib.Seq.{sets, sets-eq, length-take-le, take_all, take-suc}
+use borrow.Rule.Slice.PartMut.{put_mid, Post-is}
 use borrow.Author.Tests.{lt-ltb, le-ltb, ltb-true, ltb-false}
 use Rattle.text.specs.Decimal.{decimal_in, decimal}
 use Rattle.text.specs.Hex.{hex_digit, hexes}
+use Rattle.text.specs.Grew.{Grew}
 use Rattle.text.specs.Wrote.{Wrote}
+use Rattle.text.specs.declared.Page.{Page}
 
 -- a tenth of a number has one digit less
 pub tenth : (k n : ℕ) → n < 10 ^ suc (suc k) → n / 10 < 10 ^ suc k
@@ -70,28 +73,37 @@ then {l} {at} {xs} {m} {p} {ys} {n} {r} a b = record {
   text = b.text ∙ (λ i. sets (a.text i) (a.next i) ys) ∙ sets_append l at xs ys;
 }
 
+-- the same of a page
+pub grew_then : {p q r : Page} {xs ys : List ℕ} → Grew p xs q → Grew q ys r → Grew p (xs ++ ys) r
+grew_then a b = record { same = b.same ∙ a.same; size = b.size ∙ a.size; wrote = then a.wrote b.wrote }
+
+-- what is written into a page that begins at the front of a buffer, and the buffer and the place in the end
+pub grew_front : {l n xs : List ℕ} {p q : Page} {r : ℕ} → p.out.now ≡ l → p.at ≡ 0 → Grew p xs q → n ≡ q.out.now
+    → r ≡ q.at → Wrote l 0 xs n r
+grew_front {xs = xs} front begins w left place =
+    record {
+      next = place ∙ w.wrote.next ∙ ap (λ (k : ℕ). k + length xs) begins;
+      text = left ∙ w.wrote.text ∙ (λ i. sets (front i) (begins i) xs);
+    }
+
+-- the whole buffer, once a part of it is a copy of xs
+pub copied : (l : List ℕ) (at : ℕ) {ys : List ℕ} (xs : List ℕ) → ys ≡ xs → at + length xs ≤ length l
+    → put_mid at (at + length xs - at) l ys ≡ sets l at xs
+copied l at xs e h =
+    (λ i. take at l ++ (e i ++ Post-is at (at + length xs) l (omega arith) i))
+    ∙ sym (append_assoc (take at l) xs (drop (at + length xs) l)) ∙ sym (sets-eq xs l at h)
+
 -- for n of two digits or more: a tenth of n is written, and then its last digit
 module _ {n : ℕ} (h : 10 ≤ n) (h' : n < 4294967296) where
   pub tenth_room : (at k : ℕ) → at + length (decimal n) ≤ k → at + length (decimal (n / 10)) ≤ k
   tenth_room at k r = omega (arith, decimal_length n h (omega arith))
 
-  module _ {l m : List ℕ} {at p : ℕ} (w : Wrote l at (decimal (n / 10)) m p) where
-    pub last_room : at + length (decimal n) ≤ length l → length m ≡ length l → p < length m
-    last_room r s = omega (arith, decimal_length n h (omega arith), w.next)
+  module _ {p q : Page} (w : Grew p (decimal (n / 10)) q) where
+    pub last_room : p.at + length (decimal n) ≤ length p.out.now → q.at + 1 ≤ length q.out.now
+    last_room r = omega (arith, decimal_length n h (omega arith), w.wrote.next, w.size)
 
-    pub last_digit : Wrote l at (decimal n) (set m p (48 + n % 10)) (p + 1)
-    last_digit = rw (decimal_more n h (omega arith)) (then w (record { next = refl; text = refl }))
-
--- the first i bytes of s are written
-module _ (l s : List ℕ) {m : List ℕ} (at i : ℕ) (e : m ≡ sets l at (take i s)) where
-  pub copy_next : i < length s → set m (at + i) (get_or s i 0) ≡ sets l at (take (i + 1) s)
-  copy_next h =
-      (λ j. set (e j) (at + sym (length-take-le i s (le_of_lt h)) j) (get_or s i 0))
-      ∙ sets_append l at (take i s) (get_or s i 0 ∷ [])
-      ∙ ap (sets l at) (sym (take-suc s i 0 h) ∙ ap (λ (k : ℕ). take k s) (sym (add-one i)))
-
-  pub copy_end : i ≤ length s → length s ≤ i → Wrote l at s m (at + i)
-  copy_end h k = record { next = omega arith; text = e ∙ ap (sets l at) (take_all i s k) }
+    pub last_digit : {r : Page} → Grew q ((48 + n % 10) ∷ []) r → Grew p (decimal n) r
+    last_digit v = rw (decimal_more n h (omega arith)) (grew_then w v)
 
 -- bytes in hex
 pub hexes_length : (bs : List ℕ) → length (hexes bs) ≡ 2 * length bs
@@ -103,19 +115,18 @@ hexes_append [] bs = refl
 hexes_append (a ∷ xs) bs = ap (λ (l : List ℕ). hex_digit (a / 16) ∷ hex_digit (a % 16) ∷ l) (hexes_append xs bs)
 
 -- the two digits of a byte
-pub two_digits : {l m k : List ℕ} {at p r d e : ℕ} (b : ℕ) → d ≡ hex_digit (b / 16) → e ≡ hex_digit (b % 16)
-    → Wrote l at (d ∷ []) m p → Wrote m p (e ∷ []) k r
-    → Wrote l at (hexes (b ∷ [])) k r
-two_digits b high low a c = simp (high, low) at (then a c)
+pub two_digits : {p q r : Page} {d e : ℕ} (b : ℕ) → d ≡ hex_digit (b / 16) → e ≡ hex_digit (b % 16)
+    → Grew p (d ∷ []) q → Grew q (e ∷ []) r
+    → Grew p (hexes (b ∷ [])) r
+two_digits b high low a c = simp (high, low) at (grew_then a c)
 
 -- the first i bytes of s are written, in hex
-module _ (s : List ℕ) {l m : List ℕ} {at i p : ℕ} (w : Wrote l at (hexes (take i s)) m p) where
-  pub hex_room : i < length s → at + 2 * length s ≤ length l → length m ≡ length l → p + 2 ≤ length m
-  hex_room h r e = omega (arith, hexes_length (take i s), length-take-le i s (le_of_lt h), w.next)
+module _ (s : List ℕ) {p q : Page} {i : ℕ} (w : Grew p (hexes (take i s)) q) where
+  pub hex_room : i < length s → p.at + 2 * length s ≤ length p.out.now → q.at + 2 ≤ length q.out.now
+  hex_room h r = omega (arith, hexes_length (take i s), length-take-le i s (le_of_lt h), w.wrote.next, w.size)
 
-  pub hex_next : i < length s → {k : List ℕ} {r : ℕ} → Wrote m p (hexes (get_or s i 0 ∷ [])) k r
-      → Wrote l at (hexes (take (i + 1) s)) k r
-  hex_next h b = rw (add-one, take-suc s i 0, hexes_append) (then w b)
+  pub hex_next : i < length s → {r : Page} → Grew q (hexes (get_or s i 0 ∷ [])) r → Grew p (hexes (take (i + 1) s)) r
+  hex_next h b = rw (add-one, take-suc s i 0, hexes_append) (grew_then w b)
 
-  pub hex_end : length s ≤ i → Wrote l at (hexes s) m p
+  pub hex_end : length s ≤ i → Grew p (hexes s) q
   hex_end h = rw (take_all i s h) at w

@@ -1,3 +1,4 @@
 pub mod Decimal
+pub mod Grew
 pub mod Hex
 pub mod Wrote

@@ -1,10 +1,10 @@
--- `requests::answer_lines` meets its contract: each line ends after it begins.
+-- Each line ends after it begins.
 -- Assumes nothing.
 use Rattle.std.proofs.Common.{◌-◌, ◌≤◌, length}
 use Rattle.requests.proofs.answer_lines.Given as goal
 
-abbrev pub invariant-loop-at : goal.invariant-loop-at
-invariant-loop-at g l = l.at ≤ length l.text
+abbrev pub invariant-loop-end : goal.invariant-loop-end
+invariant-loop-end g l = l.at ≤ length l.text
 
-abbrev pub decreases-loop-at : goal.decreases-loop-at
-decreases-loop-at g l = length l.text - l.at
+abbrev pub decreases-loop-end : goal.decreases-loop-end
+decreases-loop-end g l = length l.text - l.at

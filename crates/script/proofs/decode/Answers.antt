@@ -5,7 +5,7 @@ use Rattle.script.proofs.decode.Goals as goal
 pub loop-n-preserved : goal.loop-n-preserved
 loop-n-preserved c = record {
   place = omega (arith, c.loop-n.invariant.place);
-  hex = more_read c.args.text.now c.loop-n.out c.args.from c.loop-n.i c.loop-n.n c.digit-high.result c.digit-low.result
-      c.loop-n.invariant.place (omega arith) (omega arith) (omega arith)
-      (c.digit-high.ensures.value (omega arith)) (c.digit-low.ensures.value (omega arith)) c.loop-n.invariant.hex;
+  hex = more_read c.args.text.now c.loop-n.out c.args.from c.loop-n.i c.loop-n.n c.in-Some.high c.in-Some-digit.low
+      c.loop-n.invariant.place (omega arith) (omega arith) c.in-Some-digit.ensures.0
+      c.in-Some.ensures.1 c.in-Some-digit.ensures.1 c.loop-n.invariant.hex;
 }

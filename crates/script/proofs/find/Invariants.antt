@@ -1,6 +1,6 @@
 -- The byte is at no place before the index.
-use Rattle.std.proofs.Common.{◌≡◌, ℕ, ◌<◌, ◌≤◌, get_or}
+use Rattle.script.specs.Placed.{IsNotIn}
 use Rattle.script.proofs.find.Given as goal
 
 abbrev pub invariant-loop-i : goal.invariant-loop-i
-invariant-loop-i l = (k : ℕ) → l.from ≤ k → k < l.i → get_or l.text k 0 ≡ l.byte → ⊥
+invariant-loop-i l = IsNotIn l.text l.from l.i l.byte

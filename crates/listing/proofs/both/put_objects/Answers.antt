@@ -1,5 +1,4 @@
--- `listing::both::put_objects` meets its contract: the whole text is what is written, followed
--- by the lines of the objects left.
+-- The whole text is what is written, followed by the lines of the objects left.
 -- Assumes nothing.
 use native.Mathlib.Omega.{arith}
 use Rattle.listing.proofs.PanelLaws.{position_inside}
@@ -28,14 +27,11 @@ slice_bounds-put_object_line-end c = search label_inside
 pub slice_bounds-put_object_line-end-in-loop-i : goal.slice_bounds-put_object_line-end-in-loop-i
 slice_bounds-put_object_line-end-in-loop-i c = search element_inside
 
-pub put_object_line-to-requires : goal.put_object_line-to-requires
-put_object_line-to-requires c = search has_room
+pub put_object_line-requires : goal.put_object_line-requires
+put_object_line-requires c = search has_room
 
 pub loop-i-preserved : goal.loop-i-preserved
 loop-i-preserved c = search goes_on
-
-pub shape_of-out : goal.shape_of-out
-shape_of-out c = c.loop-i.invariant.kept
 
 pub returns : goal.returns
 returns c = ended c.loop-i.invariant (omega arith)

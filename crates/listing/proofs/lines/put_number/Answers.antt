@@ -1,4 +1,4 @@
--- `listing::lines::put_number` meets its contract: two writes, one after the other.
+-- Two writes, one after the other.
 -- Assumes nothing.
 use Rattle.listing.proofs.LineLaws.{numbered}
 use Rattle.listing.proofs.lines.put_number.Goals as goal

@@ -1,17 +1,17 @@
--- `listing::lines::put_refusal` meets its contract: the word and three numbers, each right after the one before.
+-- The word and three numbers, each right after the one before.
 -- Assumes nothing.
 use Rattle.std.proofs.Common.{arith, rules}
 use Rattle.listing.proofs.LineLaws.{room, refused_line_lem}
 use Rattle.listing.proofs.lines.put_refusal.Goals as goal
 
-pub put_number-object-requires : goal.put_number-object-requires
-put_number-object-requires c = room _ _ _ (omega arith)
-
-pub put_number-bit-requires : goal.put_number-bit-requires
-put_number-bit-requires c = room _ _ _ (omega arith)
-
 pub put_number-requires : goal.put_number-requires
 put_number-requires c = room _ _ _ (omega arith)
+
+pub put_number-requires-2 : goal.put_number-requires-2
+put_number-requires-2 c = room _ _ _ (omega arith)
+
+pub put_number-requires-3 : goal.put_number-requires-3
+put_number-requires-3 c = room _ _ _ (omega arith)
 
 pub returns : goal.returns
 returns c = search (rules, refused_line_lem)
