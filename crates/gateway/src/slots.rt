@@ -1,5 +1,5 @@
-// Answers, label places, backlogs and tallies as arrays of numbers, in C's order. No `From` can say it: none of the types
-// is this crate's, and those that have them know no C.
+// Answers, label places, backlogs and tallies as arrays of numbers, in C's order. No `From` can say it: none of the
+// types is this crate's, and those that have them know no C.
 ghost use Rattle.std.specs.Prelude.{◌≡◌};
 ghost use Rattle.history.specs.Verdict.{unnamed};
 ghost use Rattle.history.specs.Calls.{label_call};
