@@ -3,22 +3,22 @@
 -- Assumes nothing.
 use Prim.Native.Nat.{ℕ, ◌+◌, ◌-◌, ◌^◌, ◌≤◌, ◌<◌}
 use native.Mathlib.Omega.{arith}
-use mathlib.Core.Path.{◌≡◌, sym, ap, ap₂, ◌∙◌}
+use mathlib.Core.Path.{◌≡◌, refl, sym, ap, ap₂, ◌∙◌}
 use mathlib.Core.List.{List, ◌++◌, append-nil}
 use lib.ListN.{length, take, drop, length-drop, take-append-drop}
-use lib.Seq.{drop-drop, drop-length, length-take-le}
+use lib.Seq.{take_at, drop_at, drop-drop, drop-length, length-take-le}
 use borrow.Rule.Slice.PartMut.{put_mid, mid_of, mid_len}
-use Rattle.std.specs.Prelude.{Result, Ok}
+use Rattle.std.specs.Prelude.{Ok, Err}
 use Rattle.octets.specs.Octets.{bytes}
 use Rattle.octets.proofs.NumberLaws.{length_bytes}
 use Rattle.kinds.specs.Kinds.{width_of}
 use Rattle.kinds.specs.declared.Kind.{Kind}
 use Rattle.history.specs.declared.Answer.{Answer}
-use Rattle.history.specs.Verdict.{done, Puts}
+use Rattle.history.specs.Verdict.{done, unnamed, Puts}
 use Rattle.history.specs.Table.{kind_at}
 use Rattle.history.specs.Image.{widths}
 use Rattle.history.proofs.ImageLaws.{widths_few}
-use Rattle.history.proofs.OutputLaws.{front_puts, copy_is, copy_rest}
+use Rattle.history.proofs.OutputLaws.{short_puts, written_puts}
 use Rattle.heads.specs.Heads.{image_head, elements_in}
 use Rattle.heads.specs.Written.{with_elements}
 use Rattle.heads.proofs.Places.{head_few, elements_from_lem}
@@ -147,11 +147,15 @@ module _ (ks : List Kind) (b : List ℕ) (h : length b ≡ image_head b + widths
 
 -- ---- a copy at the front of the output, changed there
 
-module _ (A out : List ℕ) {cs : List ℕ} (c : cs ≡ A) where
-  -- what is left is the changed image
-  pub copied_puts : (f : List ℕ → List ℕ) → length (f A) ≡ length A → length A ≤ length out → {r : Result ℕ Answer}
-      → r ≡ Ok (length A) → {bs : List ℕ} → bs ≡ f (mid_of 0 (length A - 0) (put_mid 0 (length A - 0) out cs))
-      → Puts (done (f A)) out r (put_mid 0 (length A - 0) (put_mid 0 (length A - 0) out cs) bs)
-  copied_puts f same room e {bs} q =
-      let front = front_puts (f A) out same room e (q ∙ ap f (copy_is A out c)) in
-      (front.0, ap (λ (l : List ℕ). bs ++ l) (copy_rest A out c) ∙ front.1)
+-- there was no room for it, and a changed image needs as much
+pub not_copied : (b out : List ℕ) {n : ℕ} → length b ≡ n → {a : Answer} {m : List ℕ}
+    → (a ≡ unnamed 21 n) × (length out < n) × (m ≡ out) → Puts (done b) out (Err a) m
+not_copied b out l q = rw q.2 (short_puts b out l q.1 (ap Err q.0))
+
+pub copied_puts : (A out : List ℕ) {n : ℕ} {m : List ℕ} → (n ≡ length A) × (n ≤ length out) × (m ≡ A ++ drop n out)
+    → (f : List ℕ → List ℕ) → length (f A) ≡ length A → {bs : List ℕ} → bs ≡ f (take n m)
+    → Puts (done (f A)) out (Ok n) (bs ++ drop n m)
+copied_puts A out {n} {m} q f same p =
+    let here : take n m ≡ A = ap (take n) q.2 ∙ take_at A (drop n out) n (sym q.0) in
+    let rest : drop n m ≡ drop n out = ap (drop n) q.2 ∙ drop_at A (drop n out) n (sym q.0) in
+    written_puts (f A) out (same ∙ sym q.0) q.1 refl (ap₂ ◌++◌ (p ∙ ap f here) rest)

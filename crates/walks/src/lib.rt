@@ -91,6 +91,7 @@ pub fn put_changes(part: &mut [u8], walk: Walk, plan: Plan<'_>, first: &[u8], se
     ensures { part.new
         ≡ walk_bytes walk 0 plan.entry.kinds.now first.now second.now }
 {
+    // a walk's name and not a closure: what a closure that holds a plan does isn't inferred, so each call would spell it
     match walk {
         Walk::Difference => put_difference(part, plan, first, second),
         Walk::Join => put_joined(part, plan, first, second),

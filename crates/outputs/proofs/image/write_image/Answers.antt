@@ -1,22 +1,17 @@
--- `outputs::image::write_image` meets its contract: the room is tested before the image is copied and changed.
+-- `outputs::image::write_image` meets its contract: the image is copied where there is room, and the copy is changed.
 -- Assumes nothing.
-use native.Mathlib.Omega.{arith}
-use mathlib.Core.Path.{refl, ap}
-use Rattle.std.specs.Prelude.{Err}
-use Rattle.history.proofs.OutputLaws.{short_puts}
+use Rattle.std.proofs.lemmas.Result.{err_from_is_err_and}
 use Rattle.outputs.specs.Outputs.{image_after}
-use Rattle.outputs.proofs.Images.{few_bytes, length_after, copied_puts}
+use Rattle.outputs.proofs.Images.{few_bytes, length_after, not_copied, copied_puts}
 use Rattle.outputs.proofs.image.write_image.Goals as goal
 
-pub overflow_cast-size : goal.overflow_cast-size
-overflow_cast-size c = search few_bytes
+pub copy_image-requires : goal.copy_image-requires
+copy_image-requires c = search few_bytes
 
-pub returns-then-out-size : goal.returns-then-out-size
-returns-then-out-size c = short_puts _ _ (search length_after) c.if-out-size.true (ap Err c.short.ensures)
-
-pub overflow_cast-result : goal.overflow_cast-result
-overflow_cast-result c = search few_bytes
+pub returns-in_err-size : goal.returns-in_err-size
+returns-in_err-size c =
+    let p = err_from_is_err_and c.from_residual.result c.from_residual.ensures.1 in
+    rw (p.1, p.2) (not_copied _ _ (search length_after) c.in_err-size.ensures.no_room)
 
 pub returns : goal.returns
-returns c =
-    copied_puts _ _ c.copy.ensures (image_after _ _ _) (search length_after) (omega arith) refl c.take_entries.ensures
+returns c = copied_puts _ _ c.in_ok-size.ensures.copied (image_after _ _ _) (search length_after) c.take_entries.ensures
