@@ -21,6 +21,8 @@ pub fn difference(table: &[u8], a: &[u8], b: &[u8], out: &mut [u8]) -> Answer
     put_difference(table, a, b, out).into()
 }
 
+// This and the three below differ in their forms and in the call under the plan: one function that took the rest as a
+// closure would hold the lent output in it, and be no shorter.
 fn put_difference(table: &[u8], a: &[u8], b: &[u8], out: &mut [u8]) -> Result<u32, Answer>
     ensures { Puts (difference_call table.now a.now b.now)
         out.old result out.new }

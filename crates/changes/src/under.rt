@@ -11,6 +11,8 @@ use forms::{check_image_under, check_list_under};
 use history::Answer;
 use tables::Plan;
 
+// Each of these checks its own forms in its own order, so that no two are one function of another type or constant.
+
 // Checks image a, then image b; then writes the list from a to b.
 pub fn difference_under(plan: Plan<'_>, a: &[u8], b: &[u8], out: &mut [u8]) -> Result<u32, Answer>
     ensures { Puts (difference_under (plan_in plan.entry) a.now b.now)

@@ -22,7 +22,8 @@ pub struct Standing {
     pub other: u32,
 }
 
-// What a change list says of one object: nothing, or its old and its new element.
+// What a change list says of one object: nothing, or its old and its new element. Not an `Option`: the definitions and
+// laws speak of these two cases by their names, and a pair in `Some` would not say which element is which.
 #[derive(Clone, Copy)]
 pub enum Change {
     Keep,
