@@ -50,7 +50,8 @@ pub fn fresh() -> Standing
     }
 }
 
-// Applies the list to the image, and counts the answer in the lent standing.
+// Applies the list to the image, and counts the answer in the lent standing. Like `receive_backlog` it only stores what
+// the call by value gives, which the paper asks of both.
 pub fn receive(
     table: &[u8],
     image: &[u8],

@@ -21,7 +21,8 @@ pub enum Walk {
 
 // ---- which object is next
 
-// The next object, from the given one on, that either list names; or the end.
+// The next object, from the given one on, that either list names; or the end. No `Option`: a loop over objects goes on
+// at the end as at an object, so each caller would turn `None` into it.
 pub fn next(
     object: usize,
     end: usize,
