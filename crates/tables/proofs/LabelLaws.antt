@@ -1,6 +1,6 @@
 -- Labels, a byte at a time: what the loops over a label keep, and the label's test and hash from theirs.
 -- Assumes nothing.
-use Prim.Native.Nat.{ℕ, ◌+◌, ◌-◌, ◌*◌, ◌%◌, ◌≤◌, ◌<◌}
+use Prim.Native.Nat.{ℕ, suc, ◌+◌, ◌-◌, ◌*◌, ◌%◌, ◌≤◌, ◌<◌}
 use mathlib.Core.Path.{◌≡◌, refl, sym, ap, ◌∙◌}
 use mathlib.Core.List.{List, [], ◌∷◌}
 use mathlib.Core.Bool.{Bool, true, false, and-true, and-false}
@@ -10,13 +10,13 @@ use lib.ListN.{length, get_or, take, drop, drop_of_length-le}
 use lib.Seq.{drop-cons}
 use borrow.Author.Tests.{lt-leb, le-leb, lt-ltb, le-ltb, ltb-false}
 use Rattle.std.specs.Prelude.{Option, Some, None, cond}
+use Rattle.std.specs.Option.{unwrap_or}
 use Rattle.std.specs.List.{position_or_len}
 use Rattle.std.proofs.lemmas.List.Recursion.{is_position_or_len}
 use lib.Dec.{eqb, ltb}
 use Rattle.history.specs.Table.{printable, first_colon, label_good}
 use Rattle.tables.specs.Places.{hash_at}
 use Rattle.tables.specs.Hashes.{hash_from, hash_of, hashed}
-use Rattle.tables.specs.Colons.{colon_place}
 
 -- what is left from a place inside: the byte there, then the rest
 at_place : (l : List ℕ) (i : ℕ) → i < length l → drop i l ≡ get_or l i 0 ∷ drop (i + 1) l
@@ -57,45 +57,47 @@ label_yes good hash h e f = rw e (ap Some f)
 
 -- ---- the first colon
 
-pub colon_is : (l : List ℕ) → first_colon l ≡ position_or_len (λ b. eqb b 58) l
+colon_is : (l : List ℕ) → first_colon l ≡ position_or_len (λ b. eqb b 58) l
 colon_is l =
     is_position_or_len first_colon (λ b. eqb b 58) refl (λ x xs. ap (cond (eqb x 58) 0) (omega arith)) l
 
-module _ (l : List ℕ) where
-  pub colon_none : {r : Option ℕ} → r ≡ colon_place l → r ≡ None → label_good l ≡ false
+pub first_inside : (l : List ℕ) → first_colon l ≤ length l
+first_inside [] = omega arith
+first_inside (b ∷ bs) = go (eqb b 58) (first_inside bs)
+  where
+    go : (t : Bool) → first_colon bs ≤ length bs → cond t 0 (suc (first_colon bs)) ≤ suc (length bs)
+    go true h = omega arith
+    go false h = omega arith
+
+-- what the search gives, or the length
+pub colon_found : (l : List ℕ) {r : Option ℕ}
+    → r ≡ cond (ltb (position_or_len (λ b. eqb b 58) l) (length l)) (Some (position_or_len (λ b. eqb b 58) l)) None
+    → unwrap_or r (length l) ≡ first_colon l
+colon_found l {r} e = go (ltb (first_colon l) (length l)) refl (rw (← colon_is l) at e)
+  where
+    go : (u : Bool) → ltb (first_colon l) (length l) ≡ u → r ≡ cond u (Some (first_colon l)) None
+        → unwrap_or r (length l) ≡ first_colon l
+    go true t f = rw f
+    go false t f =
+        let h : length l ≤ first_colon l = ltb-false _ _ t in
+        rw f (omega (arith, first_inside l))
+
+module _ (l : List ℕ) (p : ℕ) (e : p ≡ first_colon l) where
+  pub colon_first : p < 1 → label_good l ≡ false
   unfolding label_good
-  colon_none e f = go (ltb (first_colon l) (length l)) refl (sym f ∙ e)
-    where
-      go : (u : Bool) → ltb (first_colon l) (length l) ≡ u → None ≡ cond u (Some (first_colon l)) None
-          → label_good l ≡ false
-      go true t g = absurd (let z : ◌≡◌ {A = ℕ} 0 1 = cc in omega arith)
-      go false t g =
-          let h : length l ≤ first_colon l = ltb-false _ _ t in
-          rw (le-ltb (first_colon l + 1) (length l) (omega arith), and-false, and-false)
+  colon_first h = rw (← e, lt-leb 1 p h) (and-false (printable l))
 
-  module _ {r : Option ℕ} (r-is : r ≡ colon_place l) {p : ℕ} (r-some : r ≡ Some p) where
-    place : p ≡ first_colon l
-    place = go (ltb (first_colon l) (length l)) (sym r-some ∙ r-is)
-      where
-        go : (u : Bool) → Some p ≡ cond u (Some (first_colon l)) None → p ≡ first_colon l
-        go true g = cc
-        go false g = absurd (let z : ◌≡◌ {A = ℕ} 0 1 = cc in omega arith)
-
-    pub colon_first : p < 1 → label_good l ≡ false
+  module _ (h : 1 ≤ p) where
+    pub colon_last : length l ≤ p + 1 → label_good l ≡ false
     unfolding label_good
-    colon_first h = rw (← place, lt-leb 1 p h) (and-false (printable l))
+    colon_last g = rw (← e, le-leb 1 p h, le-ltb (p + 1) (length l) g) (and-false (printable l))
 
-    module _ (h : 1 ≤ p) where
-      pub colon_last : length l ≤ p + 1 → label_good l ≡ false
-      unfolding label_good
-      colon_last g = rw (← place, le-leb 1 p h, le-ltb (p + 1) (length l) g) (and-false (printable l))
-
-      pub colon_inside : p + 1 < length l → {r : Option ℕ} (hash : ℕ) → r ≡ hashed (printable l) hash
-          → r ≡ hashed (label_good l) hash
-      unfolding label_good
-      colon_inside g hash f =
-          f ∙ ap (λ (t : Bool). hashed t hash)
-          (sym (rw (← place, le-leb 1 p h, lt-ltb (p + 1) (length l) g) (and-true (printable l))))
+    pub colon_inside : p + 1 < length l → {r : Option ℕ} (hash : ℕ) → r ≡ hashed (printable l) hash
+        → r ≡ hashed (label_good l) hash
+    unfolding label_good
+    colon_inside g {r} hash f =
+        f ∙ ap (λ (t : Bool). hashed t hash)
+        (sym (rw (← e, le-leb 1 p h, lt-ltb (p + 1) (length l) g) (and-true (printable l))))
 
 -- the label is the part after its entry's first two bytes
 pub label_part : (b : List ℕ) (at size first : ℕ) {r : Option ℕ} → first ≡ get_or b at 0 → first < 256

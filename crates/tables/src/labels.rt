@@ -1,8 +1,7 @@
 // Labels: bytes 33 to 126; some byte is a colon, and the first colon has a byte before and after it. The pass that
 // tests the bytes also makes the hash of the entry's type and label, by which repeats are found.
 ghost use Rattle.std.specs.Prelude.{◌≡◌, ◌+◌, ◌≤◌, ◌<◌, length, get_or, take, drop};
-ghost use Rattle.history.specs.Table.{printable, label_good};
-ghost use Rattle.tables.specs.Colons.{colon_place};
+ghost use Rattle.history.specs.Table.{printable, first_colon, label_good};
 ghost use Rattle.tables.specs.Hashes.{hash_from, hash_of, hashed};
 
 use heads::byte_at;
@@ -26,18 +25,21 @@ fn check_bytes(first: usize, label: &[u8]) -> Option<usize>
     Some(hash)
 }
 
-// The place of the first colon.
-fn first_colon(label: &[u8]) -> Option<usize>
-    ensures { result ≡ colon_place label.now }
+// The place of the first colon; the length where there is none.
+fn first_colon(label: &[u8]) -> usize
+    ensures { (result ≡ first_colon label.now) × (result ≤ length label.now) }
 {
-    label.iter().position(|byte| *byte == b':')
+    label
+        .iter()
+        .position(|byte| *byte == b':')
+        .unwrap_or(label.len())
 }
 
 fn check_label(first: usize, label: &[u8]) -> Option<usize>
     requires { first < 1024 }
     ensures { result ≡ hashed (label_good label.now) (hash_from first label.now) }
 {
-    let colon = first_colon(label)?;
+    let colon = first_colon(label);
     if colon < 1 {
         return None;
     }
