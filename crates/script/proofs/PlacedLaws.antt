@@ -1,14 +1,14 @@
--- Bytes read from hex, one more at a time.
+-- Where a byte or a word is, and bytes read from hex, one more at a time.
 use Rattle.std.proofs.Common.{◌≡◌, ℕ, Bool, true, eqb, ◌+◌, ◌-◌, ◌*◌, ◌/◌, ◌%◌, ◌<◌, ◌≤◌, List, [], ◌∷◌, ◌++◌, arith}
-use Rattle.std.proofs.Common.{sym, ap, ◌∙◌, length, take, take_all, drop, set, get_or}
+use Rattle.std.proofs.Common.{◌≢◌, sym, ap, ◌∙◌, length, take, take_all, drop, set, get_or}
 use Rattle.std.proofs.lemmas.List.{flat_map_more, take_more_set, length-take, length-set, length-drop, take-append-drop}
-use Rattle.std.proofs.lemmas.List.{drop_more, drop-drop}
+use Rattle.std.proofs.lemmas.List.{drop_more, drop-drop, get_or-drop}
 use Rattle.std.proofs.Math.Path.{ap₂}
 use Rattle.std.proofs.Math.Seq.{take-add, take-append_seam}
 use Rattle.std.proofs.lemmas.Bool.Decides.{Decides-eqb}
 use Rattle.std.proofs.lemmas.Slice.Eq.{starts_is}
-use Rattle.std.specs.List.{flat_map, starts_with}
-use Rattle.script.specs.Placed.{IsAt, IsHexAt}
+use Rattle.std.specs.List.{flat_map, starts_with, AllWithin, HoldsAt}
+use Rattle.script.specs.Placed.{IsNotIn, IsAt, IsHexAt}
 use Rattle.script.specs.Printed.{hex_digit, hex_byte}
 
 -- a line's rest from a place on, as code takes it
@@ -77,3 +77,32 @@ more_read text out from i n high low place inside room small first second before
     ∙ ap₂ (λ xs ys. xs ++ ys) (before ∙ ap (λ m. take (2 * m) (drop from text)) long) byte
     ∙ two_more text from i n place
     ∙ ap (λ m. take (2 * m) (drop from text)) (sym longer)
+
+-- ---- the first place of a byte in a text's rest
+
+module _ (text rest : List ℕ) (from byte : ℕ) (rest-is : rest ≡ rest_of text from) where
+  e : rest ≡ drop from text
+  e = rest-is ∙ take_all (length text - from) (drop from text) (omega (arith, length-drop from text))
+
+  at_place : (k : ℕ) → from ≤ k → get_or rest (k - from) 0 ≡ get_or text k 0
+  at_place k after =
+      let place : from + (k - from) ≡ k = omega arith in
+      ap (λ l. get_or l (k - from) 0) e ∙ get_or-drop from text (k - from) 0 ∙ ap (λ m. get_or text m 0) place
+
+  size : length rest ≡ length text - from
+  size = ap length e ∙ length-drop from text
+
+  pub nowhere : AllWithin (λ x. x ≢ byte) rest 0 (length rest) → IsNotIn text from (length text) byte
+  nowhere none k after before is = none (k - from) 0 (omega arith) (omega (arith, size)) (at_place k after ∙ is)
+
+  pub first_there : (i : ℕ)
+      → (i < length rest) × HoldsAt (λ x. x ≡ byte) rest i × AllWithin (λ x. x ≢ byte) rest 0 i
+      → (from ≤ from + i) × (from + i < length text) × (get_or text (from + i) 0 ≡ byte)
+      × IsNotIn text from (from + i) byte
+  first_there i found =
+      let place : from + i - from ≡ i = omega arith in (
+        omega arith,
+        omega (arith, found.0, size),
+        sym (at_place (from + i) (omega arith)) ∙ ap (λ m. get_or rest m 0) place ∙ found.1 0,
+        λ k after before is. found.2 (k - from) 0 (omega arith) (omega arith) (at_place k after ∙ is),
+      )

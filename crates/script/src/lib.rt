@@ -24,12 +24,9 @@ pub fn find(text: &[u8], from: usize, byte: u8) -> Option<usize>
     ensures { MatchOption result (IsNotIn text.now from (length text.now) byte)
         (λ i. (from ≤ i) × (i < length text.now) × (slice_index text.now i ≡ byte) × IsNotIn text.now from i byte) }
 {
-    for i in from..text.len() {
-        if text[i] == byte {
-            return Some(i);
-        }
-    }
-    None
+    let rest = text.get(from..)?;
+    let passed = rest.iter().position(|b| *b == byte)?;
+    Some(from + passed)
 }
 
 // Whether a line begins with a word of at least one byte.
