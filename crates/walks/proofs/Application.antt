@@ -86,9 +86,10 @@ module _ {ks : List Kind} {e b : List ℕ} {at p i : ℕ} (z : Fitting ks e b at
       → Fitting ks e b (at + width_of (kind_at ks i)) p (i + 1)
   pass_fitted h k = rw (add-zero p) at (step_fitted h {c = keep} refl (sym k) refl refl refl {m = 0} refl)
 
-  pub all_fitted : length ks ≤ i → i ≡ unfit 0 ks e b
+  -- where the loop ends, every object fits
+  pub all_fitted : length ks ≤ i → unfit 0 ks e b ≡ length ks
   unfolding unfit
-  all_fitted h = sym (z.same ∙ rw (kinds_end ks i h))
+  all_fitted h = z.same ∙ rw (kinds_end ks i h) (omega (arith, z.place.inside))
 
 module _ {ks : List Kind} {e b : List ℕ} {at p i : ℕ} (z : Fitting ks e b at p i) (h : i < length ks) {w : ℕ}
     {c : Change}

@@ -22,8 +22,8 @@ use Rattle.steps.specs.Steps.{span, entry_bytes, names, count_if, size_if, said_
 use Rattle.steps.specs.Steps.{Stepped, Silent, AllIdle}
 use Rattle.steps.proofs.StepLaws.{difference_step, join_step, turn_step, differ_swap, names_inside}
 use Rattle.steps.proofs.StepLaws.{idle_none, idle_turn}
-use Rattle.walks.specs.Walks.{walked, walk_bytes, ElementsLong, Asked, Surveyed}
-use Rattle.walks.proofs.Rounds.{Sizing, sized_until, one_sized, Putting, put_inside, one_put}
+use Rattle.walks.specs.Walks.{walked, walk_bytes, ElementsLong, Asked, misfit}
+use Rattle.walks.proofs.Rounds.{misfit_here, Sizing, one_sized, Putting, put_inside, one_put}
 
 -- a difference asks that both forms are an image's elements
 pub asked : {walk : Walk} {ks : List Kind} {f s : List ℕ} → walk ≡ Walk.Difference → Asked walk ks f s
@@ -95,8 +95,8 @@ module _ {ks : List Kind} {f s : List ℕ} {p q i w : ℕ} {one other : Bool} (h
     (es : other ≡ names i w (drop q s)) where
   module _ {count size : ℕ} (z : Sizing Walk.Join ks f s count size p q i) {t : Bool}
       (et : t ≡ meets (said_if one w (drop p f)) (said_if other w (drop q s))) where
-    pub join_until : t ≡ false → Surveyed ks f s (record { misfit = i; size = record { count = count; bytes = size } })
-    join_until b = sized_until z h ew (join_step z.seek.near z.seek.far eo es refl et refl refl) b
+    pub join_until : t ≡ false → i ≡ misfit Walk.Join 0 ks f s
+    join_until b = misfit_here z.seek h ew (join_step z.seek.near z.seek.far eo es refl et refl refl) b
 
     pub join_sized : t ≡ true → {kept : Bool}
         → kept ≡ is_swap (joined (said_if one w (drop p f)) (said_if other w (drop q s)))

@@ -21,8 +21,7 @@ use Rattle.octets.proofs.Writing.{Filling, along, keeps, has_room, write}
 use Rattle.steps.specs.declared.Walk.{Walk}
 use Rattle.steps.specs.Steps.{span, entry_bytes, count_if, size_if, is_swap, Step, Stepped, idle, AllIdle}
 use Rattle.steps.proofs.StepLaws.{count_swap, size_swap}
-use Rattle.walks.specs.declared.Survey.{Survey}
-use Rattle.walks.specs.Walks.{walked, Measured, Surveyed, misfit}
+use Rattle.walks.specs.Walks.{walked, Measured, misfit}
 use Rattle.walks.proofs.Bridges.{entries_cons, length_entry}
 use Rattle.walks.proofs.Runs.{run}
 use Rattle.forms.proofs.KindLaws.{kinds_next, kinds_end}
@@ -117,7 +116,7 @@ pub record Seeking (walk : Walk) (ks : List Kind) (f s : List ℕ) (p q i : ℕ)
 module _ {walk : Walk} {ks : List Kind} {f s : List ℕ} {p q i : ℕ} (z : Seeking walk ks f s p q i) where
   module _ (h : i < length ks) {w : ℕ} {r : Step} (e : w ≡ width_of (kind_at ks i))
       (t : Stepped walk i w f p s q r) where
-    misfit_here : r.agrees ≡ false → i ≡ misfit walk 0 ks f s
+    pub misfit_here : r.agrees ≡ false → i ≡ misfit walk 0 ks f s
     misfit_here b = sym (z.same ∙ misfit_next walk ks f s i p q h e t ∙ rw b)
 
     step_sought : r.agrees ≡ true → Seeking walk ks f s (p + r.first) (q + r.second) (i + 1)
@@ -197,21 +196,9 @@ module _ {walk : Walk} {ks : List Kind} {f s : List ℕ} {count size p q i : ℕ
     short = omega arith;
   }
 
--- the survey of two lists, at object i
-module _ {ks : List Kind} {f s : List ℕ} {count size p q i : ℕ} (z : Sizing Walk.Join ks f s count size p q i) where
-  -- what `measure_join` returns there
-  abbrev survey : Survey
-  survey = record { misfit = i; size = record { count = count; bytes = size } }
-
-  -- the lists do not agree on the object
-  pub sized_until : i < length ks → {w : ℕ} {r : Step} → w ≡ width_of (kind_at ks i)
-      → Stepped Walk.Join i w f p s q r → r.agrees ≡ false → Surveyed ks f s survey
-  sized_until h e t b =
-      record { found = misfit_here z.seek h e t b; inside = omega arith; measured = λ k. absurd (omega arith) }
-
-  pub all_sized : length ks ≤ i → length ks ≤ 1024 → Surveyed ks f s survey
-  all_sized h few =
-      record { found = all_sought z.seek h; inside = z.seek.inside; measured = λ _. all_measured z h few }
+  -- where the loop ends, the forms agree on every object
+  pub all_agree : length ks ≤ i → misfit walk 0 ks f s ≡ length ks
+  all_agree h = omega (arith, all_sought z.seek h, z.seek.inside)
 
 -- ---- writing the entries
 

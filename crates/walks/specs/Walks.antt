@@ -10,7 +10,6 @@ use Rattle.history.specs.Changes.{entries_bytes, entries, fits}
 use Rattle.history.specs.Image.{widths}
 use Rattle.steps.specs.declared.Walk.{Walk}
 use Rattle.steps.specs.Steps.{span, change_at, step_of, renewed}
-use Rattle.walks.specs.declared.Survey.{Survey}
 
 -- the changes of the objects from i on, and their entries
 unfoldable pub walked : Walk → ℕ → List Kind → List ℕ → List ℕ → List Change
@@ -49,12 +48,6 @@ misfit walk i (k ∷ ks) f s =
     (misfit walk (suc i) ks (drop (step_of walk i (width_of k) f s).first f)
     (drop (step_of walk i (width_of k) f s).second s))
     i
-
--- what is found of a join: that object; and the size, if there is none
-pub record Surveyed (ks : List Kind) (f s : List ℕ) (r : Survey) : Type 0 where
-  pub found : r.misfit ≡ misfit Walk.Join 0 ks f s
-  pub inside : r.misfit ≤ length ks
-  pub measured : length ks ≤ r.misfit → Measured Walk.Join ks f s r.size.count r.size.bytes
 
 -- ---- the elements b under the entries e
 

@@ -4,9 +4,9 @@
 // head; the caller has checked the forms.
 #![tactic(auto)]
 
-ghost use Rattle.std.specs.Prelude.{◌≡◌, ◌≤◌, [], length};
+ghost use Rattle.std.specs.Prelude.{◌≡◌, ◌<◌, [], length, IfOk, IfErr, IfSome, IfNone};
 ghost use Rattle.history.specs.Image.{widths};
-ghost use Rattle.walks.specs.Walks.{walk_bytes, ElementsLong, Asked, Measured, Surveyed, unfit, renewal};
+ghost use Rattle.walks.specs.Walks.{walk_bytes, ElementsLong, Asked, Measured, misfit, unfit, renewal};
 
 use steps::Walk;
 use tables::Plan;
@@ -16,14 +16,6 @@ use tables::Plan;
 pub struct Size {
     pub count: usize,
     pub bytes: usize,
-}
-
-// The lowest object on which two lists do not agree, or the count of objects if they agree on all;
-// only then is the size that of the whole join.
-#[derive(Clone, Copy)]
-pub struct Survey {
-    pub misfit: usize,
-    pub size: Size,
 }
 
 // ---- a list measured
@@ -49,9 +41,13 @@ pub fn measure_difference(plan: Plan<'_>, old: &[u8], new: &[u8]) -> Size
     Size { count, bytes }
 }
 
-// Looks for the lowest misfit of two lists and measures their join, in one pass.
-pub fn measure_join(plan: Plan<'_>, first: &[u8], second: &[u8]) -> Survey
-    ensures { Surveyed plan.entry.kinds.now first.now second.now result }
+// The size of the join of two lists; or the lowest object on which they do not agree, found in the same pass.
+pub fn measure_join(plan: Plan<'_>, first: &[u8], second: &[u8]) -> Result<Size, usize>
+    ensures agree { IfOk result (λ size. (misfit Walk.Join 0 plan.entry.kinds.now first.now second.now
+        ≡ length plan.entry.kinds.now)
+        × Measured Walk.Join plan.entry.kinds.now first.now second.now size.count size.bytes) }
+    ensures lowest { IfErr result (λ object. (object ≡ misfit Walk.Join 0 plan.entry.kinds.now first.now second.now)
+        × (object < length plan.entry.kinds.now)) }
 {
     let mut count: usize = 0;
     let mut bytes: usize = 0;
@@ -64,10 +60,7 @@ pub fn measure_join(plan: Plan<'_>, first: &[u8], second: &[u8]) -> Survey
         let one = steps::names(first, near, i, width);
         let other = steps::names(second, far, i, width);
         if !steps::meet_at(one, other, width, first, near, second, far) {
-            return Survey {
-                misfit: i,
-                size: Size { count, bytes },
-            };
+            return Err(i);
         }
         let kept = steps::join_names(one, other, width, first, near, second, far);
         count += steps::count_if(kept);
@@ -76,10 +69,7 @@ pub fn measure_join(plan: Plan<'_>, first: &[u8], second: &[u8]) -> Survey
         far += steps::size_if(other, width);
         i = steps::next(i + 1, plan.kinds.len(), first, near, second, far);
     }
-    Survey {
-        misfit: i,
-        size: Size { count, bytes },
-    }
+    Ok(Size { count, bytes })
 }
 
 // ---- a list written
@@ -91,7 +81,8 @@ pub fn put_changes(part: &mut [u8], walk: Walk, plan: Plan<'_>, first: &[u8], se
     ensures { part.new
         ≡ walk_bytes walk 0 plan.entry.kinds.now first.now second.now }
 {
-    // a walk's name and not a closure: what a closure that holds a plan does isn't inferred, so each call would spell it
+    // a walk's name and not a closure: what a closure that holds a plan does isn't inferred, so
+    // each call would spell it
     match walk {
         Walk::Difference => put_difference(part, plan, first, second),
         Walk::Join => put_joined(part, plan, first, second),
@@ -166,11 +157,12 @@ fn put_turned(part: &mut [u8], plan: Plan<'_>, entries: &[u8])
 
 // ---- a list taken into an image
 
-// The lowest object whose element is not its entry's old one, or the count of objects.
-pub fn find_unfit(plan: Plan<'_>, entries: &[u8], elements: &[u8]) -> usize
+// The lowest object whose element is not its entry's old one.
+pub fn find_unfit(plan: Plan<'_>, entries: &[u8], elements: &[u8]) -> Option<usize>
     requires elements_len { length elements.now ≡ widths plan.kinds.now }
-    ensures { (result ≡ unfit 0 plan.entry.kinds.now entries.now elements.now)
-        × (result ≤ length plan.entry.kinds.now) }
+    ensures fit { IfNone result (unfit 0 plan.entry.kinds.now entries.now elements.now ≡ length plan.entry.kinds.now) }
+    ensures lowest { IfSome result (λ object. (object ≡ unfit 0 plan.entry.kinds.now entries.now elements.now)
+        × (object < length plan.entry.kinds.now)) }
 {
     let mut at: usize = 0;
     let mut entry_at: usize = 0;
@@ -180,14 +172,14 @@ pub fn find_unfit(plan: Plan<'_>, entries: &[u8], elements: &[u8]) -> usize
         let end = at + width;
         let change = steps::change_at(entries, entry_at, i, width);
         if !steps::fits(change, octets::get_at(elements, at, width)) {
-            return i;
+            return Some(i);
         }
         entry_at += steps::span(width, change);
         let after = i + 1;
         i = steps::first_named(entries, entry_at, after, plan.kinds.len());
         at = end + forms::widths_of(&plan.kinds[after..i]);
     }
-    i
+    None
 }
 
 // Writes each entry's new element over the object's, in place.

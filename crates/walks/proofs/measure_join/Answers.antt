@@ -4,17 +4,19 @@
 use native.Mathlib.Omega.{arith}
 use borrow.Author.Rules.{rules}
 use Rattle.steps.proofs.StepLaws.{names_inside}
-use Rattle.walks.proofs.Rounds.{all_sized}
+use Rattle.walks.proofs.Rounds.{all_agree, all_measured}
 use Rattle.walks.proofs.Lists.{cursor_inside, join_until, join_sized}
 use Rattle.walks.proofs.measure_join.Goals as goal
 
 pub meet_at-requires : goal.meet_at-requires
 meet_at-requires c = (search names_inside, search names_inside, search rules)
 
-pub returns-then-not-meet_at : goal.returns-then-not-meet_at
-returns-then-not-meet_at c =
-    join_until c.loop-i-test.true c.width-width.ensures.0 c.names-one.ensures c.names-other.ensures
-    c.loop-i.invariant c.meet_at.ensures c.if-not-meet_at.true
+pub returns-then-not-meet_at-clause-lowest : goal.returns-then-not-meet_at-clause-lowest
+returns-then-not-meet_at-clause-lowest c = (
+  join_until c.loop-i-test.true c.width-width.ensures.0 c.names-one.ensures c.names-other.ensures
+      c.loop-i.invariant c.meet_at.ensures c.if-not-meet_at.true,
+  c.loop-i-test.true,
+)
 
 pub join_names-kept-requires : goal.join_names-kept-requires
 join_names-kept-requires c = (search names_inside, search names_inside, search rules)
@@ -32,5 +34,5 @@ loop-i-preserved c = join_sized c.loop-i-test.true c.width-width.ensures.0 c.nam
     c.join_names-kept.ensures c.count_if-count.ensures c.size_if-bytes.ensures c.size_if-near.ensures
     c.size_if-far.ensures c.next-i.ensures
 
-pub returns : goal.returns
-returns c = search all_sized
+pub returns-clause-agree : goal.returns-clause-agree
+returns-clause-agree c = search (all_agree, all_measured)
