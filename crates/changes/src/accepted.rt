@@ -54,7 +54,7 @@ pub fn take_applied(plan: Plan<'_>, list: &[u8], image: &mut [u8]) -> Result<(),
         ≡ value_or image.old
         (apply_under (plan_in plan.entry) image.old list.now)) }
 {
-    check_applies(plan, &image[..], list)?;
+    check_applies(plan, image, list)?;
     outputs::take_entries(image, plan, to_of(list), entries_of(list));
     Ok(())
 }
@@ -102,7 +102,7 @@ pub fn write_turned(plan: Plan<'_>, list: &[u8], out: &mut [u8]) -> Result<u32, 
         count: entry_count(list),
         bytes: entries.len(),
     };
-    outputs::write_list(Walk::Turn, plan, from, to, entries, &list[0..0], size, out)
+    outputs::write_list(Walk::Turn, plan, from, to, entries, &[], size, out)
 }
 
 // Whether the list applies to the image: 16, 17, 18.

@@ -1,12 +1,12 @@
 -- What a backlog leaves at each return: the table, the image, the room, and the lists in the copy.
 -- Assumes nothing.
-use Prim.Native.Nat.{ℕ, ◌-◌, ◌^◌, ◌≤◌, ◌<◌}
+use Prim.Native.Nat.{ℕ, ◌^◌, ◌≤◌, ◌<◌}
 use native.Mathlib.Omega.{arith}
 use mathlib.Core.Path.{◌≡◌, refl, sym, ap, ◌∙◌}
 use mathlib.Core.List.{List, [], ◌++◌}
-use lib.ListN.{length, drop, get_or}
+use lib.ListN.{length, take, drop, get_or}
+use lib.Seq.{take_at, drop_at}
 use borrow.Author.Tests.{le-leb, lt-leb}
-use borrow.Rule.Slice.PartMut.{put_mid, mid_of}
 use mir.Syntax.{w8}
 use mir.Val.{Fits}
 use Rattle.std.specs.Prelude.{Ok, Err}
@@ -19,7 +19,7 @@ use Rattle.history.specs.Image.{read_image, AcceptedImage}
 use Rattle.history.specs.Calls.{read_plan}
 use Rattle.history.specs.Backlog.{Backlog, nothing_taken, take_lists, backlog_under, backlog_call}
 use Rattle.history.proofs.ImageLaws.{Fair}
-use Rattle.history.proofs.OutputLaws.{copy_is, copy_rest, given_done}
+use Rattle.history.proofs.OutputLaws.{given_done}
 use Rattle.history.proofs.BacklogLaws.{forms_bytes, take_keeps}
 use Rattle.forms.proofs.Accepted.{image_accepted}
 use Rattle.receiver.specs.declared.Advance.{Advance}
@@ -56,26 +56,28 @@ module _ (p : Plan) (A b out : List ℕ) (s : Standing) {a : Answer} {r : Advanc
 -- ---- the copy at the front of the output
 
 module _ (A out : List ℕ) {cs : List ℕ} (c : cs ≡ A) where
-  pub copy_accepted : {p : Plan} → AcceptedImage p A
-      → AcceptedImage p (mid_of 0 (length A - 0) (put_mid 0 (length A - 0) out cs))
-  copy_accepted i = rw (copy_is A out c) i
+  copy_is : take (length A) (cs ++ drop (length A) out) ≡ A
+  copy_is = take_at cs _ (length A) (ap length c) ∙ c
+
+  copy_rest : drop (length A) (cs ++ drop (length A) out) ≡ drop (length A) out
+  copy_rest = drop_at cs _ (length A) (ap length c)
+
+  pub copy_accepted : {p : Plan} → AcceptedImage p A → AcceptedImage p (take (length A) (cs ++ drop (length A) out))
+  copy_accepted i = rw copy_is i
 
   -- it takes the lists; what follows it stays
-  pub lists_taken : (p : Plan) (b : List ℕ) (s : Standing) → length p.kinds ≤ 1024
-      → AcceptedImage p A → ((i : ℕ) → Fits w8 (get_or b i 0)) → length A ≤ length out
-      → {r : Advance} {m : List ℕ}
-      → Advances (take_lists p (mid_of 0 (length A - 0) (put_mid 0 (length A - 0) out cs)) (forms_in b) s 0) r m
-      → Advances (backlog_under p A b out s) r (put_mid 0 (length A - 0) (put_mid 0 (length A - 0) out cs) m)
+  pub lists_taken : (p : Plan) (b : List ℕ) (s : Standing) → length p.kinds ≤ 1024 → AcceptedImage p A
+      → ((i : ℕ) → Fits w8 (get_or b i 0)) → length A ≤ length out → {r : Advance} {m : List ℕ}
+      → Advances (take_lists p (take (length A) (cs ++ drop (length A) out)) (forms_in b) s 0) r m
+      → Advances (backlog_under p A b out s) r (m ++ drop (length A) (cs ++ drop (length A) out))
   unfolding backlog_under
   lists_taken p b s few i bytes room {r} {m} q =
       let fair : Fair p = record { count = few } in
       let g : Backlog = take_lists p A (forms_in b) s 0 in
-      let taken : Advances g r m = rw (copy_is A out c) at q in
-      let same : length m ≡ length A =
-      ap length taken.1 ∙ take_keeps fair (forms_in b) s 0 i (forms_bytes b λ i. (bytes i).fits) in
-      let size : length A - 0 ≡ length g.output = omega (arith, same, ap length taken.1) in
-      let rest : drop (length A - 0) (cs ++ drop (length A - 0) out) ≡ drop (length g.output) out =
-      copy_rest A out c ∙ ap (λ (n : ℕ). drop n out) size in
+      let taken : Advances g r m = rw copy_is at q in
+      let size : length A ≡ length g.output =
+      sym (take_keeps fair (forms_in b) s 0 i (forms_bytes b λ i. (bytes i).fits)) in
+      let rest = copy_rest ∙ ap (λ (n : ℕ). drop n out) size in
       rw (i.reads, le-leb (length A) (length out) room)
       (taken.0, ap (λ (l : List ℕ). m ++ l) rest ∙ ap (λ (l : List ℕ). l ++ drop (length g.output) out) taken.1)
 

@@ -33,8 +33,8 @@ pub fn backlog_under(
     if out.len() < size {
         return none_taken(short(size as u32), standing);
     }
-    octets::copy(&mut out[0..size], image);
-    take_lists(plan, lists, &mut out[0..size], standing)
+    octets::copy(&mut out[..size], image);
+    take_lists(plan, lists, &mut out[..size], standing)
 }
 
 // Nothing is taken or counted.
