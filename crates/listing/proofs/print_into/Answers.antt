@@ -12,9 +12,8 @@ returns-then-out-lt-MOST c = stays _ _ (omega arith)
 
 pub returns-then-answer-ne0 : goal.returns-then-answer-ne0
 returns-then-answer-ne0 c =
-    let line =
-    grew_front c.new-page.ensures.text c.new-page.ensures.place c.put_refusal.ensures (search rules) c.len.ensures in
-    line_printed _ _ (omega arith) c.list_into-answer.ensures.0 c.list_into-answer.ensures.1 c.if-answer-ne0.true line
+    line_printed _ _ (omega arith) c.list_into-answer.ensures.0 c.list_into-answer.ensures.1 c.if-answer-ne0.true
+    (grew_front c.new-page.ensures.text c.new-page.ensures.place c.put_refusal.ensures (search rules) c.len.ensures)
 
 pub returns : goal.returns
 returns c = search text_printed
