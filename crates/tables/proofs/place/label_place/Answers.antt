@@ -19,9 +19,6 @@ pub returns-then-object_count-index : goal.returns-then-object_count-index
 returns-then-object_count-index c =
     label_none _ _ (passed _ c.read_table.ensures c.in_ok-read_table.was) (omega arith) _ c.refused_at.ensures
 
-pub entry_place-at-requires : goal.entry_place-at-requires
-entry_place-at-requires c = (passed _ c.read_table.ensures c.in_ok-read_table.was, omega arith)
-
 pub overflow_add-offset : goal.overflow_add-offset
 overflow_add-offset c =
     omega (
