@@ -78,14 +78,14 @@ pub fn write_joined(
     }
     let one = entries_of(first);
     let other = entries_of(second);
-    let known = walks::measure_join(plan, one, other);
-    let object = known.misfit;
-    if object < plan.kinds.len() {
-        return Err(refused_at(20, object as u16));
+    match walks::measure_join(plan, one, other) {
+        Ok(size) => {
+            let from = from_of(first);
+            let to = to_of(second);
+            outputs::write_list(Walk::Join, plan, from, to, one, other, size, out)
+        }
+        Err(object) => Err(refused_at(20, object as u16)),
     }
-    let from = from_of(first);
-    let to = to_of(second);
-    outputs::write_list(Walk::Join, plan, from, to, one, other, known.size, out)
 }
 
 // Writes the list turned back. That is as long as the list, so nothing is measured;
@@ -119,9 +119,8 @@ fn check_applies(plan: Plan<'_>, image: &[u8], list: &[u8]) -> Result<(), Answer
     if position < from {
         return Err(refused(17));
     }
-    let object = walks::find_unfit(plan, entries_of(list), elements_of(image));
-    if object < plan.kinds.len() {
-        return Err(refused_at(18, object as u16));
+    match walks::find_unfit(plan, entries_of(list), elements_of(image)) {
+        Some(object) => Err(refused_at(18, object as u16)),
+        None => Ok(()),
     }
-    Ok(())
 }

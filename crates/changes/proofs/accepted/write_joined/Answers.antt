@@ -3,7 +3,7 @@
 -- Assumes nothing.
 use Rattle.history.proofs.OutputLaws.{puts_as, refused_puts}
 use native.Mathlib.Omega.{arith}
-use mathlib.Core.Path.{ap}
+use mathlib.Core.Path.{refl, ap}
 use Rattle.std.specs.Prelude.{Err}
 use Rattle.heads.proofs.Parts.{list_inside}
 use Rattle.changes.proofs.Outcomes.{join_apart, join_misfits, join_is}
@@ -24,8 +24,13 @@ entries_of-one-requires c = search list_inside
 pub entries_of-other-requires : goal.entries_of-other-requires
 entries_of-other-requires c = search list_inside
 
-pub returns-then-object-plan : goal.returns-then-object-plan
-returns-then-object-plan c = refused_puts _ _ (search join_misfits) (ap Err c.refused_at.ensures)
+pub returns-in-Err : goal.returns-in-Err
+returns-in-Err c =
+    let n = c.in-Err.ensures.lowest in
+    refused_puts _ _
+    (join_misfits _ _ _ c.args.plan.few c.requires.accepted_list c.requires.accepted_list_2 c.to_of-end.ensures
+    c.from_of-start.ensures (omega arith) c.entries_of-one.ensures c.entries_of-other.ensures n.0 n.1)
+    (ap Err c.refused_at.ensures)
 
 pub from_of-from-requires : goal.from_of-from-requires
 from_of-from-requires c = search list_inside
@@ -33,10 +38,10 @@ from_of-from-requires c = search list_inside
 pub to_of-to-requires : goal.to_of-to-requires
 to_of-to-requires c = search list_inside
 
-pub returns : goal.returns
-returns c =
+pub returns-in-Ok : goal.returns-in-Ok
+returns-in-Ok c =
     puts_as _
     (join_is _ _ _ c.args.plan.few c.requires.accepted_list c.requires.accepted_list_2 c.to_of-end.ensures
-    c.from_of-start.ensures (omega arith) c.entries_of-one.ensures c.entries_of-other.ensures
-    c.measure_join-known.ensures.found (omega arith) c.from_of-from.ensures c.to_of-to.ensures)
+    c.from_of-start.ensures (omega arith) c.entries_of-one.ensures c.entries_of-other.ensures refl
+    (omega (arith, c.in-Ok.ensures.agree.0)) c.from_of-from.ensures c.to_of-to.ensures)
     c.write_list.ensures
