@@ -5,22 +5,20 @@ use native.Mathlib.Omega.{arith}
 use mathlib.Core.Path.{◌≡◌, refl, sym, ap, ap₂, ◌∙◌}
 use mathlib.Core.Bool.{true, false}
 use mathlib.Core.List.{List, ◌++◌}
+use Rattle.std.specs.Prelude.{Ok, Err}
 use lib.Dec.{leb}
 use lib.ListN.{length, take, drop, replicate, length-append, length-drop, length-replicate}
-use lib.Seq.{sets-eq, take_all, take-append_seam, drop-append_seam}
+use lib.Seq.{sets-eq, length-take-le, take_all, take-append_seam, drop-append_seam}
 use borrow.Author.Tests.{le-leb, lt-leb}
 use Rattle.octets.specs.Octets.{number}
 use Rattle.history.specs.declared.Answer.{Answer}
-use Rattle.history.specs.Verdict.{Verdict, refused, done, refusal, told, settled, Leaves}
-use Rattle.history.proofs.OutputLaws.{succeeds, refusal_told, refusal_stays}
-use Rattle.history.proofs.CodeLaws.{zero_succeeds}
+use Rattle.history.specs.Verdict.{Verdict, refused, done, refusal, numbers, settled, given, put, Puts}
+use Rattle.history.proofs.OutputLaws.{refusal_told, given_done, check_puts}
 use Rattle.text.specs.Wrote.{Wrote}
 use Rattle.listing.specs.Listing.{read_both, table_size, read_panel, refused_line, text_of, listing_call, printed}
 use Rattle.listing.specs.Listing.{listing_of}
 use Rattle.listing.specs.Output.{Listed, in_front, listed, ListedInto}
 use Rattle.listing.proofs.Fits.{listing_fits, text_fits}
-use Rattle.listing.proofs.Printed.{line_is}
-use Rattle.listing.proofs.NameLaws.{listing_call_coded}
 
 module _ (input : List ℕ) where
   pub above : 65536 < length input → listing_call input ≡ refusal 1
@@ -41,38 +39,30 @@ module _ (input : List ℕ) where
           rw (le-leb (length input) 65536 few, le-leb 4 (length input) four, short)
 
       pub split : 4 + n ≤ length input
-          → text_of (read_both (take (4 + n - 0) input) (take (length input - (4 + n)) (drop (4 + n) input)))
+          → text_of (read_both (take (4 + n) input) (take (length input - (4 + n)) (drop (4 + n) input)))
           ≡ listing_call input
       unfolding listing_call read_panel
       split h =
           let long : leb (table_size input) (length input) ≡ true =
           le-leb (table_size input) (length input) (omega arith) in
-          let size : 4 + n - 0 ≡ table_size input = omega arith in
-          let rest : take (length input - (4 + n)) (drop (4 + n) input) ≡ drop (table_size input) input =
-          take_all (length input - (4 + n)) (drop (4 + n) input) (omega (arith, length-drop (4 + n) input))
-          ∙ ap (λ (m : ℕ). drop (4 + m) input) n-is in
+          let rest : take (length input - (4 + n)) (drop (4 + n) input) ≡ drop (4 + n) input =
+          take_all (length input - (4 + n)) (drop (4 + n) input) (omega (arith, length-drop (4 + n) input)) in
           let panel : read_panel input ≡ read_both (take (table_size input) input) (drop (table_size input) input) =
           rw (le-leb (length input) 65536 few, le-leb 4 (length input) four, long) in
-          ap₂ (λ (t a : List ℕ). text_of (read_both t a)) (ap (λ (m : ℕ). take m input) size) rest
+          rw rest (ap (λ (m : ℕ). text_of (read_both (take (4 + m) input) (drop (4 + m) input))) n-is)
           ∙ sym (ap text_of panel)
 
 -- ---- an output that every listing fits in
 
-told_roomy : (v : Verdict (List ℕ)) (out : List ℕ) → ((text : List ℕ) → v ≡ done text → length text ≤ length out)
-    → ((settled v out).answer.code ≡ 0 → ⊥) → (settled v out).answer ≡ told v
-unfolding told
-told_roomy (refused r) out fits n = (refusal_told r out refl).0
-told_roomy (done text) out fits n =
-    absurd (n (ap (λ (a : Answer). a.code) (succeeds out refl (fits text refl)).answer))
-
 -- there a refusal comes from the input, never from a short output
-pub refusal_is : (input out : List ℕ) → 65536 ≤ length out → {r : Answer}
-    → r ≡ (settled (listing_call input) out).answer
-    → (r.code ≡ 0 → ⊥) → r ≡ told (listing_call input)
-refusal_is input out room e n =
-    let fits : (text : List ℕ) → listing_call input ≡ done text → length text ≤ length out =
-    λ text q. omega (arith, text_fits input q) in
-    e ∙ told_roomy (listing_call input) out fits (λ z. n (ap (λ (a : Answer). a.code) e ∙ z))
+roomy : (v : Verdict (List ℕ)) (out : List ℕ) → ((text : List ℕ) → v ≡ done text → length text ≤ length out)
+    → put v out ≡ given length v
+unfolding put
+roomy (refused r) out fits = refl
+roomy (done text) out fits = rw (le-leb (length text) (length out) (fits text refl)) refl
+
+room_puts : (input out : List ℕ) → 65536 ≤ length out → put (listing_call input) out ≡ given length (listing_call input)
+room_puts input out room = roomy (listing_call input) out (λ text e. omega (arith, text_fits input e))
 
 -- what success leaves in the output
 settled_front : {v : Verdict (List ℕ)} {text : List ℕ} (out : List ℕ) → v ≡ done text → length text ≤ length out
@@ -80,41 +70,41 @@ settled_front : {v : Verdict (List ℕ)} {text : List ℕ} (out : List ℕ) → 
 unfolding settled
 settled_front {text = text} out e h = rw (e, le-leb (length text) (length out) h)
 
-record Front (input out : List ℕ) (r : Answer) (m : List ℕ) : Type 0 where
+record Front (input out : List ℕ) (n : ℕ) (m : List ℕ) : Type 0 where
   text : List ℕ
   is : listing_call input ≡ done text
-  size : r.length ≡ length text
-  output : m ≡ text ++ drop r.length out
+  size : n ≡ length text
+  output : m ≡ text ++ drop n out
 
-front : (input out : List ℕ) {r : Answer} {m : List ℕ} → r ≡ (settled (listing_call input) out).answer
-    → m ≡ (settled (listing_call input) out).output → r.code ≡ 0 → Front input out r m
-front input out {r} e f z =
-    let q =
-    zero_succeeds (listing_call input) out (listing_call_coded input) (ap (λ (a : Answer). a.code) (sym e) ∙ z) in
-    let size : r.length ≡ length q.0 = ap (λ (a : Answer). a.length) (e ∙ (succeeds out q.1 q.2).answer) in
-    record {
-      text = q.0;
-      is = q.1;
-      size = size;
-      output = f ∙ settled_front out q.1 q.2 ∙ ap (λ (n : ℕ). q.0 ++ drop n out) (sym size);
-    }
+-- once it is put into an output with room
+module _ (input out : List ℕ) (room : 65536 ≤ length out) {m : List ℕ} where
+  -- a refusal is that of any output
+  pub refusal_puts : {a : Answer} → Puts (listing_call input) out (Err a) m → (other : List ℕ)
+      → Puts (listing_call input) other (Err a) other
+  refusal_puts left other = check_puts (listing_call input) length other (left.0 ∙ room_puts input out room)
 
--- after success: the text in the buffer
-module _ (input buffer : List ℕ) {r : Answer} {m : List ℕ} (left : Leaves (listing_call input) buffer r m)
-    (z : r.code ≡ 0) where
-  pub text_is : done (take (r.length - 0) m) ≡ listing_call input
-  text_is =
-      let w = front input buffer left.0 left.1 z in
-      let all : r.length - 0 ≡ length w.text = omega (arith, w.size) in
-      ap done (ap₂ take all w.output ∙ take-append_seam w.text (drop r.length buffer)) ∙ sym w.is
+  module _ {n : ℕ} (left : Puts (listing_call input) out (Ok n) m) where
+    front : Front input out n m
+    front =
+        let q = given_done (listing_call input) length (left.0 ∙ room_puts input out room) in
+        record {
+          text = q.0;
+          is = q.1;
+          size = sym q.2;
+          output =
+              left.1 ∙ settled_front out q.1 (omega (arith, text_fits input q.1))
+              ∙ ap (λ (n : ℕ). q.0 ++ drop n out) q.2;
+        }
 
-  pub text_small : length (take (r.length - 0) m) ≤ 65536
-  text_small = text_fits input (sym text_is)
+    -- the text in the output
+    pub text_is : done (take n m) ≡ listing_call input
+    text_is = ap done (ap₂ take front.size front.output ∙ take-append_seam front.text (drop n out)) ∙ sym front.is
 
-  pub text_inside : r.length ≤ length m
-  text_inside =
-      let w = front input buffer left.0 left.1 z in
-      omega (arith, w.size, ap length w.output, length-append w.text (drop r.length buffer))
+    pub text_inside : n ≤ length m
+    text_inside = omega (arith, front.size, ap length front.output, length-append front.text (drop n out))
+
+    pub text_sized : n ≡ length (take n m)
+    text_sized = sym (length-take-le n m text_inside)
 
 -- the buffer of zeros is long enough
 pub zeros_room : 65536 ≤ length {A = ℕ} (replicate 65536 0)
@@ -145,6 +135,15 @@ stays input out h =
     let e = sym (listed_short input out h) in
     record { size = ap (λ (l : Listed). l.size) e; output = ap (λ (l : Listed). l.output) e; inside = omega arith }
 
+-- the line of a refusal has its numbers, and a refusal writes nothing
+refused_by : (v : Verdict (List ℕ)) (out : List ℕ) {a : Answer} → Err a ≡ given length v
+    → (printed v ≡ refused_line a.code a.object a.bit) × ((settled v out).output ≡ out)
+unfolding printed
+refused_by (refused r) out {a} e =
+    let same : numbers r 0 ≡ a = cc in
+    (ap (λ (a : Answer). refused_line a.code a.object a.bit) same, (refusal_told r out refl).1)
+refused_by (done b) out e = absurd (let z : ◌≡◌ {A = ℕ} 0 1 = cc in omega arith)
+
 module _ {input out₀ out : List ℕ} {r : ℕ} (h : 65536 ≤ length out₀) where
   in_front_lem : r ≡ length (listing_of input) → out ≡ listing_of input ++ drop r out₀ → ListedInto input out₀ out r
   in_front_lem size output =
@@ -156,29 +155,23 @@ module _ {input out₀ out : List ℕ} {r : ℕ} (h : 65536 ≤ length out₀) w
         inside = omega (arith, ap length output, length-append (listing_of input) (drop r out₀));
       }
 
-module _ (input out₀ : List ℕ) {m : List ℕ} (room : 65536 ≤ length out₀) {a : Answer}
-    (a-is : a ≡ (settled (listing_call input) out₀).answer)
-    (m-is : m ≡ (settled (listing_call input) out₀).output) where
-  pub text_printed : a.code ≡ 0 → ListedInto input out₀ m a.length
+module _ (input out₀ : List ℕ) {m : List ℕ} (room : 65536 ≤ length out₀) where
+  pub text_printed : {n : ℕ} → Puts (listing_call input) out₀ (Ok n) m → ListedInto input out₀ m n
   unfolding listing_of printed
-  text_printed z =
-      let w = front input out₀ a-is m-is z in
+  text_printed {n} left =
+      let w = front input out₀ room left in
       let text : w.text ≡ listing_of input = sym (ap printed w.is) in
-      in_front_lem room (w.size ∙ ap length text) (w.output ∙ ap (λ (b : List ℕ). b ++ drop a.length out₀) text)
+      in_front_lem room (w.size ∙ ap length text) (w.output ∙ ap (λ (b : List ℕ). b ++ drop n out₀) text)
 
   -- a refusal has left the output as it was, and its line is written
-  pub line_printed : (a.code ≡ 0 → ⊥) → {n : List ℕ} {q : ℕ}
+  pub line_printed : {a : Answer} → Puts (listing_call input) out₀ (Err a) m → {n : List ℕ} {q : ℕ}
       → Wrote m 0 (refused_line a.code a.object a.bit) n q → ListedInto input out₀ n q
   unfolding listing_of
-  line_printed bad {n} {q} w =
+  line_printed {a} left {n} {q} w =
       let line : List ℕ = refused_line a.code a.object a.bit in
-      let told_is = refusal_is input out₀ room a-is bad in
-      let code_is : (told (listing_call input)).code ≡ 0 → ⊥ = λ z. bad (ap (λ (a : Answer). a.code) told_is ∙ z) in
-      let text : listing_of input ≡ line =
-      line_is (listing_call input) code_is
-      ∙ ap (λ (a : Answer). refused_line a.code a.object a.bit) (sym told_is) in
-      let same : m ≡ out₀ =
-      m-is ∙ refusal_stays (listing_call input) out₀ (λ z. bad (ap (λ (a : Answer). a.code) a-is ∙ z)) in
+      let r = refused_by (listing_call input) out₀ (left.0 ∙ room_puts input out₀ room) in
+      let text : listing_of input ≡ line = r.0 in
+      let same : m ≡ out₀ = left.1 ∙ r.1 in
       let zero : 0 + length line ≡ length line = omega arith in
       let fits : 0 + length line ≤ length m = omega (arith, listing_fits input, ap length text, ap length same) in
       let output : n ≡ line ++ drop q m =

@@ -1,37 +1,29 @@
 -- What an accepted table and image are read as, where the parts are in their bytes, and the
 -- answer if either is refused.
 -- Assumes nothing.
-use Prim.Native.Nat.{ℕ, ◌+◌, ◌-◌, ◌≤◌, ◌<◌}
-use Rattle.kinds.specs.declared.Kind.{Kind}
+use Prim.Native.Nat.{ℕ, ◌+◌, ◌≤◌}
 use native.Mathlib.Omega.{arith}
 use mathlib.Core.Path.{◌≡◌, refl, sym, ap, ◌∙◌}
 use mathlib.Core.List.{List, ◌++◌}
-use lib.ListN.{length, take, drop, get_or, length-map}
+use Rattle.std.specs.Prelude.{Result, Ok, Err}
+use lib.ListN.{length, drop, get_or, length-map}
 use lib.Seq.{sets-eq}
 use mir.Syntax.{w8}
 use mir.Val.{Fits}
-use Rattle.octets.specs.Octets.{bytes}
 use Rattle.elements.specs.Elements.{kind_of}
 use Rattle.history.specs.declared.Answer.{Answer}
-use Rattle.history.specs.Verdict.{Verdict, refused, done, then, unnamed, told, Leaves}
-use Rattle.history.specs.Form.{form_bytes}
-use Rattle.history.specs.Table.{Object, Table, Plan, objects_bytes, table_bytes, read_table, plan_of, LegalTable}
+use Rattle.history.specs.Verdict.{Verdict, refused, done, then, told, given, checked, Puts}
+use Rattle.history.specs.Table.{Object, Table, Plan, objects_bytes, read_table, plan_of}
 use Rattle.history.specs.Image.{Image, words_bytes, read_image, Every, admits}
 use Rattle.history.specs.Calls.{read_plan, image_call}
 use Rattle.history.proofs.VerdictLaws.{used}
-use Rattle.history.proofs.TableLaws.{table_is, plan_fair}
-use Rattle.history.proofs.CodeLaws.{image_coded, zero_told}
-use Rattle.history.proofs.OutputLaws.{leaves_as, written_leaves}
+use Rattle.history.proofs.TableLaws.{table_is}
+use Rattle.history.proofs.OutputLaws.{given_done, puts_as, refused_puts, written_puts}
 use Rattle.heads.specs.Heads.{objects_place, image_head, position_in, elements_in}
-use Rattle.heads.proofs.Places.{objects_place_lem}
-use Rattle.heads.proofs.Chains.{table_held, image_held}
-use Rattle.heads.proofs.Parts.{written_objects, position_in_lem, elements_in_lem}
-use Rattle.tables.specs.Plans.{plan_with}
-use Rattle.tables.specs.declared.answers.Outline.{Outline}
+use Rattle.heads.proofs.Parts.{written_objects, position_in_lem, elements_in_lem, image_inside}
 use Rattle.tables.proofs.AnswerLaws.{told_then}
-use Rattle.forms.proofs.UnderPlan.{table_refused, image_starts, image_under}
+use Rattle.forms.proofs.UnderPlan.{table_refused, under_plan, image_starts}
 use Rattle.forms.proofs.Accepted.{image_accepted}
-use Rattle.forms.proofs.KindLaws.{length_kinds}
 use Rattle.text.specs.Grew.{Grew}
 use Rattle.text.specs.Wrote.{Wrote}
 use Rattle.text.specs.declared.Page.{Page}
@@ -65,49 +57,43 @@ both_told t a =
     ap told (image_in t a) ∙ told_then (read_both t a) (λ (p : Panel). p.image)
     ∙ sym (told_then (read_both t a) (λ (p : Panel). panel_text p.table p.image))
 
-pub table_told : {b : List ℕ} {r : Outline} → Outlined b r → (r.answer.code ≡ 0 → ⊥) → (a : List ℕ)
-    → r.answer ≡ told (text_of (read_both b a))
-table_told {b} o n a = table_refused o n (image_starts b a) ∙ both_told b a
+-- what refuses the image's check refuses the whole, and leaves the output as it was
+image_puts : (b a out : List ℕ) {x : Answer} → Err x ≡ checked (image_call b a)
+    → Puts (text_of (read_both b a)) out (Err x) out
+image_puts b a out {x} e = go (read_both b a) (e ∙ ap checked (image_in b a))
+  where
+    go : (v : Verdict Panel) → Err x ≡ checked (then v (λ p. done p.image)) → Puts (text_of v) out (Err x) out
+    go (refused r) e = refused_puts _ out refl cc
+    go (done p) e = absurd (let z : ◌≡◌ {A = ℕ} 0 1 = cc in omega arith)
+
+pub table_puts : (b a out : List ℕ) {x : Answer} → Err x ≡ given (λ (p : Plan). p) (read_plan b)
+    → Puts (text_of (read_both b a)) out (Err x) out
+table_puts b a out e = image_puts b a out (table_refused (image_starts b a) (λ i. tt) e)
+
+-- o is what is read of the table, and p the plan that is lent from there
+module _ (b : List ℕ) {o p : Plan} (o-is : Ok o ≡ given (λ (p : Plan). p) (read_plan b)) (p-is : p ≡ o) where
+  pub refused_image : (a out : List ℕ) {x : Answer} → Err x ≡ checked (read_image p a)
+      → Puts (text_of (read_both b a)) out (Err x) out
+  refused_image a out e = image_puts b a out (e ∙ ap checked (under_plan (image_starts b a) o-is p-is))
+
+  pub ready : {a : List ℕ} → Ok tt ≡ checked (read_image p a) → Ready b a p
+  ready e =
+      let q = given_done (read_plan b) (λ (p : Plan). p) o-is in
+      record { plan = q.1 ∙ ap done (q.2 ∙ sym p-is); image = e }
 
 -- ---- an accepted table and image
 
--- the table's X and Y and the image's position are inside, and the objects are few
-pub version_inside : {b a : List ℕ} {ns : List Kind} → Ready b a ns → 6 < length b
-unfolding read_plan
-version_inside {b} r = omega (arith, objects_place_lem, table_held b (used (read_table b) _ r.plan).1)
-
-pub position_inside : {b a : List ℕ} {ns : List Kind} → Ready b a ns → image_head a ≤ length a
-position_inside {a = a} {ns} r =
-    let p = plan_with r.x r.y ns in
-    image_held p a (zero_told (read_image p a) (image_coded p a) r.image).1
-
-pub few : {b a : List ℕ} {ns : List Kind} → Ready b a ns → length ns ≤ 1024
-few {b} {ns = ns} r = omega (arith, (plan_fair b r.plan).count, length_kinds ns)
-
 -- the table and the image, and their parts in the bytes
-pub record Read (b a : List ℕ) (ns : List Kind) : Type 0 where
+pub record Read (b a : List ℕ) (p : Plan) : Type 0 where
   pub table : Table
   pub image : Image
   pub reads : read_both b a ≡ done (record { table = table; image = image })
-  pub legal : LegalTable table
-  pub kinds : (plan_of table).kinds ≡ ns
-  pub count : length table.objects ≡ length ns
-  pub x : get_or b 5 0 ≡ table.x
-  pub y : get_or b 6 0 ≡ table.y
+  pub plan : plan_of table ≡ p
+  pub count : length table.objects ≡ length p.kinds
   pub position : position_in a ≡ image.position
   pub entries : drop objects_place b ≡ objects_bytes table.objects
-  pub elements : elements_in a ≡ words_bytes ns image.words
-  pub each : Every admits ns image.words
-
--- X and Y of a written table
-module _ (t : Table) where
-  table_x : get_or (table_bytes t) 5 0 ≡ t.x
-  unfolding table_bytes form_bytes bytes
-  table_x = refl
-
-  table_y : get_or (table_bytes t) 6 0 ≡ t.y
-  unfolding table_bytes form_bytes bytes
-  table_y = refl
+  pub elements : elements_in a ≡ words_bytes p.kinds image.words
+  pub each : Every admits p.kinds image.words
 
 both_read : (b a : List ℕ) {t : Table} {p : Plan} {i : Image} → read_table b ≡ done t → plan_of t ≡ p
     → read_image p a ≡ done i
@@ -123,79 +109,58 @@ plan_length t = sym (length-map t.objects (λ (o : Object). kind_of t.x o.type))
 abbrev pub Held : List ℕ → Type 0
 Held b = (i : ℕ) → Fits w8 (get_or b i 0)
 
-pub read_as : {b a : List ℕ} {ns : List Kind} → Ready b a ns → Held b → Held a → Read b a ns
+pub read_as : {b a : List ℕ} {p : Plan} → Ready b a p → Held b → Held a → Read b a p
 unfolding read_plan
-read_as {b} {a} {ns} r hb ha =
+read_as {b} {a} {p} r hb ha =
     let t = used (read_table b) _ r.plan in
-    let plan : plan_of t.0 ≡ plan_with r.x r.y ns = cc t.2 in
-    let tab = table_is b t.1 in
-    let b-is = tab.same (λ i. (hb i).fits) in
-    let i = image_accepted (plan_with r.x r.y ns) a ha r.image refl in
-    let kinds : (plan_of t.0).kinds ≡ ns = ap (λ (p : Plan). p.kinds) plan in
+    let plan : plan_of t.0 ≡ p = cc t.2 in
+    let b-is = (table_is b t.1).same (λ i. (hb i).fits) in
+    let i = image_accepted p a ha r.image in
     record {
       table = t.0;
       image = i.image;
       reads = both_read b a t.1 plan i.reads;
-      legal = tab.legal;
-      kinds = kinds;
-      count = plan_length t.0 ∙ ap length kinds ∙ length_kinds ns;
-      x = ap (λ (c : List ℕ). get_or c 5 0) b-is ∙ table_x t.0;
-      y = ap (λ (c : List ℕ). get_or c 6 0) b-is ∙ table_y t.0;
+      plan = plan;
+      count = plan_length t.0 ∙ ap (λ (p : Plan). length p.kinds) plan;
       position = position_in_lem i;
       entries = ap (drop objects_place) b-is ∙ written_objects t.0;
       elements = elements_in_lem i;
       each = i.legal.words;
     }
 
--- ---- from the table's outline and the image's check
-
-module _ {b : List ℕ} {r : Outline} (o : Outlined b r) (z : r.answer.code ≡ 0) where
-  -- the layout numbers as the code lends them
-  abbrev numbers : List ℕ
-  numbers = take (r.count - 0) r.kinds
-
-  plan_known : read_plan b ≡ done (plan_with r.x r.y numbers)
-  plan_known = let e : r.count - 0 ≡ r.count = omega arith in rw e (o.plan z)
-
-  module _ (a : List ℕ) {c : Answer} (f : c ≡ told (read_image (plan_with r.x r.y numbers) a)) where
-    pub image_told : c ≡ told (text_of (read_both b a))
-    image_told =
-        let e : r.count - 0 ≡ r.count = omega arith in
-        f ∙ ap told (image_under b a o z (ap (λ (n : ℕ). take n r.kinds) e)) ∙ both_told b a
-
-    pub ready : c.code ≡ 0 → Ready b a numbers
-    ready e = record { x = r.x; y = r.y; plan = plan_known; image = ap (λ (c : Answer). c.code) (sym f) ∙ e }
+pub position_inside : {b a : List ℕ} {p : Plan} → Ready b a p → Held a → image_head a ≤ length a
+position_inside {a = a} {p = p} r ha = image_inside (image_accepted p a ha r.image)
 
 -- ---- its text
 
-text_in : {b a : List ℕ} {ns : List Kind} (r : Read b a ns)
+text_in : {b a : List ℕ} {p : Plan} → Read b a p
     → text_of (read_both b a)
-    ≡ done (first_line (get_or b 5 0) (get_or b 6 0) (position_in a) (length ns) ++ lines_in (read_both b a))
-unfolding lines_in
-text_in {b} {a} {ns} r =
+    ≡ done (first_line p.x p.y (position_in a) (length p.kinds) ++ lines_in (read_both b a))
+unfolding lines_in plan_of
+text_in {b} {a} r =
     ap text_of r.reads
     ∙ (λ j. done
-    (first_line (sym r.x j) (sym r.y j) (sym r.position j) (r.count j) ++ lines_in (sym r.reads j)))
+    (first_line (r.plan j).x (r.plan j).y (sym r.position j) (r.count j) ++ lines_in (sym r.reads j)))
 
 -- a text that is written from the front on and fits
-wrote_leaves : {v : Verdict (List ℕ)} {text l m : List ℕ} {q : ℕ} → v ≡ done text → Wrote l 0 text m q → q ≤ length l
-    → {r : Answer} → r ≡ unnamed 0 q → Leaves v l r m
-wrote_leaves {text = text} {l} e w h q =
+wrote_puts : {v : Verdict (List ℕ)} {text l m : List ℕ} {q : ℕ} → v ≡ done text → Wrote l 0 text m q → q ≤ length l
+    → {r : Result ℕ Answer} → r ≡ Ok q → Puts v l r m
+wrote_puts {text = text} {l} e w h q =
     let zero : 0 + length text ≡ length text = omega arith in
     let long : length text ≡ _ = sym (w.next ∙ zero) in
     let here = w.text ∙ sets-eq text l 0 (omega (arith, w.next)) ∙ ap (λ (n : ℕ). text ++ drop n l) (zero ∙ long) in
-    leaves_as l (sym e) (written_leaves text l long h q here)
+    puts_as l (sym e) (written_puts text l long h q here)
 
 -- the first line and those below it are all that is written, into a page that begins at the buffer's front
-pub lines_leave : {b a : List ℕ} {ns : List Kind} → Ready b a ns → Held b → Held a → {position : ℕ} → position ≡ position_in a
-    → {l n : List ℕ} {p q s : Page} → 65536 ≤ length l → p.out.now ≡ l → p.at ≡ 0
-    → Grew p (first_line (get_or b 5 0) (get_or b 6 0) position (length ns)) q → Grew q (lines_in (read_both b a)) s
-    → n ≡ s.out.now → {size : ℕ} → size ≡ s.at → {r : Answer} → r ≡ unnamed 0 size
-    → Leaves (text_of (read_both b a)) l r n
-lines_leave {b} {a} {ns} ready hb ha {position} e {l} h front begins w v left size r-is =
+pub lines_put : {b a : List ℕ} {p : Plan} → Ready b a p → Held b → Held a → {position : ℕ} → position ≡ position_in a
+    → {l n : List ℕ} {q s t : Page} → 65536 ≤ length l → q.out.now ≡ l → q.at ≡ 0
+    → Grew q (first_line p.x p.y position (length p.kinds)) s → Grew s (lines_in (read_both b a)) t
+    → n ≡ t.out.now → {size : ℕ} → size ≡ t.at
+    → Puts (text_of (read_both b a)) l (Ok size) n
+lines_put {b} {a} {p} ready hb ha {position} e {l} h front begins w v left size =
     let text =
     text_in (read_as ready hb ha)
     ∙ ap (λ (k : ℕ). done
-    (first_line (get_or b 5 0) (get_or b 6 0) k (length ns) ++ lines_in (read_both b a))) (sym e) in
-    let end = lines_end b a (get_or b 5 0) (get_or b 6 0) position (length ns) begins w v in
-    wrote_leaves text (grew_front front begins (grew_then w v) left size) (omega (arith, end)) r-is
+    (first_line p.x p.y k (length p.kinds) ++ lines_in (read_both b a))) (sym e) in
+    let end = lines_end b a p.x p.y position (length p.kinds) begins w v in
+    wrote_puts text (grew_front front begins (grew_then w v) left size) (omega (arith, end)) refl

@@ -13,17 +13,17 @@ use Rattle.octets.specs.Octets.{bytes}
 use Rattle.octets.proofs.NumberLaws.{length_bytes, take_bytes, drop_bytes}
 use Rattle.kinds.specs.Kinds.{width_of}
 use Rattle.kinds.specs.declared.Kind.{Kind}
-use Rattle.history.specs.Table.{Object, objects_bytes, kind_at}
+use Rattle.history.specs.Table.{Object, Plan, objects_bytes, kind_at}
 use Rattle.history.specs.Image.{words_bytes, Every, and, admits}
 use Rattle.heads.specs.Heads.{objects_place, elements_in}
-use Rattle.forms.proofs.KindLaws.{length_kinds, kinds_next, kinds_end}
+use Rattle.forms.proofs.KindLaws.{kinds_next, kinds_end}
 use Rattle.text.specs.Grew.{Grew}
 use Rattle.text.specs.declared.Page.{Page}
 use Rattle.text.proofs.Laws.{grew_then}
 use Rattle.listing.specs.Listing.{read_both, object_line, lines_of}
 use Rattle.listing.specs.Walk.{line_size, Ready, lines_in}
 use Rattle.listing.proofs.LineLaws.{object_length}
-use Rattle.listing.proofs.PanelLaws.{Held, few, Read, read_as}
+use Rattle.listing.proofs.PanelLaws.{Held, Read, read_as}
 
 -- the objects left: their entries are in the table from one place on, their elements among the image's from another
 pub record Ahead (b a : List ℕ) (ks : List Kind) (os : List Object) (ws : List ℕ) (entry place : ℕ) : Type 0 where
@@ -99,11 +99,11 @@ two_each (o ∷ os) = omega (arith, two_each os, length-append o.label (objects_
 
 -- ---- the loop
 
-lines_in_lem : {b a : List ℕ} {ns : List Kind} (r : Read b a ns)
-    → lines_in (read_both b a) ≡ lines_of 0 r.table.objects ns r.image.words
+lines_in_lem : {b a : List ℕ} {p : Plan} (r : Read b a p)
+    → lines_in (read_both b a) ≡ lines_of 0 r.table.objects p.kinds r.image.words
 unfolding lines_in
 lines_in_lem r =
-    ap lines_in r.reads ∙ ap (λ (ks : List Kind). lines_of 0 r.table.objects ks r.image.words) r.kinds
+    ap lines_in r.reads ∙ ap (λ (p : Plan). lines_of 0 r.table.objects p.kinds r.image.words) r.plan
 
 -- the lines so far are written, and the objects from i on are ahead
 pub record Walked (b a : List ℕ) (ns : List Kind) (elements : List ℕ) (page₀ page : Page) (entry place i : ℕ) : Type 0 where
@@ -111,24 +111,22 @@ pub record Walked (b a : List ℕ) (ns : List Kind) (elements : List ℕ) (page�
   pub objects : List Object
   pub words : List ℕ
   pub bound : i ≤ length ns
-  pub few : length ns ≤ 1024
   pub space : page₀.at + length (lines_in (read_both b a)) ≤ length page₀.out.now
   pub so_far : Grew page₀ written page
   pub whole : lines_in (read_both b a) ≡ written ++ lines_of i objects (drop i ns) words
   pub ahead : Ahead b elements (drop i ns) objects words entry place
 
-pub begin : {b a : List ℕ} {ns : List Kind} → Ready b a ns → Held b → Held a → (elements : List ℕ) → elements ≡ elements_in a
+pub begin : {b a : List ℕ} {p : Plan} → Ready b a p → Held b → Held a → (elements : List ℕ) → elements ≡ elements_in a
     → (entry : ℕ) → entry ≡ objects_place
     → (page : Page) → page.at + length (lines_in (read_both b a)) ≤ length page.out.now
-    → Walked b a ns elements page page entry 0 0
-begin {b} {a} {ns} ready hb ha elements e entry f page h =
+    → Walked b a p.kinds elements page page entry 0 0
+begin {b} {a} {p} ready hb ha elements e entry f page h =
     let r = read_as ready hb ha in
     record {
       written = [];
       objects = r.table.objects;
       words = r.image.words;
       bound = omega arith;
-      few = few ready;
       space = h;
       so_far = record { same = refl; size = refl; wrote = record { next = omega arith; text = refl } };
       whole = lines_in_lem r;
@@ -137,7 +135,7 @@ begin {b} {a} {ns} ready hb ha elements e entry f page h =
             entries = ap (λ (n : ℕ). drop n b) f ∙ r.entries;
             elements = e ∙ r.elements;
             each = r.each;
-            count = r.count ∙ sym (length_kinds ns);
+            count = r.count;
             inside = omega arith;
           };
     }
@@ -164,7 +162,6 @@ module _ {b a : List ℕ} {ns : List Kind} {elements : List ℕ} {page₀ page :
         length-drop entry b,
         l.ahead.count,
         length-drop i ns,
-        length_kinds ns,
       )
 
   module _ (h : i < length ns) where
@@ -177,11 +174,8 @@ module _ {b a : List ℕ} {ns : List Kind} {elements : List ℕ} {page₀ page :
     pub label_inside : {end : ℕ} → end ≡ entry + 2 + get_or b (entry + 1) 0 → end ≤ length b
     label_inside e = omega (arith, here.entry_inside)
 
-    -- the object's kind and its element's width
-    module _ {kind : Kind} (kind_is_lem : kind ≡ kind_at ns i) {w : ℕ} (w-is : w ≡ width_of kind) where
-      width_is : w ≡ width_of (kind_at ns i)
-      width_is = w-is ∙ ap width_of kind_is_lem
-
+    -- the width of the object's element
+    module _ {w : ℕ} (width_is : w ≡ width_of (kind_at ns i)) where
       pub element_inside : place + w ≤ length elements
       element_inside = omega (arith, here.element_inside, width_is)
 
@@ -225,7 +219,6 @@ module _ {b a : List ℕ} {ns : List Kind} {elements : List ℕ} {page₀ page :
           objects = here.objects;
           words = here.words;
           bound = omega arith;
-          few = l.few;
           space = l.space;
           so_far = grew_then l.so_far v;
           whole = lines_are ∙ sym (append_assoc l.written (object_line i (get_or b entry 0) label element) later);

@@ -1,15 +1,13 @@
 -- For the contracts of the writers of lines and of the walk over an accepted table and image.
 -- The meaning is in `Listing`.
-use Rattle.std.specs.Prelude.{ℕ, ◌+◌, ◌*◌, ◌≤◌, ◌≡◌, List, [], ◌∷◌, ◌++◌, length}
-use Rattle.kinds.specs.declared.Kind.{Kind}
+use Rattle.std.specs.Prelude.{ℕ, ◌+◌, ◌*◌, ◌≤◌, ◌≡◌, List, [], ◌∷◌, ◌++◌, length, Ok}
 use Rattle.text.specs.Decimal.{decimal}
 use Rattle.text.specs.Grew.{Grew}
 use Rattle.text.specs.declared.Page.{Page}
-use Rattle.history.specs.Verdict.{Verdict, refused, done, told}
-use Rattle.history.specs.Table.{plan_of}
+use Rattle.history.specs.Verdict.{Verdict, refused, done, checked}
+use Rattle.history.specs.Table.{Plan, plan_of}
 use Rattle.history.specs.Image.{read_image}
 use Rattle.history.specs.Calls.{read_plan}
-use Rattle.tables.specs.Plans.{plan_with}
 use Rattle.listing.specs.Listing.{Panel, lines_of}
 
 -- a number and the byte after it were written
@@ -23,12 +21,10 @@ abbrev pub line_size : ℕ → ℕ → List ℕ → List ℕ → ℕ
 line_size i type label element =
     (length (decimal i) + 1) + ((length (decimal type) + 1) + (length label + (1 + (2 * length element + 1))))
 
--- the table and the image are accepted, and these are the layout numbers of the table's objects
-pub record Ready (b a : List ℕ) (ns : List Kind) : Type 0 where
-  pub x : ℕ
-  pub y : ℕ
-  pub plan : read_plan b ≡ done (plan_with x y ns)
-  pub image : (told (read_image (plan_with x y ns) a)).code ≡ 0
+-- the table and the image are accepted, and the image is read by this plan
+pub record Ready (b a : List ℕ) (p : Plan) : Type 0 where
+  pub plan : read_plan b ≡ done p
+  pub image : Ok tt ≡ checked (read_image p a)
 
 -- the lines below the first
 unfoldable pub lines_in : Verdict Panel → List ℕ

@@ -6,33 +6,36 @@ mod both;
 mod lines;
 
 ghost use Rattle.std.specs.Prelude.{◌≤◌, length};
-ghost use Rattle.history.specs.Verdict.{done, Leaves};
+ghost use Rattle.history.specs.Verdict.{done, Leaves, Puts};
 ghost use Rattle.listing.specs.Listing.{listing_call};
 ghost use Rattle.listing.specs.Output.{ListedInto};
 
 use both::put_panel;
 use history::Answer;
 use lines::put_refusal;
-use tables::{refused, short, written};
+use tables::{refused, short};
 use text::Page;
 
 // The most bytes of input that are accepted; also the bytes that every listing fits in.
 const MOST: usize = 65536;
 
-// Writes the text of a table and its image to the front of `out`. For a short `out` the text is first made in a buffer
-// that every listing fits in.
+// Writes the text of a table and its image to the front of `out`.
 pub fn list_into(input: &[u8], out: &mut [u8]) -> Answer
     ensures { Leaves (listing_call input.now) out.old result out.new }
+{
+    list(input, out).into()
+}
+
+// For a short `out` the text is first made in a buffer that every listing fits in.
+fn list(input: &[u8], out: &mut [u8]) -> Result<u32, Answer>
+    ensures { Puts (listing_call input.now) out.old result out.new }
 {
     if MOST <= out.len() {
         return put_listing(input, out);
     }
-    let mut text = [0u8; 65536];
-    let answer = put_listing(input, &mut text);
-    if answer.code != 0 {
-        return answer;
-    }
-    put_front(out, &text[0..answer.length as usize])
+    let mut text = [0u8; MOST];
+    let size = put_listing(input, &mut text)?;
+    put_front(out, &text[..size as usize])
 }
 
 // Writes what the program prints to the front of `out`, the text or the line of its refusal, and returns its length. An
@@ -43,43 +46,44 @@ pub fn print_into(input: &[u8], out: &mut [u8]) -> usize
     if out.len() < MOST {
         return 0;
     }
-    let answer = list_into(input, out);
-    if answer.code != 0 {
-        let mut page = Page::new(out);
-        put_refusal(&mut page, answer);
-        return page.len();
+    match put_listing(input, out) {
+        Ok(size) => size as usize,
+        Err(answer) => {
+            let mut page = Page::new(out);
+            put_refusal(&mut page, answer);
+            page.len()
+        }
     }
-    answer.length as usize
 }
 
 // Splits the input by the table's length, and lists the two parts.
-fn put_listing(input: &[u8], out: &mut [u8]) -> Answer
+fn put_listing(input: &[u8], out: &mut [u8]) -> Result<u32, Answer>
     requires { 65536 ≤ length out.old }
-    ensures { Leaves (listing_call input.now) out.old result out.new }
+    ensures { Puts (listing_call input.now) out.old result out.new }
 {
     let all = input.len();
     if MOST < all {
-        return refused(1);
+        return Err(refused(1));
     }
     if all < 4 {
-        return refused(1);
+        return Err(refused(1));
     }
     let size = 4 + octets::get_at(input, 0, 4) as usize;
     if all < size {
-        return refused(1);
+        return Err(refused(1));
     }
-    put_panel(&input[0..size], &input[size..all], out)
+    put_panel(&input[..size], &input[size..], out)
 }
 
 // Copies the text to the front of the output, or refuses with 21.
-fn put_front(out: &mut [u8], text: &[u8]) -> Answer
+fn put_front(out: &mut [u8], text: &[u8]) -> Result<u32, Answer>
     requires { length text.now ≤ 65536 }
-    ensures { Leaves (done text.now) out.old result out.new }
+    ensures { Puts (done text.now) out.old result out.new }
 {
     let size = text.len();
     if out.len() < size {
-        return short(size as u32);
+        return Err(short(size as u32));
     }
-    octets::copy(&mut out[0..size], text);
-    written(size as u32)
+    out[..size].copy_from_slice(text);
+    Ok(size as u32)
 }

@@ -10,10 +10,11 @@ use Rattle.listing.proofs.print_into.Goals as goal
 pub returns-then-out-lt-MOST : goal.returns-then-out-lt-MOST
 returns-then-out-lt-MOST c = stays _ _ (omega arith)
 
-pub returns-then-answer-ne0 : goal.returns-then-answer-ne0
-returns-then-answer-ne0 c =
-    line_printed _ _ (omega arith) c.list_into-answer.ensures.0 c.list_into-answer.ensures.1 c.if-answer-ne0.true
-    (grew_front c.new-page.ensures.text c.new-page.ensures.place c.put_refusal.ensures (search rules) c.len.ensures)
+pub returns-in-Ok : goal.returns-in-Ok
+returns-in-Ok c = text_printed _ _ c.if-out-lt-MOST.false c.in-Ok.ensures
 
-pub returns : goal.returns
-returns c = search text_printed
+pub returns-in-Err : goal.returns-in-Err
+returns-in-Err c =
+    let line =
+    grew_front c.new-page.ensures.text c.new-page.ensures.place c.put_refusal.ensures (search rules) c.len.ensures in
+    line_printed _ _ c.if-out-lt-MOST.false c.in-Err.ensures line

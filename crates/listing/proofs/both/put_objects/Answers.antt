@@ -7,10 +7,12 @@ use Rattle.listing.proofs.WalkLaws.{goes_on}
 use Rattle.listing.proofs.both.put_objects.Goals as goal
 
 pub elements_of-elements-requires : goal.elements_of-elements-requires
-elements_of-elements-requires c = search position_inside
+elements_of-elements-requires c = position_inside c.requires.ready c.type_inv.image
 
 pub loop-i-init : goal.loop-i-init
-loop-i-init c = search begin
+loop-i-init c =
+    begin c.requires.ready c.type_inv.table c.type_inv.image _ c.elements_of-elements.ensures _
+    c.objects_place-entry.ensures _ c.requires.image_in_bounds
 
 pub overflow_add-label : goal.overflow_add-label
 overflow_add-label c = omega (arith, entries_left)

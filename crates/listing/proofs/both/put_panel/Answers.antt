@@ -1,15 +1,18 @@
 -- `listing::both::put_panel` meets its contract: the first refusal, or the lines of what is accepted.
 -- Assumes nothing.
-use borrow.Author.Rules.{rules}
-use Rattle.history.proofs.OutputLaws.{told_leaves}
-use Rattle.listing.proofs.PanelLaws.{table_told, image_told, ready}
+use Rattle.std.proofs.lemmas.Result.{err_from_is_err_and}
+use Rattle.listing.proofs.PanelLaws.{table_puts, refused_image}
 use Rattle.listing.proofs.both.put_panel.Goals as goal
 
-pub returns-then-answer-ne0 : goal.returns-then-answer-ne0
-returns-then-answer-ne0 c = told_leaves _ _ (search (table_told, rules)) c.if-answer-ne0.true
+pub returns-in_err-outline : goal.returns-in_err-outline
+returns-in_err-outline c =
+    let p = err_from_is_err_and c.from_residual.result c.from_residual.ensures.1 in
+    rw (p.1, p.2) (table_puts _ _ _ c.in_err-outline.ensures)
 
-pub returns-then-checked-ne0 : goal.returns-then-checked-ne0
-returns-then-checked-ne0 c = told_leaves _ _ (search (image_told, rules)) c.if-checked-ne0.true
-
-pub put_accepted-requires : goal.put_accepted-requires
-put_accepted-requires c = record { ready = search (ready, rules); in_bounds = search rules }
+pub returns-in_err-check_image_under : goal.returns-in_err-check_image_under
+returns-in_err-check_image_under c =
+    let p =
+    err_from_is_err_and c.from_residual-in_err-check_image_under.result
+    c.from_residual-in_err-check_image_under.ensures.1 in
+    rw (p.1, p.2)
+    (refused_image _ c.in_ok-outline.ensures c.plan-plan.ensures _ _ c.in_err-check_image_under.ensures)
