@@ -1,10 +1,10 @@
 -- An entry, except for repeats: each answer from the tests that lead there, and what an accepted entry tells.
 -- Assumes nothing.
 use Prim.Native.Nat.{ℕ, ◌+◌, ◌-◌, ◌≤◌, ◌<◌}
-use mathlib.Core.Path.{◌≡◌, sym, ◌∙◌}
+use mathlib.Core.Path.{◌≡◌, refl, sym, ◌∙◌}
 use mathlib.Core.List.{List}
 use mathlib.Core.Bool.{Bool, true, false, ◌&&◌}
-use Rattle.std.specs.Prelude.{Option, Result, Ok, Err}
+use Rattle.std.specs.Prelude.{Option, None, Result, Ok, Err}
 use Rattle.std.specs.Option.{ok_or}
 use native.Mathlib.Omega.{arith}
 use lib.ListN.{length, get_or, take, drop}
@@ -33,6 +33,11 @@ unfolding hashed
 hashed_or k size false hash e = rw e
 hashed_or k size true hash e = rw e
 
+was_bad : (good : Bool) (hash : ℕ) → None ≡ hashed good hash → good ≡ false
+unfolding hashed
+was_bad false hash e = refl
+was_bad true hash e = absurd (let z : ◌≡◌ {A = ℕ} 0 1 = cc in omega arith)
+
 -- ---- each test
 
 module _ (b : List ℕ) (at k : ℕ) where
@@ -57,6 +62,16 @@ module _ (b : List ℕ) (at k : ℕ) where
         pub label_cut : length b - at - 2 < n → check_object_at b at k ≡ refusal 8
         unfolding check_object_at
         label_cut h = rw (← e) (simp (both, type, size, lt-leb (at + (2 + n)) (length b) (omega arith)))
+
+        -- a bad label refuses
+        pub label_bad : n ≤ length b - at - 2 → {r : Option ℕ}
+            → r ≡ hashed (label_good (take n (drop (at + 2) b))) (hash_of (get_or b at 0) (take n (drop (at + 2) b)))
+            → r ≡ None → check_object_at b at k ≡ refusal_at 6 k
+        unfolding check_object_at
+        label_bad rest r-is h =
+            let all : leb (at + (2 + n)) (length b) ≡ true = le-leb (at + (2 + n)) (length b) (omega arith) in
+            let bad = was_bad (label_good (take n (drop (at + 2) b))) _ (sym h ∙ r-is) in
+            rw (← e) (simp (both, type, size, all, bad))
 
         -- the label decides
         pub label_tested : n ≤ length b - at - 2 → (r : Option ℕ)

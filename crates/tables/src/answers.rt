@@ -6,8 +6,8 @@ ghost use Rattle.history.specs.Verdict.{naming, numbers, unnamed, of_length};
 use history::Answer;
 use rows::Refusal;
 
-// A refusal that names nothing, by the paper's number: definitions, tests and C know no other name of it, and a narrower
-// type would ask more of callers.
+// A refusal that names nothing, by the paper's number: definitions, tests and C know no other name of it, and a
+// narrower type would ask more of callers.
 pub fn refused(code: u8) -> Answer
     ensures { result ≡ unnamed code 0 }
 {

@@ -24,25 +24,26 @@ use Rattle.view.specs.Parts.{count_of, given_place, Part}
 
 -- ---- the count
 
--- an accepted table has as many objects as its plan has kinds
-pub counted : (T : List ℕ) {p q : Plan} → Ok p ≡ given (λ (p : Plan). p) (read_plan T) → q ≡ p
-    → length q.kinds ≡ count_of (table_call T)
-unfolding read_plan table_call count_of plan_of
-counted T {p} {q} e q-is =
-    let r = given_done (read_plan T) (λ (p : Plan). p) e in
-    let u = used (read_table T) (λ (t : Table). done (plan_of t)) r.1 in
-    let plan : q ≡ plan_of u.0 = cc (r.2, u.2) in
-    ap (λ (p : Plan). length p.kinds) plan
-    ∙ length-map u.0.objects _
-    ∙ sym (ap count_of u.1)
+-- how many kinds an outline has; a refused table has none
+abbrev kinds_count : Result Plan Answer → ℕ
+kinds_count (Ok p) = length p.kinds
+kinds_count (Err a) = 0
 
-pub uncounted : (T : List ℕ) {a : Answer} → Err a ≡ given (λ (p : Plan). p) (read_plan T) → 0 ≡ count_of (table_call T)
-unfolding read_plan table_call count_of
-uncounted T {a} e = go (read_table T) e
-  where
-    go : (v : Verdict Table) → Err a ≡ given (λ (p : Plan). p) (then v (λ t. done (plan_of t))) → 0 ≡ count_of v
-    go (refused r) e = refl
-    go (done t) e = absurd (let z : ◌≡◌ {A = ℕ} 0 1 = cc in omega arith)
+-- an accepted table has as many objects as its plan has kinds
+outline_count : (v : Verdict Table) → kinds_count (given (λ (p : Plan). p) (then v (λ t. done (plan_of t)))) ≡ count_of v
+unfolding count_of plan_of
+outline_count (refused r) = refl
+outline_count (done t) = length-map t.objects _
+
+module _ (T : List ℕ) where
+  pub counted : {p q : Plan} → Ok p ≡ given (λ (p : Plan). p) (read_plan T) → q ≡ p
+      → length q.kinds ≡ count_of (table_call T)
+  unfolding read_plan table_call
+  counted e q-is = ap (λ (p : Plan). length p.kinds) q-is ∙ ap kinds_count e ∙ outline_count (read_table T)
+
+  pub uncounted : {a : Answer} → Err a ≡ given (λ (p : Plan). p) (read_plan T) → 0 ≡ count_of (table_call T)
+  unfolding read_plan table_call
+  uncounted e = ap kinds_count e ∙ outline_count (read_table T)
 
 -- ---- the numbers
 
