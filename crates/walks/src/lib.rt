@@ -81,8 +81,7 @@ pub fn put_changes(part: &mut [u8], walk: Walk, plan: Plan<'_>, first: &[u8], se
     ensures { part.new
         ≡ walk_bytes walk 0 plan.entry.kinds.now first.now second.now }
 {
-    // a walk's name and not a closure: what a closure that holds a plan does isn't inferred, so
-    // each call would spell it
+    // no closure: of one that holds a plan nothing is inferred, so each call would spell it out
     match walk {
         Walk::Difference => put_difference(part, plan, first, second),
         Walk::Join => put_joined(part, plan, first, second),
