@@ -106,7 +106,8 @@ lines_in_lem r =
     ap lines_in r.reads ∙ ap (λ (p : Plan). lines_of 0 r.table.objects p.kinds r.image.words) r.plan
 
 -- the lines so far are written, and the objects from i on are ahead
-pub record Walked (b a : List ℕ) (ns : List Kind) (elements : List ℕ) (page₀ page : Page) (entry place i : ℕ) : Type 0 where
+pub record Walked (b a : List ℕ) (ns : List Kind) (elements : List ℕ) (page₀ page : Page)
+    (entry place i : ℕ) : Type 0 where
   pub written : List ℕ
   pub objects : List Object
   pub words : List ℕ
