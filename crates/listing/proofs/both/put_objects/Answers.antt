@@ -2,7 +2,7 @@
 -- Assumes nothing.
 use native.Mathlib.Omega.{arith}
 use Rattle.listing.proofs.PanelLaws.{position_inside}
-use Rattle.listing.proofs.WalkLaws.{begin, ended, entries_left, label_inside, element_inside, has_room}
+use Rattle.listing.proofs.WalkLaws.{begin, entries_left, label_inside, element_inside, has_room}
 use Rattle.listing.proofs.WalkLaws.{goes_on}
 use Rattle.listing.proofs.both.put_objects.Goals as goal
 
@@ -34,6 +34,3 @@ put_object_line-requires c = search has_room
 
 pub loop-i-preserved : goal.loop-i-preserved
 loop-i-preserved c = search goes_on
-
-pub returns : goal.returns
-returns c = ended c.loop-i.invariant (omega arith)
