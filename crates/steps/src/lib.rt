@@ -19,7 +19,9 @@ pub enum Walk {
     Turn,
 }
 
-// ---- which object is next
+// Entries come with a place: to a proof `&entries[at..]` is `take .. (drop at entries)`, a step more in each law.
+
+// ---- which object is next; the end where there is none, and no option: there the loops stop, with no test more
 
 // The next object, from the given one on, that either list names; or the end. No `Option`: a loop over objects goes on
 // at the end as at an object, so each caller would turn `None` into it.
