@@ -23,8 +23,7 @@ pub enum Walk {
 
 // ---- which object is next; the end where there is none, and no option: there the loops stop, with no test more
 
-// The next object, from the given one on, that either list names; or the end. No `Option`: a loop over objects goes on
-// at the end as at an object, so each caller would turn `None` into it.
+// The next object, from the given one on, that either list names; or the end.
 pub fn next(
     object: usize,
     end: usize,

@@ -30,7 +30,8 @@ kinds_count (Ok p) = length p.kinds
 kinds_count (Err a) = 0
 
 -- an accepted table has as many objects as its plan has kinds
-outline_count : (v : Verdict Table) → kinds_count (given (λ (p : Plan). p) (then v (λ t. done (plan_of t)))) ≡ count_of v
+outline_count : (v : Verdict Table)
+    → kinds_count (given (λ (p : Plan). p) (then v (λ t. done (plan_of t)))) ≡ count_of v
 unfolding count_of plan_of
 outline_count (refused r) = refl
 outline_count (done t) = length-map t.objects _
