@@ -3,11 +3,11 @@
 use mathlib.Core.Path.{◌≡◌, ◌∙◌, sym, ap, ap₂}
 use mathlib.Core.Bool.{Bool, true, false, cond}
 use mathlib.Core.List.{List}
-use Prim.Native.Nat.{ℕ, ◌+◌, ◌%◌, ◌<◌, ◌≤◌}
+use Prim.Native.Nat.{ℕ, ◌%◌, ◌<◌}
 use borrow.Author.Tests.{ne_eqb}
 use lib.ListN.{take, drop}
 use Rattle.octets.specs.Octets.{number}
-use Rattle.rows.specs.Rows.{row_total, rows_from}
+use Rattle.rows.specs.Rows.{Row}
 use Rattle.rows.specs.Values.{Finding, code_at, check_rows, compose_of, padded, on_finding, values_read}
 use Rattle.rows.specs.Marks.{Shows}
 use Rattle.rows.specs.declared.Refusal.{Refusal}
@@ -19,7 +19,6 @@ use Rattle.elements.specs.Elements.{dat_rule, element_check, state_read, word_of
 use Rattle.kinds.specs.declared.Kind.{Kind}
 use Rattle.kinds.specs.declared.Element.{Element}
 use Rattle.kinds.specs.declared.Glance.{Glance}
-use Rattle.elements.proofs.Covering.{cover}
 use Rattle.elements.proofs.DatLaws.{not_stale}
 use Rattle.elements.proofs.Laws.{word_small, compose_padded}
 
@@ -64,21 +63,15 @@ pub values_state : (k : Kind) (w : ℕ) {vs : List ℕ} {s : Element} → vs ≡
 unfolding state_read
 values_state k w e h = h ∙ ap (element_of k) e
 
--- the rows of a kind are among all rows
-pub in_rows : (k : Kind) (l : Layout) → l ≡ layout_of k → (l.first + l.count ≤ row_total) × (l.count ≤ 24)
-in_rows k l is = let g = cover k in rw is (g.inside, g.few)
-
 -- from what the callees of `word_of` ensure
-module _ (e : Element) (k : Kind) (vs : List ℕ) (l : Layout) (ek : k ≡ kind_in e) (ev : vs ≡ padded (element_values e))
-    (el : l ≡ layout_of k) where
-  pub whole : compose_of (rows_from l.first l.count) vs ≡ word_of e
+module _ (e : Element) (k : Kind) (vs : List ℕ) (rs : List Row) (ek : k ≡ kind_in e)
+    (ev : vs ≡ padded (element_values e))
+    (er : rs ≡ rows_of k) where
+  pub whole : compose_of rs vs ≡ word_of e
   whole =
-      ap (λ (m : Layout). compose_of (rows_from m.first m.count) vs) el
+      ap (λ (rs : List Row). compose_of rs vs) er
       ∙ ap₂ (λ (j : Kind) (us : List ℕ). compose_of (rows_of j) us) ek ev
       ∙ compose_padded e
 
-  pub spans : (l.first + l.count ≤ row_total) × (l.count ≤ 24)
-      × (compose_of (rows_from l.first l.count) vs < 4294967296)
-  spans =
-      let g = in_rows k l el in
-      (g.0, g.1, rw whole (word_small e))
+  pub small : compose_of rs vs < 4294967296
+  small = rw whole (word_small e)

@@ -8,13 +8,14 @@ mod types;
 
 ghost use Rattle.std.specs.Prelude.{◌≡◌, cond, ◌+◌, ◌≤◌, length, take, drop, Ok, Err};
 ghost use Rattle.octets.specs.Octets.{number};
+ghost use Rattle.rows.specs.Rows.{rows_from};
 ghost use Rattle.rows.specs.Values.{code_at, check_rows, values_read};
 ghost use Rattle.kinds.specs.Kinds.{layout_no, width_of, rows_of};
 ghost use Rattle.elements.specs.Elements.{carried, kind_of, kind_numbered, same_kind, dat_rule, element_check};
 ghost use Rattle.elements.specs.Elements.{state_read, word_of};
 
 use kinds::{Element, Kind};
-use rows::Refusal;
+use rows::{Refusal, Span};
 use types::find_by_type;
 
 // Checks an element's number: the fields from bit 0 up, then the rule of DAT. Its rows are read only if a glance
@@ -53,10 +54,7 @@ pub fn word_of(element: Element) -> u32
 {
     let kind = kinds::kind_in(element);
     let values = kinds::values_of(element);
-    let layout = kinds::layout(kind);
-    let first = layout.first;
-    let count = layout.count;
-    rows::compose_rows(values, first, count)
+    rows::compose_rows(values, rows_of(kind))
 }
 
 // Whether a type is carried under a catalogue's X.
@@ -97,6 +95,17 @@ pub fn same_kind(one: Kind, other: Kind) -> bool
     one == other
 }
 
+// The rows of a kind's layout.
+pub fn rows_of(kind: Kind) -> Span
+    ensures { rows_from result.first result.count ≡ rows_of kind }
+{
+    let layout = kinds::layout(kind);
+    Span {
+        first: layout.first,
+        count: layout.count,
+    }
+}
+
 // A kind's width in bytes.
 pub fn width(kind: Kind) -> usize
     ensures { (result ≡ width_of kind) × (result ≤ 4) }
@@ -124,10 +133,7 @@ fn check_fields(word: u32, kind: Kind) -> Result<(), Refusal>
 fn read_values(word: u32, kind: Kind) -> [u32; 24]
     ensures { result ≡ values_read word (rows_of kind) }
 {
-    let layout = kinds::layout(kind);
-    let first = layout.first;
-    let count = layout.count;
-    rows::read_rows(word, first, count)
+    rows::read_rows(word, rows_of(kind))
 }
 
 // The rule of DAT: where bit 0 is DAT and is 0, all other bits must be 0.

@@ -16,14 +16,8 @@ use borrow.Author.Tests.{eq-eqb, ne_eqb, le-leb, lt-leb}
 use Rattle.rows.specs.Rows.{row_at, rows_from}
 use Rattle.rows.specs.Values.{Finding, code_at, filled, padded}
 use Rattle.std.proofs.Common.{Ok, Err}
-use Rattle.rows.specs.Covering.{layout_rows}
-use Rattle.rows.specs.declared.Layout.{Layout}
-use Rattle.kinds.specs.Kinds.{layout_of, kind_in, element_values}
-use Rattle.kinds.specs.declared.Kind.{Kind}
-use Rattle.kinds.specs.declared.Element.{Element}
 use Rattle.rows.proofs.Loops.{fill_store, rows_next}
-use Rattle.fields.specs.PlainFields.{shown, shown_in, shown_plain, spread, check_named}
-use Rattle.fields.specs.declared.Plain.{Plain}
+use Rattle.fields.specs.PlainFields.{shown, shown_in, spread, check_named}
 use Rattle.fields.specs.declared.by_rows.Shown.{Shown}
 use Rattle.fields.proofs.OwnFields.{own, spread_length}
 
@@ -114,17 +108,6 @@ shown_all {first} {count} {vs} {fields} {n} {k} s h =
     let size = s.size ∙ ap (λ (j : ℕ). length (shown (rows_from first j) vs)) e in
     let so_far = s.so_far ∙ ap (λ (j : ℕ). filled 32 (shown (rows_from first j) vs)) e in
     λ i. record { count = size i; fields = so_far i }
-
--- the fields of a state
-pub state_shown : (e : Element) {k : Kind} {l : Layout} {vs : List ℕ} {s : Shown} → k ≡ kind_in e
-    → l ≡ layout_of k → vs ≡ padded (element_values e)
-    → s ≡ shown_in (layout_rows l) vs
-    → ◌≡◌ {A = Plain} (record { kind = l.number; count = s.count; fields = s.fields }) (shown_plain e)
-unfolding shown_plain
-state_shown e p q r t =
-    let l-is = q ∙ ap layout_of p in
-    let s-is = t ∙ ap₂ (λ (l : Layout) (vs : List ℕ). shown_in (layout_rows l) vs) l-is r in
-    λ i. record { kind = (l-is i).number; count = (s-is i).count; fields = (s-is i).fields }
 
 -- ---- taking in
 

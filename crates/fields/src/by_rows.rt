@@ -1,10 +1,10 @@
-// The loops over a layout's rows, `count` of them from row `first` on, and their values.
-ghost use Rattle.std.specs.Prelude.{◌≡◌, ◌+◌, ◌≤◌, ◌<◌};
+// The loops over the rows of a span, and their values.
+ghost use Rattle.std.specs.Prelude.{◌≡◌, ◌<◌};
 ghost use Rattle.rows.specs.Rows.{cells, row_total, row_at, rows_from};
 ghost use Rattle.rows.specs.Values.{padded};
 ghost use Rattle.fields.specs.PlainFields.{shown_in, spread, check_named};
 
-use rows::{Cells, Refusal};
+use rows::{Cells, Refusal, Span};
 
 // The values of rows that are not reserved, and how many there are.
 #[derive(Clone, Copy)]
@@ -14,15 +14,14 @@ pub struct Shown {
 }
 
 // The values of the rows that are not reserved.
-pub fn show_rows(values: [u32; 24], first: usize, count: usize) -> Shown
-    requires { (first + count ≤ row_total) × (count ≤ 24) }
-    ensures { result ≡ shown_in (rows_from first count) values }
+pub fn show_rows(values: [u32; 24], span: Span) -> Shown
+    ensures { result ≡ shown_in (rows_from span.first span.count) values }
 {
     let rows = rows::cells();
     let mut fields = [0u32; 32];
     let mut n = 0;
-    for k in 0..count {
-        if highest(&rows, first + k) != 0 {
+    for k in 0..span.count {
+        if highest(&rows, span.first + k) != 0 {
             fields[n] = values[k];
             n += 1;
         }
@@ -31,15 +30,14 @@ pub fn show_rows(values: [u32; 24], first: usize, count: usize) -> Shown
 }
 
 // The values of all rows, from the fields handed in: 0 for reserved rows.
-pub fn take_rows(fields: [u32; 32], first: usize, count: usize) -> [u32; 24]
-    requires { (first + count ≤ row_total) × (count ≤ 24) }
-    ensures { result ≡ padded (spread (rows_from first count) fields) }
+pub fn take_rows(fields: [u32; 32], span: Span) -> [u32; 24]
+    ensures { result ≡ padded (spread (rows_from span.first span.count) fields) }
 {
     let rows = rows::cells();
     let mut values = [0u32; 24];
     let mut n = 0;
-    for k in 0..count {
-        if highest(&rows, first + k) != 0 {
+    for k in 0..span.count {
+        if highest(&rows, span.first + k) != 0 {
             values[k] = fields[n];
             n += 1;
         }
@@ -48,14 +46,13 @@ pub fn take_rows(fields: [u32; 32], first: usize, count: usize) -> [u32; 24]
 }
 
 // Refuses the first value that has no named case: 11, with the field's lowest bit.
-pub fn check_named(values: [u32; 24], first: usize, count: usize) -> Result<(), Refusal>
-    requires { (first + count ≤ row_total) × (count ≤ 24) }
-    ensures { result ≡ check_named (rows_from first count) values }
+pub fn check_named(values: [u32; 24], span: Span) -> Result<(), Refusal>
+    ensures { result ≡ check_named (rows_from span.first span.count) values }
 {
     let rows = rows::cells();
-    for k in 0..count {
-        if highest(&rows, first + k) < values[k] {
-            let bit = lowest(&rows, first + k);
+    for k in 0..span.count {
+        if highest(&rows, span.first + k) < values[k] {
+            let bit = lowest(&rows, span.first + k);
             return Err(Refusal { code: 11, bit });
         }
     }

@@ -68,16 +68,15 @@ pub fn write_fields(
     )
 }
 
+#[tactic(auto, unfolding(crate::specs::PlainFields::shown_plain))]
 fn shown_plain(element: Element) -> Plain
     ensures { result ≡ shown_plain element }
 {
-    let layout = kinds::layout(kinds::kind_in(element));
-    let first = layout.first;
-    let count = layout.count;
-    let shown = show_rows(kinds::values_of(element), first, count);
+    let kind = kinds::kind_in(element);
+    let shown = show_rows(kinds::values_of(element), elements::rows_of(kind));
     let fields = shown.fields;
     Plain {
-        kind: layout.number as u32,
+        kind: elements::layout_number(kind) as u32,
         count: shown.count,
         fields,
     }
@@ -87,20 +86,14 @@ fn shown_plain(element: Element) -> Plain
 fn values_in(fields: [u32; 32], kind: Kind) -> [u32; 24]
     ensures { result ≡ values_in kind fields }
 {
-    let layout = kinds::layout(kind);
-    let first = layout.first;
-    let count = layout.count;
-    take_rows(fields, first, count)
+    take_rows(fields, elements::rows_of(kind))
 }
 
 // Refuses the first value that has no named case, with 11.
 fn check_values(values: [u32; 24], kind: Kind) -> Result<(), Refusal>
     ensures { result ≡ check_named (rows_of kind) values }
 {
-    let layout = kinds::layout(kind);
-    let first = layout.first;
-    let count = layout.count;
-    check_named(values, first, count)
+    check_named(values, elements::rows_of(kind))
 }
 
 // The kind with a number, if there is one.

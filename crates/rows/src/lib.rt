@@ -23,6 +23,15 @@ pub struct Layout {
     pub dat: bool,
 }
 
+// Rows that follow each other, as a layout's do: `count` of them from row `first` on.
+#[derive(Clone, Copy)]
+pub struct Span {
+    pub first: usize,
+    pub count: usize,
+    pub ghost inside: { first + count ≤ row_total },
+    pub ghost few: { count ≤ 24 },
+}
+
 // A layout's marks, for a glance at all fields at once: what is added to each field that doesn't admit every value, and
 // the bits that a value that isn't listed then carries into.
 #[derive(Clone, Copy)]
@@ -72,15 +81,14 @@ fn read_field(rows: &Cells, word: u32, row: usize) -> Result<u32, Refusal>
     }
 }
 
-// The values by the rows first, first + 1, .. of an element's number, in their order; all zeros if a field is refused.
-pub fn read_rows(word: u32, first: usize, count: usize) -> [u32; 24]
-    requires { (first + count ≤ row_total) × (count ≤ 24) }
-    ensures { result ≡ values_read word (rows_from first count) }
+// The values by a span's rows of an element's number, in their order; all zeros if a field is refused.
+pub fn read_rows(word: u32, span: Span) -> [u32; 24]
+    ensures { result ≡ values_read word (rows_from span.first span.count) }
 {
     let rows = cells();
     let mut values = [0u32; 24];
-    for k in 0..count {
-        let Ok(value) = read_field(&rows, word, first + k) else {
+    for k in 0..span.count {
+        let Ok(value) = read_field(&rows, word, span.first + k) else {
             return [0u32; 24];
         };
         values[k] = value;
@@ -114,15 +122,15 @@ pub fn carries_none(word: u32, marks: Marks) -> bool
     carried & marks.carry == 0
 }
 
-// The number whose fields, by the rows first, first + 1, .., are the values.
-pub fn compose_rows(values: [u32; 24], first: usize, count: usize) -> u32
-    requires { (first + count ≤ row_total) × (count ≤ 24) × (compose_of (rows_from first count) values < 4294967296) }
-    ensures { result ≡ compose_of (rows_from first count) values }
+// The number whose fields, by a span's rows, are the values.
+pub fn compose_rows(values: [u32; 24], span: Span) -> u32
+    requires { compose_of (rows_from span.first span.count) values < 4294967296 }
+    ensures { result ≡ compose_of (rows_from span.first span.count) values }
 {
     let rows = cells();
     let mut word: u32 = 0;
-    for k in 0..count {
-        let low = cell(&rows, 4 * (first + k) + 1);
+    for k in 0..span.count {
+        let low = cell(&rows, 4 * (span.first + k) + 1);
         word += values[k] << low;
     }
     word

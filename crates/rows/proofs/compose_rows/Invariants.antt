@@ -4,4 +4,4 @@ use Rattle.rows.proofs.Loops.{Composing}
 use Rattle.rows.proofs.compose_rows.Given as goal
 
 abbrev pub invariant-loop-k : goal.invariant-loop-k
-invariant-loop-k l = Composing l.values l.first l.count l.word l.k
+invariant-loop-k l = Composing l.values l.span.first l.span.count l.word l.k

@@ -4,4 +4,4 @@ use Rattle.fields.proofs.Loops.{Checking}
 use Rattle.fields.proofs.by_rows.check_named.Given as goal
 
 abbrev pub invariant-loop-k : goal.invariant-loop-k
-invariant-loop-k l = Checking l.first l.count l.values l.k
+invariant-loop-k l = Checking l.span.first l.span.count l.values l.k

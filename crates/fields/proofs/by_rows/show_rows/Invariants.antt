@@ -4,4 +4,4 @@ use Rattle.fields.proofs.Loops.{Showing}
 use Rattle.fields.proofs.by_rows.show_rows.Given as goal
 
 abbrev pub invariant-loop-k : goal.invariant-loop-k
-invariant-loop-k l = Showing l.first l.count l.values l.fields l.n l.k
+invariant-loop-k l = Showing l.span.first l.span.count l.values l.fields l.n l.k

@@ -4,4 +4,4 @@ use Rattle.fields.proofs.Loops.{Taking}
 use Rattle.fields.proofs.by_rows.take_rows.Given as goal
 
 abbrev pub invariant-loop-k : goal.invariant-loop-k
-invariant-loop-k l = Taking l.first l.count l.fields l.values l.n l.k
+invariant-loop-k l = Taking l.span.first l.span.count l.fields l.values l.n l.k
