@@ -9,8 +9,8 @@ use mathlib.Core.List.{List, ◌++◌}
 use Rattle.std.specs.Prelude.{Result, Ok, Err}
 use lib.Dec.{leb}
 use lib.ListN.{length, take, drop, length-append, length-drop, take-append-drop}
-use lib.Seq.{take-append_seam, drop-append_seam, take_at, drop_at}
-use borrow.Rule.Slice.PartMut.{put_mid, mid_of}
+use lib.Seq.{take-append_seam, drop-append_seam}
+use borrow.Rule.Slice.PartMut.{put_mid}
 use borrow.Author.Tests.{le-leb, lt-leb, leb-true, leb-false}
 use Rattle.history.specs.declared.Answer.{Answer}
 use Rattle.history.specs.Verdict.{Refused, Verdict, refused, done, then, Outcome, numbers, unnamed, told, settled}
@@ -180,23 +180,3 @@ module _ (b out : List ℕ) {n : ℕ} (long : length b ≡ n) {r : Result ℕ An
   pub written_puts : n ≤ length out → r ≡ Ok n → {m : List ℕ} → m ≡ b ++ drop n out → Puts (done b) out r m
   unfolding settled put
   written_puts h e q = rw (le-leb (length b) (length out) (rw long h), long) (e, q)
-
-  -- the front was lent as a part and came back as the result's bytes
-  pub front_puts : n ≤ length out → r ≡ Ok n → {part : List ℕ} → part ≡ b
-      → Puts (done b) out r (put_mid 0 (n - 0) out part)
-  front_puts h e q =
-      let all : n - 0 ≡ n = omega arith in
-      written_puts h e (ap₂ (λ (p : List ℕ) (k : ℕ). p ++ drop k out) q all)
-
--- ---- a copy cs of A at the front of an output, which is lent again as a part
-
-module _ (A out : List ℕ) {cs : List ℕ} (c : cs ≡ A) where
-  copy_long : length cs ≡ length A - 0
-  copy_long = ap length c ∙ omega arith
-
-  pub copy_is : mid_of 0 (length A - 0) (put_mid 0 (length A - 0) out cs) ≡ A
-  copy_is = take_at cs _ (length A - 0) copy_long ∙ c
-
-  -- what follows it
-  pub copy_rest : drop (length A - 0) (cs ++ drop (length A - 0) out) ≡ drop (length A - 0) out
-  copy_rest = drop_at cs _ (length A - 0) copy_long

@@ -1,5 +1,5 @@
 // The meaning of the product: definitions in specs/, laws in proofs/.
-// The only code is the types that the definitions use.
+// The only code is the types that the definitions use, and the four numbers made of a step's result.
 #![tactic(auto)]
 
 mod answers;
