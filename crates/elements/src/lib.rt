@@ -65,7 +65,8 @@ pub fn is_carried(x: u8, ty: u8) -> bool
     find_by_type(x, ty).is_some()
 }
 
-// The kind of a type under a catalogue's X; if it is not carried, a kind that means nothing.
+// The kind of a type under a catalogue's X; if it is not carried, a kind that means nothing. No option, since its
+// definition and laws are total.
 #[tactic(auto, unfolding(crate::specs::Elements::kind_of))]
 pub fn kind_of(x: u8, ty: u8) -> Kind
     ensures { result ≡ kind_of x ty }
@@ -80,7 +81,7 @@ pub fn layout_number(kind: Kind) -> u8
     kinds::layout(kind).number
 }
 
-// The kind whose layout has this number; if none has, a kind that means nothing.
+// The kind whose layout has this number; if none has, a kind that means nothing, as for `kind_of`.
 #[tactic(auto, unfolding(crate::specs::Elements::kind_numbered))]
 pub fn kind_numbered(number: u8) -> Kind
     ensures { result ≡ kind_numbered number }
@@ -129,7 +130,7 @@ fn check_fields(word: u32, kind: Kind) -> Result<(), Refusal>
     rows::check_rows(word, layout.number, layout.first)
 }
 
-// The values of an element's number; all zeros if a field is refused.
+// The values of an element's number; all zeros if a field is refused, as in its definition.
 fn read_values(word: u32, kind: Kind) -> [u32; 24]
     ensures { result ≡ values_read word (rows_of kind) }
 {

@@ -81,7 +81,8 @@ fn read_field(rows: &Cells, word: u32, row: usize) -> Result<u32, Refusal>
     }
 }
 
-// The values by a span's rows of an element's number, in their order; all zeros if a field is refused.
+// The values by a span's rows of an element's number, in their order; all zeros if a field is refused, as in
+// its definition.
 pub fn read_rows(word: u32, span: Span) -> [u32; 24]
     ensures { result ≡ values_read word (rows_from span.first span.count) }
 {
