@@ -1,6 +1,7 @@
 // The floor of cases: the named cases of every field wider than one bit, in the order of their values from 0 up. From a
 // value comes its case, and from a case its value. Written by catalogue/write.py from catalogue/cases.tsv. It checks
-// nothing: a value without a case is read as the first.
+// nothing: a value without a case is read as the first. The `from`s are alike because each is its enum's cases and no
+// more; a macro may write no impl here.
 #![tactic(auto)]
 
 ghost use Rattle.std.specs.Prelude.{◌≡◌};

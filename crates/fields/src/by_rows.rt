@@ -6,14 +6,15 @@ ghost use Rattle.fields.specs.PlainFields.{shown_in, spread, check_named};
 
 use rows::{Cells, Refusal, Span};
 
-// The values of rows that are not reserved, and how many there are.
+// The values of rows that are not reserved, and how many there are. C has 32 places and the count beside them.
 #[derive(Clone, Copy)]
 pub struct Shown {
     pub count: usize,
     pub fields: [u32; 32],
 }
 
-// The values of the rows that are not reserved.
+// The values of the rows that are not reserved. `take_rows` goes the other way: the arrays are exchanged, which no type
+// or constant can say.
 pub fn show_rows(values: [u32; 24], span: Span) -> Shown
     ensures { result ≡ shown_in (rows_from span.first span.count) values }
 {

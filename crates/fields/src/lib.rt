@@ -20,7 +20,7 @@ use panel::{read_state, write_state};
 use rows::Refusal;
 use tables::{refused_at, refused_by};
 
-// A state: its kind's number, how many fields are not reserved, and their values, then zeros.
+// A state: its kind's number, how many fields are not reserved, and their values, then zeros, as C takes them.
 #[derive(Clone, Copy)]
 pub struct Plain {
     pub kind: u32,

@@ -1,4 +1,4 @@
-// Widths and places of objects.
+// Widths and places of objects. They take kinds and their bound, no plan, since callers also have parts of its kinds.
 ghost use Rattle.std.specs.Prelude.{◌≡◌, ◌≤◌, length};
 ghost use Rattle.history.specs.Image.{widths};
 ghost use Rattle.forms.specs.Places.{place_in};

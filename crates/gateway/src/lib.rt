@@ -158,7 +158,8 @@ pub fn shefumbari_turn_back(table: &[u8], list: &[u8], out: &mut [u8], answer: &
     *answer = answer_slots(changes::turn_back(table, list, out));
 }
 
-// The lent standing has the tallies applied, late, gap and other.
+// The lent standing has the tallies applied, late, gap and other. This and the next are alike but for the call: C has a
+// name for each.
 pub fn shefumbari_receive(
     table: &[u8],
     image: &[u8],

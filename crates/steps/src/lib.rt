@@ -108,7 +108,7 @@ fn said_if(named: bool, entries: &[u8], at: usize, width: usize) -> Change
     )
 }
 
-// What the entries from a place on say of the object; only the first is looked at.
+// What the entries from a place on say of the object; only the first is looked at. Alike to `next` by chance alone.
 pub fn change_at(entries: &[u8], at: usize, object: usize, width: usize) -> Change
     requires { (at ≤ length entries.now) × (width ≤ 4) }
     ensures { result ≡ change_at object width (drop at entries.now) }

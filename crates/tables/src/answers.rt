@@ -45,7 +45,7 @@ pub fn accepted() -> Answer
     refused(0)
 }
 
-// Success: this many bytes are written.
+// Success: this many bytes are written. It and `short` say what their callers mean; they share all but the code.
 pub fn written(bytes: u32) -> Answer
     ensures { result ≡ unnamed 0 bytes }
 {
