@@ -71,10 +71,9 @@ pub table_puts : (b a out : List ℕ) {x : Answer} → Err x ≡ given (λ (p : 
 table_puts b a out e = image_puts b a out (table_refused (image_starts b a) (λ i. tt) e)
 
 -- o is what is read of the table, and p the plan that is lent from there
-module _ (b : List ℕ) {o p : Plan} (o-is : Ok o ≡ given (λ (p : Plan). p) (read_plan b)) (p-is : p ≡ o) where
-  pub refused_image : (a out : List ℕ) {x : Answer} → Err x ≡ checked (read_image p a)
-      → Puts (text_of (read_both b a)) out (Err x) out
-  refused_image a out e = image_puts b a out (e ∙ ap checked (under_plan (image_starts b a) o-is p-is))
+pub refused_image : (b : List ℕ) {o p : Plan} → Ok o ≡ given (λ (p : Plan). p) (read_plan b) → p ≡ o
+    → (a out : List ℕ) {x : Answer} → Err x ≡ checked (read_image p a) → Puts (text_of (read_both b a)) out (Err x) out
+refused_image b o-is p-is a out e = image_puts b a out (e ∙ ap checked (under_plan (image_starts b a) o-is p-is))
 
 -- ---- an accepted table and image
 
