@@ -18,7 +18,7 @@ use Rattle.history.specs.Image.{Image, words_bytes, read_image, Every, admits}
 use Rattle.history.specs.Calls.{read_plan, image_call}
 use Rattle.history.proofs.VerdictLaws.{used}
 use Rattle.history.proofs.TableLaws.{table_is}
-use Rattle.history.proofs.OutputLaws.{given_done, puts_as, refused_puts, written_puts}
+use Rattle.history.proofs.OutputLaws.{puts_as, refused_puts, written_puts}
 use Rattle.heads.specs.Heads.{objects_place, image_head, position_in, elements_in}
 use Rattle.heads.proofs.Parts.{written_objects, position_in_lem, elements_in_lem, image_inside}
 use Rattle.tables.proofs.AnswerLaws.{told_then}
@@ -71,15 +71,9 @@ pub table_puts : (b a out : List ℕ) {x : Answer} → Err x ≡ given (λ (p : 
 table_puts b a out e = image_puts b a out (table_refused (image_starts b a) (λ i. tt) e)
 
 -- o is what is read of the table, and p the plan that is lent from there
-module _ (b : List ℕ) {o p : Plan} (o-is : Ok o ≡ given (λ (p : Plan). p) (read_plan b)) (p-is : p ≡ o) where
-  pub refused_image : (a out : List ℕ) {x : Answer} → Err x ≡ checked (read_image p a)
-      → Puts (text_of (read_both b a)) out (Err x) out
-  refused_image a out e = image_puts b a out (e ∙ ap checked (under_plan (image_starts b a) o-is p-is))
-
-  pub ready : {a : List ℕ} → Ok tt ≡ checked (read_image p a) → Ready b a p
-  ready e =
-      let q = given_done (read_plan b) (λ (p : Plan). p) o-is in
-      record { plan = q.1 ∙ ap done (q.2 ∙ sym p-is); image = e }
+pub refused_image : (b : List ℕ) {o p : Plan} → Ok o ≡ given (λ (p : Plan). p) (read_plan b) → p ≡ o
+    → (a out : List ℕ) {x : Answer} → Err x ≡ checked (read_image p a) → Puts (text_of (read_both b a)) out (Err x) out
+refused_image b o-is p-is a out e = image_puts b a out (e ∙ ap checked (under_plan (image_starts b a) o-is p-is))
 
 -- ---- an accepted table and image
 

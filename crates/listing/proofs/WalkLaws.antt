@@ -6,7 +6,7 @@ use native.Mathlib.Omega.{arith}
 use native.Mathlib.Nat.{add-zero}
 use native.Mathlib.Numerals.{add-one}
 use mathlib.Core.Path.{◌≡◌, refl, sym, ap, ap₂, ◌∙◌, subst⁻¹}
-use mathlib.Core.List.{List, [], ◌∷◌, ◌++◌, append_assoc, append-nil}
+use mathlib.Core.List.{List, [], ◌∷◌, ◌++◌, append_assoc}
 use lib.ListN.{length, take, drop, get_or, length-append, length-drop}
 use lib.Seq.{drop-drop, get_or-drop, take-append_seam, drop-append_seam}
 use Rattle.octets.specs.Octets.{bytes}
@@ -16,7 +16,7 @@ use Rattle.kinds.specs.declared.Kind.{Kind}
 use Rattle.history.specs.Table.{Object, Plan, objects_bytes, kind_at}
 use Rattle.history.specs.Image.{words_bytes, Every, and, admits}
 use Rattle.heads.specs.Heads.{objects_place, elements_in}
-use Rattle.forms.proofs.KindLaws.{kinds_next, kinds_end}
+use Rattle.forms.proofs.KindLaws.{kinds_next}
 use Rattle.text.specs.Grew.{Grew}
 use Rattle.text.specs.declared.Page.{Page}
 use Rattle.text.proofs.Laws.{grew_then}
@@ -89,10 +89,6 @@ module _ (b a : List ℕ) (entry place : ℕ) {k : Kind} {ks : List Kind} (i : �
       subst⁻¹ (λ (js : List Kind). Ahead b a js os ws entry place → Next b a k ks i entry place (lines_of i os js ws)) e
       (λ h. next_of os h.entries h.elements h.each h.count h.inside)
 
-lines_none : (i : ℕ) (os : List Object) (ws : List ℕ) → lines_of i os [] ws ≡ []
-lines_none i [] ws = refl
-lines_none i (o ∷ os) ws = refl
-
 two_each : (os : List Object) → 2 * length os ≤ length (objects_bytes os)
 two_each [] = omega arith
 two_each (o ∷ os) = omega (arith, two_each os, length-append o.label (objects_bytes os))
@@ -143,15 +139,6 @@ begin {b} {a} {p} ready hb ha elements e entry f page h =
 
 module _ {b a : List ℕ} {ns : List Kind} {elements : List ℕ} {page₀ page : Page} {entry place i : ℕ}
     (l : Walked b a ns elements page₀ page entry place i) where
-  pub ended : length ns ≤ i → Grew page₀ (lines_in (read_both b a)) page
-  ended h =
-      let last : lines_of i l.objects (drop i ns) l.words ≡ [] =
-      ap (λ (ks : List Kind). lines_of i l.objects ks l.words) (kinds_end ns i h)
-      ∙ lines_none i l.objects l.words in
-      let all : lines_in (read_both b a) ≡ l.written =
-      l.whole ∙ ap (λ (r : List ℕ). l.written ++ r) last ∙ append-nil l.written in
-      rw all l.so_far
-
   -- an entry has at least two bytes
   pub entries_left : 2 * (length ns - i) ≤ length b - entry
   entries_left =
