@@ -47,7 +47,7 @@ pub stays : {A B : Type 0} (v : Verdict A) (before : A) (g : A → B) {a : Answe
 stays (refused x) before g e = refl
 stays (done b) before g e = absurd (let z : ◌≡◌ {A = ℕ} 0 1 = cc in omega arith)
 
--- how long an accepted image is, from the layout numbers that the code has
+-- how long an accepted image is, from the kinds that the code has
 module _ {x y : ℕ} (ns : List Kind) {A : List ℕ} (a : AcceptedImage (plan_with x y ns) A) where
   pub image_sized : length A ≡ image_head A + widths ns
   image_sized = image_length a

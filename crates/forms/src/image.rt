@@ -17,7 +17,7 @@ pub fn check_image(table: &[u8], image: &[u8]) -> Answer
     read_image(table, image).into()
 }
 
-// What `check_image` gives as numbers.
+// As `check_image`, with a result for its numbers.
 fn read_image(table: &[u8], image: &[u8]) -> Result<(), Answer>
     ensures { result ≡ checked (image_call table.now image.now) }
 {

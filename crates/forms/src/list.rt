@@ -18,7 +18,7 @@ pub fn check_list(table: &[u8], list: &[u8]) -> Answer
     read_list(table, list).into()
 }
 
-// What `check_list` gives as numbers.
+// As `check_list`, with a result for its numbers.
 fn read_list(table: &[u8], list: &[u8]) -> Result<(), Answer>
     ensures { result ≡ checked (list_call table.now list.now) }
 {

@@ -65,7 +65,7 @@ pub fn label<W: Write>(to: &mut W, line: &[u8], table: &[u8]) -> io::Result<()> 
     print_answer(to, view::label_answer(table, object))?;
     print(to, b" offset=")?;
     let offset = tables::label_place(table, object).map_or(0, |label| label.offset);
-    print_number(to, (offset % 4294967296) as u64)?;
+    print_number(to, offset as u64)?;
     print(to, b" label=")?;
     print_hex(to, view::table_label(table, object))
 }

@@ -120,7 +120,7 @@ pub fn decimal(text: &[u8], from: usize) -> u32
     value
 }
 
-// Numbers with commas between. Places after the last hold whatever reading on gives.
+// Numbers with commas between, then zeros.
 pub fn numbers(text: &[u8], from: usize) -> [u32; 32]
     ensures { AreNumbers (drop from text.now) result }
 {

@@ -75,10 +75,7 @@ pub fn names(entries: &[u8], at: usize, object: usize, width: usize) -> bool
 pub fn count_if(named: bool) -> usize
     ensures { (result ≡ count_if named) × (result ≤ 1) }
 {
-    if !named {
-        return 0;
-    }
-    1
+    named as usize
 }
 
 // How many bytes the entry takes: its number and two elements, or none.
