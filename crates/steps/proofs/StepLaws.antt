@@ -79,9 +79,11 @@ said_swap e w p l o m =
     let s : p + (2 + w) ≡ p + 2 + w = omega arith in
     rw (e, drop-drop 2 p l, drop-drop (2 + w) p l, s, o, m)
 
-pub said_at : (i w : ℕ) (b : List ℕ) {t : Bool} {c : Change} → t ≡ names i w b → c ≡ said_if t w b → c ≡ change_at i w b
+pub said_here : (i w p : ℕ) (l : List ℕ) {t : Bool} {m : List ℕ} {q v : ℕ} {c : Change} → t ≡ names i w (drop p l)
+    → m ≡ l → q ≡ p → v ≡ w → c ≡ said_if t v (drop q m)
+    → c ≡ change_at i w (drop p l)
 unfolding change_at
-said_at i w b e f = f ∙ ap (λ (u : Bool). said_if u w b) e
+said_here i w p l e em eq ev ec = rw (ec, em, eq, ev, e)
 
 -- there is an entry exactly where the elements differ
 pub differ_swap : (old new : ℕ) → not (eqb old new) ≡ is_swap (differ old new)
@@ -93,24 +95,24 @@ differ_swap old new = differs (eqb old new)
 
 -- ---- an object in both of two lists
 
-module _ {one other : Bool} (e : one ≡ true) (g : other ≡ true) (w p q : ℕ) (f s : List ℕ) where
-  places : (n : ℕ) → n + (2 + w) ≡ n + 2 + w
-  places n = omega arith
+module _ {one other : Bool} (e : one ≡ true) (g : other ≡ true) (w v p q : ℕ) (f s : List ℕ) where
+  places : (n m : ℕ) → n + (2 + m) ≡ n + 2 + m
+  places n m = omega arith
 
-  pub both_meet : {new old : ℕ} → new ≡ number (take w (drop (p + 2 + w) f)) → old ≡ number (take w (drop (q + 2) s))
-      → eqb new old ≡ meets (said_if one w (drop p f)) (said_if other w (drop q s))
-  both_meet a b = rw (e, g, drop-drop (2 + w) p f, places p, drop-drop 2 q s, a, b)
+  pub both_meet : {new old : ℕ} → new ≡ number (take w (drop (p + 2 + w) f)) → old ≡ number (take v (drop (q + 2) s))
+      → eqb new old ≡ meets (said_if one w (drop p f)) (said_if other v (drop q s))
+  both_meet a b = rw (e, g, drop-drop (2 + w) p f, places p w, drop-drop 2 q s, a, b)
 
   module _ {old new : ℕ} (a : old ≡ number (take w (drop (p + 2) f)))
-      (b : new ≡ number (take w (drop (q + 2 + w) s))) where
-    both_are : joined (said_if one w (drop p f)) (said_if other w (drop q s)) ≡ differ old new
-    both_are = rw (e, g, drop-drop 2 p f, drop-drop (2 + w) q s, places q, a, b)
+      (b : new ≡ number (take v (drop (q + 2 + v) s))) where
+    both_are : joined (said_if one w (drop p f)) (said_if other v (drop q s)) ≡ differ old new
+    both_are = rw (e, g, drop-drop 2 p f, drop-drop (2 + v) q s, places q v, a, b)
 
-    pub both_join : not (eqb old new) ≡ is_swap (joined (said_if one w (drop p f)) (said_if other w (drop q s)))
+    pub both_join : not (eqb old new) ≡ is_swap (joined (said_if one w (drop p f)) (said_if other v (drop q s)))
     both_join = differ_swap old new ∙ sym (ap is_swap both_are)
 
     pub both_joined : {r : Change} → r ≡ differ old new
-        → r ≡ joined (said_if one w (drop p f)) (said_if other w (drop q s))
+        → r ≡ joined (said_if one w (drop p f)) (said_if other v (drop q s))
     both_joined p = p ∙ sym both_are
 
 -- ---- the step

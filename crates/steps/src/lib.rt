@@ -60,8 +60,33 @@ pub fn first_named(entries: &[u8], at: usize, object: usize, end: usize) -> usiz
 
 // ---- what is said of an object
 
+// Whether a list names an object, and where its entry is.
+#[derive(Clone, Copy)]
+pub struct Said<'a> {
+    pub named: bool,
+    pub entries: &'a [u8],
+    pub at: usize,
+    pub width: usize,
+    pub ghost inside: { at + size_if named width ≤ length entries.now },
+    pub ghost narrow: { width ≤ 4 },
+}
+
+// What the entries from a place on say of the object, not read yet.
+pub fn look_at(entries: &[u8], at: usize, object: usize, width: usize) -> Said<'_>
+    requires { (at ≤ length entries.now) × (width ≤ 4) }
+    ensures { (result.named ≡ names object width (drop at entries.now)) × (result.entries.now ≡ entries.now)
+        × (result.at ≡ at) × (result.width ≡ width) }
+{
+    Said {
+        named: names(entries, at, object, width),
+        entries,
+        at,
+        width,
+    }
+}
+
 // Whether the entry at a place is whole and names the object.
-pub fn names(entries: &[u8], at: usize, object: usize, width: usize) -> bool
+fn names(entries: &[u8], at: usize, object: usize, width: usize) -> bool
     requires { (at ≤ length entries.now) × (width ≤ 4) }
     ensures { result ≡ names object width (drop at entries.now) }
 {
@@ -90,18 +115,17 @@ pub fn size_if(named: bool, width: usize) -> usize
 }
 
 // What the entry says: its old and its new element, or that the object keeps its own.
-fn said_if(named: bool, entries: &[u8], at: usize, width: usize) -> Change
-    requires { (at + size_if named width ≤ length entries.now) × (width ≤ 4) }
-    ensures { result ≡ said_if named width (drop at entries.now) }
+fn said_if(said: Said<'_>) -> Change
+    ensures { result ≡ said_if said.entry.named said.entry.width (drop said.entry.at said.entry.entries.now) }
 {
-    if !named {
+    if !said.named {
         return Change::Keep;
     }
-    let middle = at + 2;
-    let last = middle + width;
+    let middle = said.at + 2;
+    let last = middle + said.width;
     Change::Swap(
-        octets::get_at(entries, middle, width),
-        octets::get_at(entries, last, width),
+        octets::get_at(said.entries, middle, said.width),
+        octets::get_at(said.entries, last, said.width),
     )
 }
 
@@ -110,90 +134,59 @@ pub fn change_at(entries: &[u8], at: usize, object: usize, width: usize) -> Chan
     requires { (at ≤ length entries.now) × (width ≤ 4) }
     ensures { result ≡ change_at object width (drop at entries.now) }
 {
-    let named = names(entries, at, object, width);
-    said_if(named, entries, at, width)
+    said_if(look_at(entries, at, object, width))
 }
 
 // ---- an object in two lists, where it is known which of them name it:
 // elements are read only where they are compared or kept
 
 // Whether the lists agree on the object: if both name it, the first's new must be the second's old.
-pub fn meet_at(
-    one: bool,
-    other: bool,
-    width: usize,
-    first: &[u8],
-    near: usize,
-    second: &[u8],
-    far: usize,
-) -> bool
-    requires { (near + size_if one width ≤ length first.now) × (far + size_if other width ≤ length second.now)
-        × (width ≤ 4) }
-    ensures { result ≡ meets (said_if one width (drop near first.now))
-        (said_if other width (drop far second.now)) }
+pub fn meet_at(one: Said<'_>, other: Said<'_>) -> bool
+    ensures { result ≡ meets (said_if one.entry.named one.entry.width (drop one.entry.at one.entry.entries.now))
+        (said_if other.entry.named other.entry.width (drop other.entry.at other.entry.entries.now)) }
 {
-    if !one {
+    if !one.named {
         return true;
     }
-    if !other {
+    if !other.named {
         return true;
     }
-    let new = octets::get_at(first, near + 2 + width, width);
-    let old = octets::get_at(second, far + 2, width);
+    let new = octets::get_at(one.entries, one.at + 2 + one.width, one.width);
+    let old = octets::get_at(other.entries, other.at + 2, other.width);
     new == old
 }
 
 // Whether the join names the object: not if neither list does, nor if both do and the first's old is the second's new.
-pub fn join_names(
-    one: bool,
-    other: bool,
-    width: usize,
-    first: &[u8],
-    near: usize,
-    second: &[u8],
-    far: usize,
-) -> bool
-    requires { (near + size_if one width ≤ length first.now) × (far + size_if other width ≤ length second.now)
-        × (width ≤ 4) }
+pub fn join_names(one: Said<'_>, other: Said<'_>) -> bool
     ensures { result ≡ is_swap
-        (joined (said_if one width (drop near first.now))
-        (said_if other width (drop far second.now))) }
+        (joined (said_if one.entry.named one.entry.width (drop one.entry.at one.entry.entries.now))
+        (said_if other.entry.named other.entry.width (drop other.entry.at other.entry.entries.now))) }
 {
-    if !one {
-        return other;
+    if !one.named {
+        return other.named;
     }
-    if !other {
+    if !other.named {
         return true;
     }
-    let old = octets::get_at(first, near + 2, width);
-    let new = octets::get_at(second, far + 2 + width, width);
+    let old = octets::get_at(one.entries, one.at + 2, one.width);
+    let new = octets::get_at(other.entries, other.at + 2 + other.width, other.width);
     old != new
 }
 
 // The object's change in the join. In both lists: the first's old and the second's new, dropped if these are equal;
 // in one: copied.
-pub fn join_change(
-    one: bool,
-    other: bool,
-    width: usize,
-    first: &[u8],
-    near: usize,
-    second: &[u8],
-    far: usize,
-) -> Change
-    requires { (near + size_if one width ≤ length first.now) × (far + size_if other width ≤ length second.now)
-        × (width ≤ 4) }
-    ensures { result ≡ joined (said_if one width (drop near first.now))
-        (said_if other width (drop far second.now)) }
+pub fn join_change(one: Said<'_>, other: Said<'_>) -> Change
+    ensures { result ≡ joined (said_if one.entry.named one.entry.width (drop one.entry.at one.entry.entries.now))
+        (said_if other.entry.named other.entry.width (drop other.entry.at other.entry.entries.now)) }
 {
-    if !one {
-        return said_if(other, second, far, width);
+    if !one.named {
+        return said_if(other);
     }
-    if !other {
-        return said_if(one, first, near, width);
+    if !other.named {
+        return said_if(one);
     }
-    let before = octets::get_at(first, near + 2, width);
-    let after = octets::get_at(second, far + 2 + width, width);
+    let before = octets::get_at(one.entries, one.at + 2, one.width);
+    let after = octets::get_at(other.entries, other.at + 2 + other.width, other.width);
     differ(before, after)
 }
 

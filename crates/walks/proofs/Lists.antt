@@ -90,26 +90,43 @@ module _ (l : List ℕ) (p i w : ℕ) {t : Bool} {m : ℕ} (h : p ≤ length l) 
   pub cursor_inside : p + m ≤ length l
   cursor_inside = omega (arith, names_inside l p i w h e, em.0)
 
-module _ {ks : List Kind} {f s : List ℕ} {p q i w : ℕ} {one other : Bool} (h : i < length ks)
-    (ew : w ≡ width_of (kind_at ks i)) (eo : one ≡ names i w (drop p f))
-    (es : other ≡ names i w (drop q s)) where
+-- what is said of an object, where it is read from copies
+said_same : (i : ℕ) {t : Bool} {b l : List ℕ} {w p p₁ w₁ : ℕ}
+    → (t ≡ names i w (drop p l)) × (b ≡ l) × (p₁ ≡ p) × (w₁ ≡ w)
+    → said_if t w₁ (drop p₁ b) ≡ said_if t w (drop p l)
+said_same i e = rw (e.1, e.2, e.3)
+
+module _ {ks : List Kind} {f s f₁ s₁ : List ℕ} {p q i w p₁ q₁ w₁ w₂ : ℕ} {one other : Bool} (h : i < length ks)
+    (ew : w ≡ width_of (kind_at ks i))
+    (eo : (one ≡ names i w (drop p f)) × (f₁ ≡ f) × (p₁ ≡ p) × (w₁ ≡ w))
+    (es : (other ≡ names i w (drop q s)) × (s₁ ≡ s) × (q₁ ≡ q) × (w₂ ≡ w)) where
   module _ {count size : ℕ} (z : Sizing Walk.Join ks f s count size p q i) {t : Bool}
-      (et : t ≡ meets (said_if one w (drop p f)) (said_if other w (drop q s))) where
+      (et : t ≡ meets (said_if one w₁ (drop p₁ f₁)) (said_if other w₂ (drop q₁ s₁))) where
+    met : t ≡ meets (said_if one w (drop p f)) (said_if other w (drop q s))
+    met = rw (et, said_same i eo, said_same i es)
+
+    same : {kept : Bool} → kept ≡ is_swap (joined (said_if one w₁ (drop p₁ f₁)) (said_if other w₂ (drop q₁ s₁)))
+        → kept ≡ is_swap (joined (said_if one w (drop p f)) (said_if other w (drop q s)))
+    same e = rw (e, said_same i eo, said_same i es)
+
     pub join_until : t ≡ false → i ≡ misfit Walk.Join 0 ks f s
-    join_until b = misfit_here z.seek h ew (join_step z.seek.near z.seek.far eo es refl et refl refl) b
+    join_until b = misfit_here z.seek h ew (join_step z.seek.near z.seek.far eo.0 es.0 refl met refl refl) b
 
     pub join_sized : t ≡ true → {kept : Bool}
-        → kept ≡ is_swap (joined (said_if one w (drop p f)) (said_if other w (drop q s)))
+        → kept ≡ is_swap (joined (said_if one w₁ (drop p₁ f₁)) (said_if other w₂ (drop q₁ s₁)))
         → {m n k l : ℕ} → (m ≡ count_if kept) × (m ≤ 1) → (n ≡ size_if kept w) × (n ≤ 10)
         → (k ≡ size_if one w) × (k ≤ 10)
         → (l ≡ size_if other w) × (l ≤ 10)
         → {j : ℕ} → AllIdle Walk.Join (i + 1) j (length ks) (drop (p + k) f) (drop (q + l) s)
         → Sizing Walk.Join ks f s (count + m) (size + n) (p + k) (q + l) j
     join_sized b e em en ek el d =
-        one_sized z h ew (join_step z.seek.near z.seek.far eo es refl et ek.0 el.0) b e em en d
+        one_sized z h ew (join_step z.seek.near z.seek.far eo.0 es.0 refl met ek.0 el.0) b (same e) em en d
 
   module _ {part₀ part : List ℕ} {at n : ℕ} (z : Putting Walk.Join ks f s part₀ part at p q i) {c : Change}
-      (ec : c ≡ joined (said_if one w (drop p f)) (said_if other w (drop q s))) (en : n ≡ span w c) where
+      (ec : c ≡ joined (said_if one w₁ (drop p₁ f₁)) (said_if other w₂ (drop q₁ s₁))) (en : n ≡ span w c) where
+    change : c ≡ joined (said_if one w (drop p f)) (said_if other w (drop q s))
+    change = rw (ec, said_same i eo, said_same i es)
+
     joint : Stepped Walk.Join i w f p s q
         (record {
           change = c;
@@ -117,7 +134,7 @@ module _ {ks : List Kind} {f s : List ℕ} {p q i w : ℕ} {one other : Bool} (h
           first = size_if one w;
           second = size_if other w;
         })
-    joint = join_step z.near z.far eo es ec refl refl refl
+    joint = join_step z.near z.far eo.0 es.0 change refl refl refl
 
     pub join_inside : at + n ≤ length part
     join_inside = put_inside z h ew joint en
@@ -126,7 +143,7 @@ module _ {ks : List Kind} {f s : List ℕ} {p q i w : ℕ} {one other : Bool} (h
         → (l ≡ size_if other w) × (l ≤ 10)
         → {j : ℕ} → AllIdle Walk.Join (i + 1) j (length ks) (drop (p + k) f) (drop (q + l) s)
         → Putting Walk.Join ks f s part₀ (put_mid at (at + n - at) part ys) (at + n) (p + k) (q + l) j
-    join_put y ek el d = one_put z h ew (join_step z.near z.far eo es ec refl ek.0 el.0) en y d
+    join_put y ek el d = one_put z h ew (join_step z.near z.far eo.0 es.0 change refl ek.0 el.0) en y d
 
 -- ---- turning back: what the list says of the object
 

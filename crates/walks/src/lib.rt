@@ -57,16 +57,16 @@ pub fn measure_join(plan: Plan<'_>, first: &[u8], second: &[u8]) -> Result<Size,
     // `while` here and below: `next` jumps to the object that a list names, and a `for` can't jump
     while i < plan.kinds.len() {
         let width = elements::width(plan.kinds[i]);
-        let one = steps::names(first, near, i, width);
-        let other = steps::names(second, far, i, width);
-        if !steps::meet_at(one, other, width, first, near, second, far) {
+        let one = steps::look_at(first, near, i, width);
+        let other = steps::look_at(second, far, i, width);
+        if !steps::meet_at(one, other) {
             return Err(i);
         }
-        let kept = steps::join_names(one, other, width, first, near, second, far);
+        let kept = steps::join_names(one, other);
         count += steps::count_if(kept);
         bytes += steps::size_if(kept, width);
-        near += steps::size_if(one, width);
-        far += steps::size_if(other, width);
+        near += steps::size_if(one.named, width);
+        far += steps::size_if(other.named, width);
         i = steps::next(i + 1, plan.kinds.len(), first, near, second, far);
     }
     Ok(Size { count, bytes })
@@ -122,14 +122,14 @@ fn put_joined(part: &mut [u8], plan: Plan<'_>, first: &[u8], second: &[u8])
     let mut i: usize = 0;
     while i < plan.kinds.len() {
         let width = elements::width(plan.kinds[i]);
-        let one = steps::names(first, near, i, width);
-        let other = steps::names(second, far, i, width);
-        let change = steps::join_change(one, other, width, first, near, second, far);
+        let one = steps::look_at(first, near, i, width);
+        let other = steps::look_at(second, far, i, width);
+        let change = steps::join_change(one, other);
         let end = at + steps::span(width, change);
         steps::put_change(&mut part[at..end], i as u32, width, change);
         at = end;
-        near += steps::size_if(one, width);
-        far += steps::size_if(other, width);
+        near += steps::size_if(one.named, width);
+        far += steps::size_if(other.named, width);
         i = steps::next(i + 1, plan.kinds.len(), first, near, second, far);
     }
 }

@@ -2,34 +2,26 @@
 -- the measure is the objects left.
 -- Assumes nothing.
 use native.Mathlib.Omega.{arith}
-use borrow.Author.Rules.{rules}
-use Rattle.steps.proofs.StepLaws.{names_inside}
 use Rattle.walks.proofs.Rounds.{all_agree, all_measured}
 use Rattle.walks.proofs.Lists.{cursor_inside, join_until, join_sized}
 use Rattle.walks.proofs.measure_join.Goals as goal
 
-pub meet_at-requires : goal.meet_at-requires
-meet_at-requires c = (search names_inside, search names_inside, search rules)
-
 pub returns-then-not-meet_at-clause-lowest : goal.returns-then-not-meet_at-clause-lowest
 returns-then-not-meet_at-clause-lowest c = (
-  join_until c.loop-i-test.true c.width-width.ensures.0 c.names-one.ensures c.names-other.ensures
+  join_until c.loop-i-test.true c.width-width.ensures.0 c.look_at-one.ensures c.look_at-other.ensures
       c.loop-i.invariant c.meet_at.ensures c.if-not-meet_at.true,
   c.loop-i-test.true,
 )
 
-pub join_names-kept-requires : goal.join_names-kept-requires
-join_names-kept-requires c = (search names_inside, search names_inside, search rules)
-
 pub next-i-requires : goal.next-i-requires
 next-i-requires c = let inv = c.loop-i.invariant in (
-  cursor_inside _ _ _ _ inv.seek.near c.names-one.ensures c.size_if-near.ensures,
-  cursor_inside _ _ _ _ inv.seek.far c.names-other.ensures c.size_if-far.ensures,
+  cursor_inside _ _ _ _ inv.seek.near c.look_at-one.ensures.0 c.size_if-near.ensures,
+  cursor_inside _ _ _ _ inv.seek.far c.look_at-other.ensures.0 c.size_if-far.ensures,
   omega (arith, c),
 )
 
 pub loop-i-preserved : goal.loop-i-preserved
-loop-i-preserved c = join_sized c.loop-i-test.true c.width-width.ensures.0 c.names-one.ensures c.names-other.ensures
+loop-i-preserved c = join_sized c.loop-i-test.true c.width-width.ensures.0 c.look_at-one.ensures c.look_at-other.ensures
     c.loop-i.invariant c.meet_at.ensures c.if-not-meet_at.false
     c.join_names-kept.ensures c.count_if-count.ensures c.size_if-bytes.ensures c.size_if-near.ensures
     c.size_if-far.ensures c.next-i.ensures
