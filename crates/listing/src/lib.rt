@@ -6,14 +6,14 @@ mod both;
 mod lines;
 
 ghost use Rattle.std.specs.Prelude.{◌≤◌, length};
-ghost use Rattle.history.specs.Verdict.{done, Leaves, Puts};
+ghost use Rattle.history.specs.Verdict.{Leaves, Puts};
 ghost use Rattle.listing.specs.Listing.{listing_call};
 ghost use Rattle.listing.specs.Output.{ListedInto};
 
 use both::put_panel;
 use history::Answer;
 use lines::put_refusal;
-use tables::{refused, short};
+use tables::{put_front, refused};
 use text::Page;
 
 // The most bytes of input that are accepted; also the bytes that every listing fits in.
@@ -73,17 +73,4 @@ fn put_listing(input: &[u8], out: &mut [u8]) -> Result<u32, Answer>
         return Err(refused(1));
     }
     put_panel(&input[..size], &input[size..], out)
-}
-
-// Copies the text to the front of the output, or refuses with 21.
-fn put_front(out: &mut [u8], text: &[u8]) -> Result<u32, Answer>
-    requires { length text.now ≤ 65536 }
-    ensures { Puts (done text.now) out.old result out.new }
-{
-    let size = text.len();
-    if out.len() < size {
-        return Err(short(size as u32));
-    }
-    out[..size].copy_from_slice(text);
-    Ok(size as u32)
 }

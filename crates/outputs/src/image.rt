@@ -1,7 +1,7 @@
 // An image changed in place: a list's entries are taken into it, or one element is put; then its position is set. An
 // image for an output is first copied to its front, and the copy is changed.
-ghost use Rattle.std.specs.Prelude.{◌≡◌, ◌+◌, ◌^◌, ◌≤◌, ◌<◌, ◌++◌, length, drop, IfOk, IfErr};
-ghost use Rattle.history.specs.Verdict.{done, unnamed, Puts};
+ghost use Rattle.std.specs.Prelude.{◌≡◌, ◌+◌, ◌≤◌, ◌<◌, length};
+ghost use Rattle.history.specs.Verdict.{done, Puts};
 ghost use Rattle.history.specs.Image.{widths};
 ghost use Rattle.heads.specs.Heads.{image_head, elements_in};
 ghost use Rattle.heads.specs.Written.{with_elements};
@@ -9,7 +9,7 @@ ghost use Rattle.outputs.specs.Outputs.{image_after, image_with};
 
 use forms::place_of;
 use history::Answer;
-use tables::{Plan, short};
+use tables::{Plan, put_front};
 
 // Writes the image after the entries, at position `to`, to the front of the output.
 pub fn write_image(
@@ -23,7 +23,7 @@ pub fn write_image(
     ensures { Puts (done (image_after plan.entry.kinds.now to entries.now image.now))
         out.old result out.new }
 {
-    let size = copy_image(image, out)?;
+    let size = put_front(out, image)?;
     take_entries(&mut out[..size as usize], plan, to, entries);
     Ok(size)
 }
@@ -42,25 +42,9 @@ pub fn write_element(
     ensures { Puts (done (image_with plan.entry.kinds.now to object word image.now))
         out.old result out.new }
 {
-    let size = copy_image(image, out)?;
+    let size = put_front(out, image)?;
     put_element(&mut out[..size as usize], plan, to, object, word);
     Ok(size)
-}
-
-// Copies the image to the front of the output, where it is then changed.
-fn copy_image(image: &[u8], out: &mut [u8]) -> Result<u32, Answer>
-    requires { length image.now < 2 ^ 32 }
-    ensures no_room { IfErr result (λ a. (a ≡ unnamed 21 (length image.now)) × (length out.old < length image.now)
-        × (out.new ≡ out.old)) }
-    ensures copied { IfOk result (λ n. (n ≡ length image.now) × (n ≤ length out.old)
-        × (out.new ≡ image.now ++ drop n out.old)) }
-{
-    let size = image.len();
-    if out.len() < size {
-        return Err(short(size as u32));
-    }
-    octets::copy(&mut out[..size], image);
-    Ok(size as u32)
 }
 
 // Takes a list's entries, and the position that it reaches, into the image.

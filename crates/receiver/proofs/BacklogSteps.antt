@@ -46,40 +46,40 @@ module _ (p : Plan) (A b out : List ℕ) (s : Standing) {a : Answer} {r : Advanc
       let f = refused_told (read_image p A) _ e in
       rw f.1 (n ∙ ap (λ (a : Answer). advance_of (nothing_taken [] s a)) f.2, refl)
 
-  pub no_room : AcceptedImage p A → length out < length A → a ≡ unnamed 21 (length A)
-      → Advances (backlog_under p A b out s) r out
+  pub no_room : AcceptedImage p A → {m : List ℕ} → (a ≡ unnamed 21 (length A)) × (length out < length A) × (m ≡ out)
+      → Advances (backlog_under p A b out s) r m
   unfolding backlog_under
-  no_room i h e =
-      rw (i.reads, lt-leb (length A) (length out) h)
-      (n ∙ ap (λ (a : Answer). advance_of (nothing_taken [] s a)) e, refl)
+  no_room i q =
+      rw (i.reads, lt-leb (length A) (length out) q.1)
+      (n ∙ ap (λ (a : Answer). advance_of (nothing_taken [] s a)) q.0, q.2)
 
 -- ---- the copy at the front of the output
 
-module _ (A out : List ℕ) {cs : List ℕ} (c : cs ≡ A) where
-  copy_is : take (length A) (cs ++ drop (length A) out) ≡ A
-  copy_is = take_at cs _ (length A) (ap length c) ∙ c
+module _ (A out : List ℕ) {n : ℕ} {m : List ℕ} (q : (n ≡ length A) × (n ≤ length out) × (m ≡ A ++ drop n out)) where
+  copy_is : take n m ≡ A
+  copy_is = ap (take n) q.2 ∙ take_at A (drop n out) n (sym q.0)
 
-  copy_rest : drop (length A) (cs ++ drop (length A) out) ≡ drop (length A) out
-  copy_rest = drop_at cs _ (length A) (ap length c)
+  copy_rest : drop n m ≡ drop n out
+  copy_rest = ap (drop n) q.2 ∙ drop_at A (drop n out) n (sym q.0)
 
-  pub copy_accepted : {p : Plan} → AcceptedImage p A → AcceptedImage p (take (length A) (cs ++ drop (length A) out))
+  pub copy_accepted : {p : Plan} → AcceptedImage p A → AcceptedImage p (take n m)
   copy_accepted i = rw copy_is i
 
   -- it takes the lists; what follows it stays
   pub lists_taken : (p : Plan) (b : List ℕ) (s : Standing) → length p.kinds ≤ 1024 → AcceptedImage p A
-      → ((i : ℕ) → Fits w8 (get_or b i 0)) → length A ≤ length out → {r : Advance} {m : List ℕ}
-      → Advances (take_lists p (take (length A) (cs ++ drop (length A) out)) (forms_in b) s 0) r m
-      → Advances (backlog_under p A b out s) r (m ++ drop (length A) (cs ++ drop (length A) out))
+      → ((i : ℕ) → Fits w8 (get_or b i 0)) → {r : Advance} {bs : List ℕ}
+      → Advances (take_lists p (take n m) (forms_in b) s 0) r bs
+      → Advances (backlog_under p A b out s) r (bs ++ drop n m)
   unfolding backlog_under
-  lists_taken p b s few i bytes room {r} {m} q =
+  lists_taken p b s few i bytes {r} {bs} t =
       let fair : Fair p = record { count = few } in
       let g : Backlog = take_lists p A (forms_in b) s 0 in
-      let taken : Advances g r m = rw copy_is at q in
-      let size : length A ≡ length g.output =
-      sym (take_keeps fair (forms_in b) s 0 i (forms_bytes b λ i. (bytes i).fits)) in
+      let taken : Advances g r bs = rw copy_is at t in
+      let size : n ≡ length g.output =
+      q.0 ∙ sym (take_keeps fair (forms_in b) s 0 i (forms_bytes b λ i. (bytes i).fits)) in
       let rest = copy_rest ∙ ap (λ (n : ℕ). drop n out) size in
-      rw (i.reads, le-leb (length A) (length out) room)
-      (taken.0, ap (λ (l : List ℕ). m ++ l) rest ∙ ap (λ (l : List ℕ). l ++ drop (length g.output) out) taken.1)
+      rw (i.reads, le-leb (length A) (length out) (rw (sym q.0) q.1))
+      (taken.0, ap (λ (l : List ℕ). bs ++ l) rest ∙ ap (λ (l : List ℕ). l ++ drop (length g.output) out) taken.1)
 
 -- ---- the table
 

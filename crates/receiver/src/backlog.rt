@@ -12,7 +12,7 @@ use changes::take_under;
 use forms::check_image_under;
 use heads::front_form;
 use history::{Answer, Standing};
-use tables::{Plan, short, with_length, written};
+use tables::{Plan, put_front, with_length, written};
 
 // Checks the image, and that the output has room for it. Then its copy at the front of the output takes the lists.
 pub fn backlog_under(
@@ -29,12 +29,10 @@ pub fn backlog_under(
     if let Err(answer) = check_image_under(plan, image) {
         return none_taken(answer, standing);
     }
-    let size = image.len();
-    if out.len() < size {
-        return none_taken(short(size as u32), standing);
+    match put_front(out, image) {
+        Ok(size) => take_lists(plan, lists, &mut out[..size as usize], standing),
+        Err(answer) => none_taken(answer, standing),
     }
-    octets::copy(&mut out[..size], image);
-    take_lists(plan, lists, &mut out[..size], standing)
 }
 
 // Nothing is taken or counted.

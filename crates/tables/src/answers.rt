@@ -1,7 +1,7 @@
-// The numbers that a call returns, one function for each kind of answer.
-ghost use Rattle.std.specs.Prelude.{◌≡◌};
+// The numbers that a call returns, one function for each kind of answer; and bytes put into an output, which gives one.
+ghost use Rattle.std.specs.Prelude.{◌≡◌, ◌^◌, ◌≤◌, ◌<◌, ◌++◌, length, drop, IfOk, IfErr};
 ghost use Rattle.history.specs.Image.{found_in};
-ghost use Rattle.history.specs.Verdict.{naming, numbers, unnamed, of_length};
+ghost use Rattle.history.specs.Verdict.{naming, numbers, unnamed, of_length, done, Puts};
 
 use history::Answer;
 use rows::Refusal;
@@ -67,6 +67,23 @@ pub fn short(bytes: u32) -> Answer
         bit: 255,
         length: bytes,
     }
+}
+
+// Copies the bytes to the front of the output and says how many they are; 21 if there is no room.
+pub fn put_front(out: &mut [u8], bytes: &[u8]) -> Result<u32, Answer>
+    requires { length bytes.now < 2 ^ 32 }
+    ensures puts { Puts (done bytes.now) out.old result out.new }
+    ensures no_room { IfErr result (λ a. (a ≡ unnamed 21 (length bytes.now)) × (length out.old < length bytes.now)
+        × (out.new ≡ out.old)) }
+    ensures copied { IfOk result (λ n. (n ≡ length bytes.now) × (n ≤ length out.old)
+        × (out.new ≡ bytes.now ++ drop n out.old)) }
+{
+    let size = bytes.len();
+    if out.len() < size {
+        return Err(short(size as u32));
+    }
+    octets::copy(&mut out[..size], bytes);
+    Ok(size as u32)
 }
 
 // The same answer, with another length.

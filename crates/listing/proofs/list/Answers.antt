@@ -18,4 +18,4 @@ pub slice_bounds-put_front-end : goal.slice_bounds-put_front-end
 slice_bounds-put_front-end c = text_sized _ _ zeros_room c.in_ok-size.ensures
 
 pub returns : goal.returns
-returns c = puts_as _ (text_is _ _ zeros_room c.in_ok-size.ensures) c.put_front.ensures
+returns c = puts_as _ (text_is _ _ zeros_room c.in_ok-size.ensures) c.put_front.ensures.puts

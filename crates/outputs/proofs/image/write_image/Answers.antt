@@ -5,8 +5,8 @@ use Rattle.outputs.specs.Outputs.{image_after}
 use Rattle.outputs.proofs.Images.{few_bytes, length_after, not_copied, copied_puts}
 use Rattle.outputs.proofs.image.write_image.Goals as goal
 
-pub copy_image-requires : goal.copy_image-requires
-copy_image-requires c = search few_bytes
+pub put_front-requires : goal.put_front-requires
+put_front-requires c = search few_bytes
 
 pub returns-in_err-size : goal.returns-in_err-size
 returns-in_err-size c =
