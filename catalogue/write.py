@@ -421,8 +421,7 @@ def kinds_source():
     kind = lambda l: f'Kind::{l.struct}'
     text = f'''// The floor of kinds: the kinds of element, one for each layout, the state of any kind, and every function that has an arm
 // for each kind. Written by catalogue/write.py from catalogue/fields.tsv, where a layout is added. It refuses nothing. The floors above
-// read what they need of a kind from its layout. Each arm of a match returns: with arms as values, which meet after the match, reading a
-// state by C takes some 50 instructions more.
+// read what they need of a kind from its layout.
 #![tactic(auto)]
 
 ghost use Rattle.std.specs.Prelude.{{◌≡◌, ◌+◌, ◌≤◌, T, length}};

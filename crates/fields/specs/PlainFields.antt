@@ -3,7 +3,6 @@
 use Rattle.std.specs.Prelude.{ℕ, cond, List, [], ◌∷◌, leb, eqb, length, get_or, drop, Result, Ok, Err}
 use Rattle.rows.specs.Rows.{Row}
 use Rattle.rows.specs.Values.{Finding, code_at, filled, padded}
-use Rattle.std.specs.Prelude.{Ok, Err}
 use Rattle.kinds.specs.Kinds.{layout_no, rows_of, kind_in, element_values}
 use Rattle.kinds.specs.declared.Kind.{Kind}
 use Rattle.kinds.specs.declared.Element.{Element}

@@ -100,10 +100,10 @@ fn check_values(values: [u32; 24], kind: Kind) -> Result<(), Refusal>
 fn find_kind(number: u32) -> Option<Kind>
     ensures { result ≡ find_by_number number }
 {
-    if 255 < number {
+    let Ok(number) = u8::try_from(number) else {
         return None;
-    }
-    kinds::find_by_number(number as u8)
+    };
+    kinds::find_by_number(number)
 }
 
 // The answer where something is refused of a state handed in: table, image, 13 and 22 come before it.

@@ -25,8 +25,3 @@ module _ {A B : Type 0} (f : A → B) where
 
   pub accepts : {v : Verdict A} {a : A} → v ≡ done a → Ok (f a) ≡ given f v
   accepts e = sym (ap (given f) e)
-
--- a check doesn't depend on the value
-pub checked_then : {A B : Type 0} (v : Verdict A) (f : A → B) → checked (then v (λ a. done (f a))) ≡ checked v
-checked_then (refused r) f = refl
-checked_then (done a) f = refl

@@ -16,7 +16,7 @@ use Rattle.heads.specs.Heads.{is_under, elements_place, image_head, elements_in}
 use Rattle.heads.proofs.Places.{head_is}
 use Rattle.heads.proofs.Chains.{image_with, image_chain}
 use Rattle.tables.specs.Plans.{plan_with}
-use Rattle.forms.proofs.Found.{checked_then}
+use Rattle.tables.proofs.AnswerLaws.{checked_then}
 
 module _ (x y : ℕ) (ks : List Kind) (b : List ℕ) where
   pub not_whole : is_whole 7 b ≡ false → Err (unnamed 1 0) ≡ checked (read_image (plan_with x y ks) b)

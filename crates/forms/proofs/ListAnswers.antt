@@ -15,7 +15,7 @@ use Rattle.history.specs.Form.{is_whole}
 use Rattle.heads.specs.Heads.{is_under, entry_count_in, entries_in}
 use Rattle.heads.proofs.Chains.{list_with, list_chain}
 use Rattle.tables.specs.Plans.{plan_with}
-use Rattle.forms.proofs.Found.{checked_then}
+use Rattle.tables.proofs.AnswerLaws.{checked_then}
 
 module _ (x y : ℕ) (ks : List Kind) (b : List ℕ) where
   pub not_whole : is_whole 13 b ≡ false → Err (unnamed 1 0) ≡ checked (read_list (plan_with x y ks) b)

@@ -29,7 +29,8 @@ use Rattle.history.proofs.ListLaws.{entry_at, was_numbered, was_checked}
 use Rattle.history.proofs.OutputLaws.{first_given, given_done}
 use Rattle.forms.specs.ListEntries.{passed}
 use Rattle.forms.specs.declared.list.Passed.{Passed}
-use Rattle.forms.proofs.Found.{is_bad, is_good, accepts, checked_then}
+use Rattle.forms.proofs.Found.{is_bad, is_good, accepts}
+use Rattle.tables.proofs.AnswerLaws.{checked_then}
 
 -- ---- the number
 

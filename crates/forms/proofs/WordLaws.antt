@@ -17,7 +17,8 @@ use Rattle.history.specs.declared.Answer.{Answer}
 use Rattle.history.specs.Verdict.{Verdict, done, then, numbers, checked}
 use Rattle.history.specs.Table.{kind_at}
 use Rattle.history.specs.Image.{element, found_in, ◌of◌⨾◌, widths, read_words}
-use Rattle.forms.proofs.Found.{is_bad, is_good, refuses, checked_then}
+use Rattle.forms.proofs.Found.{is_bad, is_good, refuses}
+use Rattle.tables.proofs.AnswerLaws.{checked_then}
 use Rattle.forms.proofs.KindLaws.{kinds_next, kinds_end}
 
 -- at object i the elements from `at` on are left

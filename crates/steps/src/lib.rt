@@ -86,7 +86,7 @@ pub fn look_at(entries: &[u8], at: usize, object: usize, width: usize) -> Said<'
 }
 
 // Whether the entry at a place is whole and names the object.
-fn names(entries: &[u8], at: usize, object: usize, width: usize) -> bool
+pub fn names(entries: &[u8], at: usize, object: usize, width: usize) -> bool
     requires { (at ≤ length entries.now) × (width ≤ 4) }
     ensures { result ≡ names object width (drop at entries.now) }
 {
@@ -129,7 +129,7 @@ fn said_if(said: Said<'_>) -> Change
     )
 }
 
-// What the entries from a place on say of the object; only the first is looked at. Alike to `next` by chance alone.
+// What the entries from a place on say of the object; only the first is looked at.
 pub fn change_at(entries: &[u8], at: usize, object: usize, width: usize) -> Change
     requires { (at ≤ length entries.now) × (width ≤ 4) }
     ensures { result ≡ change_at object width (drop at entries.now) }

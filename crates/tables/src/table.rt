@@ -46,8 +46,8 @@ pub fn read_table(table: &[u8]) -> Result<(), Answer>
 // same type and label, so only these are searched, the last first, until one is the same. Two entries are compared by
 // type, by length, and then by label from the last byte to the first, since the labels of a station begin alike.
 // `lasts` has for each hash its last entry, `links` for each entry the one before it of the same hash: each as its
-// number plus one, 0 for none. `starts` has for each entry where it begins. `links` and `starts` stay two arrays: one of
-// pairs proves as easily, but to fill it takes some 3,800 instructions more a call, above the bar of 16 objects.
+// number plus one, 0 for none. `starts` has for each entry where it begins. `links` and `starts` stay two arrays: one
+// of pairs proves as easily, but to fill it takes some 3,800 instructions more a call, above the bar of 16 objects.
 // The loops stay `while`s with labels: the search is to be a loop over earlier entries and one over label bytes inside
 // the loop over entries, left by a label at the first repeat.
 fn check_objects(table: &[u8], count: usize) -> Result<(), Answer>

@@ -50,7 +50,10 @@ pub fn open_answer(table: &[u8]) -> Answer
 pub fn label_answer(table: &[u8], object: u16) -> Answer
     ensures { result ≡ told (label_call table.now object) }
 {
-    label_place(table, object).map(|_| 0).into()
+    match label_place(table, object) {
+        Ok(_) => accepted(),
+        Err(answer) => answer,
+    }
 }
 
 // The label as a part of the table; the empty part at the front if the request is refused.
