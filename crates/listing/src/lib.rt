@@ -39,7 +39,8 @@ fn list(input: &[u8], out: &mut [u8]) -> Result<u32, Answer>
 }
 
 // Writes what the program prints to the front of `out`, the text or the line of its refusal, and returns its length. An
-// `out` that not every listing fits in stays as it was, and the length is 0.
+// `out` that not every listing fits in stays as it was, and the length is 0: its contract and the programs know no
+// option here.
 pub fn print_into(input: &[u8], out: &mut [u8]) -> usize
     ensures { ListedInto input.now out.old out.new result }
 {

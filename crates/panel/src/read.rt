@@ -18,7 +18,7 @@ pub fn answer_of(reading: Result<Element, Answer>) -> Answer
     reading.map(|_| 0).into()
 }
 
-// Reads the state of an object in an image, under its table.
+// Reads the state of an object in an image, under its table: two lines, as each call is that reads the table first.
 pub fn read_state(table: &[u8], image: &[u8], object: u16) -> Result<Element, Answer>
     ensures { result ≡ reading_of (read_state_call table.now image.now object) }
 {

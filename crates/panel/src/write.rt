@@ -25,6 +25,7 @@ pub fn write_state(
     put_state(table, image, object, state, position, out).into()
 }
 
+// As `write_state`, with a result for its numbers: two lines, as each call is that reads the table first.
 fn put_state(
     table: &[u8],
     image: &[u8],

