@@ -1,19 +1,23 @@
--- The steps of `put`: what is done and what is left make up the whole.
+-- The steps of `put` and the turns of `copy`: what is done and what is left make up the whole.
 -- Assumes nothing.
 use Prim.Native.Nat.{ℕ, zero, suc, ◌+◌, ◌-◌, ◌/◌, ◌%◌, ◌≤◌, ◌<◌}
 use native.Mathlib.Omega.{arith}
 use native.Mathlib.Nat.{le_of_suc-le-suc, not-suc-le-zero}
 use native.Mathlib.Numerals.{add-one}
-use mathlib.Core.Path.{◌≡◌, refl, sym, ◌∙◌}
+use mathlib.Core.Path.{◌≡◌, refl, sym, ap, ◌∙◌}
 use mathlib.Core.List.{List, [], ◌∷◌, ◌++◌, append_assoc, append-nil}
-use lib.ListN.{length, drop, get_or, set, length-set}
-use lib.Seq.{drop-length, drop-cons}
+use lib.ListN.{length, take, drop, get_or, set, length-set}
+use lib.Seq.{drop-length, take-length, drop-cons, take-suc-set}
 use Rattle.octets.specs.Octets.{bytes}
 use Rattle.octets.proofs.NumberLaws.{bytes_snoc}
 
 -- the element at the cursor, and the rest after it
 pub drop_next : (xs : List ℕ) (i : ℕ) → i < length xs → drop i xs ≡ get_or xs i 0 ∷ drop (i + 1) xs
 drop_next xs i h = rw (add-one, drop-cons xs i 0)
+
+-- a store at the cursor lengthens what is written by one
+take_store : (xs : List ℕ) (i a : ℕ) → i < length xs → take (i + 1) (set xs i a) ≡ take i xs ++ (a ∷ [])
+take_store xs i a h = rw (add-one, take-suc-set)
 
 drop_set : (xs : List ℕ) (i a : ℕ) → i < length xs → drop i (set xs i a) ≡ a ∷ drop (suc i) xs
 drop_set [] i a h = absurd (not-suc-le-zero h)
@@ -86,3 +90,10 @@ module _ (part : List ℕ) (v : ℕ) where
             let z₄ : Putting n v (n - 4) (v / 256 / 256 / 256 / 256) (set p₃ (n - 4) (v / 256 / 256 / 256 % 256)) =
             put_step (at_cursor (omega arith) z₃) in
             put_end (at_cursor (omega arith) z₄)
+
+pub copy_turn : (part from : List ℕ) (i : ℕ) → i < length part → i < length from
+    → take i part ++ drop i from ≡ take (i + 1) (set part i (get_or from i 0)) ++ drop (i + 1) from
+copy_turn part from i h k = rw (drop_next from i k, take_store part i (get_or from i 0) h, append_assoc)
+
+pub copy_end : (part from : List ℕ) (i : ℕ) → i ≡ length from → i ≡ length part → take i part ++ drop i from ≡ part
+copy_end part from i e f = ap (λ (k : ℕ). take i part ++ drop k from) e ∙ rw (drop-length, append-nil, f, take-length)

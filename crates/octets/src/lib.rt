@@ -74,10 +74,13 @@ pub fn put(part: &mut [u8], value: u32)
     part[size - 4] = (highest % 256) as u8;
 }
 
-// Fills the part with the bytes given, which are as many.
+// Fills the part with the bytes given, which are as many. A loop, since `copy_from_slice` has the archive for C ask for
+// `memmove` from outside.
 pub fn copy(part: &mut [u8], from: &[u8])
     requires { length part.old ≡ length from.now }
     ensures { part.new ≡ from.now }
 {
-    part.copy_from_slice(from);
+    for i in 0..from.len() {
+        part[i] = from[i];
+    }
 }

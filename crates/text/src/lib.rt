@@ -59,7 +59,7 @@ impl<'a> Page<'a> {
         ensures { Grew self.old src.now self.new }
     {
         let end = self.at + src.len();
-        self.out[self.at..end].copy_from_slice(src);
+        octets::copy(&mut self.out[self.at..end], src);
         self.at = end;
     }
 

@@ -9,7 +9,7 @@ use Rattle.text.proofs.Page.bytes.Goals as goal
 pub returns : goal.returns
 returns c =
     let page = c.args.self.now in
-    let text = copied page.out.now page.at c.args.src.now c.copy_from_slice.ensures.after c.requires in
+    let text = copied page.out.now page.at c.args.src.now c.copy.ensures c.requires in
     record {
       same = refl;
       size = ap length text ∙ length-sets page.out.now page.at c.args.src.now;
