@@ -1,15 +1,15 @@
 -- The kinds of an accepted table's objects, put in turn by turn; what is read of a table;
 -- and kinds from layout numbers.
 -- Assumes nothing.
-use Prim.Native.Nat.{ℕ, ◌+◌, ◌≤◌, ◌<◌}
+use Prim.Native.Nat.{ℕ, ◌+◌, ◌-◌, ◌≤◌, ◌<◌}
 use native.Mathlib.Omega.{arith}
 use native.Mathlib.Numerals.{add-one}
 use mathlib.Core.Path.{◌≡◌, refl, sym, ap, ap₂, ◌∙◌}
 use mathlib.Core.List.{List, [], ◌∷◌, ◌++◌, map, map-append}
 use Rattle.std.specs.Prelude.{Ok, Err}
-use lib.ListN.{length, get_or, take, set, replicate, length-set, length-replicate}
+use lib.ListN.{length, get_or, take, drop, set, replicate, length-set, length-replicate}
 use lib.Seq.{take_all}
-use Rattle.std.proofs.lemmas.List.{take_more, take_more_set}
+use Rattle.std.proofs.lemmas.List.{take_more, take_more_set, drop-drop, drop-replicate, drop-set-lt}
 use Rattle.kinds.specs.declared.Kind.{Kind}
 use Rattle.elements.specs.Elements.{kind_of, kind_numbered}
 use Rattle.history.specs.declared.Answer.{Answer}
@@ -71,10 +71,18 @@ pub record Filling (b : List ℕ) (count : ℕ) (kinds : List Kind) (i at : ℕ)
   pub cursor : CursorAt b count i at
   pub room : length kinds ≡ 1024
   pub so_far : take i kinds ≡ kinds_below b i
+  pub rest : drop i kinds ≡ replicate (1024 - i) Kind.Signal
+
+-- what is left to fill is alike, one place less after a turn
+rest_next : (kinds : List Kind) (i : ℕ) (k : Kind) → drop i kinds ≡ replicate (1024 - i) Kind.Signal
+    → drop (i + 1) (set kinds i k) ≡ replicate (1024 - (i + 1)) Kind.Signal
+rest_next kinds i k e =
+    drop-set-lt (i + 1) kinds i k (omega arith) ∙ sym (drop-drop 1 i kinds) ∙ ap (drop 1) e
+    ∙ drop-replicate 1 (1024 - i) Kind.Signal ∙ ap (λ (n : ℕ). replicate n Kind.Signal) (omega arith)
 
 pub begin : (b : List ℕ) (count : ℕ) (kinds : List Kind) (at : ℕ) → Ok tt ≡ checked (table_call b) → count ≡ count_in b
-    → at ≡ objects_place → length kinds ≡ 1024 → Filling b count kinds 0 at
-begin b count kinds at z e e' room =
+    → at ≡ objects_place → length kinds ≡ 1024 → kinds ≡ replicate 1024 Kind.Signal → Filling b count kinds 0 at
+begin b count kinds at z e e' room alike =
     let a = accepted b (table_of b z).1 in
     record {
       long = omega (arith, objects_place_lem, a.long);
@@ -82,6 +90,7 @@ begin b count kinds at z e e' room =
       cursor = cursor_first b count at z (omega arith) e';
       room = room;
       so_far = refl;
+      rest = alike;
     }
 
 pub turn : {b : List ℕ} {count : ℕ} {kinds : List Kind} {i at : ℕ} → Filling b count kinds i at → i < count
@@ -98,7 +107,15 @@ turn {b} {count} {kinds} {i} {at} f h k e size e' =
           ∙ ap₂ (λ (p : List Kind) (q : Kind). p ++ (q ∷ [])) f.so_far
           (e ∙ ap (λ (p : ℕ). kind_of (get_or b 5 0) (get_or b p 0)) f.cursor.place)
           ∙ sym (ap (kinds_below b) (add-one i) ∙ map-append (kind b) (objects_below b i) (object_of b i ∷ []));
+      rest = rest_next kinds i k f.rest;
     }
+
+-- the places after the objects' kinds are alike
+pub left_alike : {b : List ℕ} {count : ℕ} {kinds : List Kind} {i at : ℕ} → Filling b count kinds i at → count ≤ i
+    → drop count kinds ≡ replicate (1024 - count) Kind.Signal
+left_alike {count = count} {kinds = kinds} {i = i} f h =
+    let e : i ≡ count = omega (arith, f.cursor.bound) in
+    ap (λ (n : ℕ). drop n kinds) (sym e) ∙ f.rest ∙ ap (λ (n : ℕ). replicate (1024 - n) Kind.Signal) e
 
 -- ---- what is read of a table
 

@@ -1,5 +1,6 @@
 // A plan: what the other forms are read by. `Outline` holds what is read from a table, and lends it as a `Plan`.
-ghost use Rattle.std.specs.Prelude.{◌≡◌, ◌≤◌, length, take};
+ghost use Rattle.std.specs.Prelude.{◌≡◌, ◌≤◌, ◌-◌, ◌++◌, length, take, drop, replicate};
+ghost use Rattle.kinds.specs.declared.Kind.{Kind};
 ghost use Rattle.history.specs.Table.{Plan as ThePlan};
 ghost use Rattle.tables.specs.Outlines.{plan_as};
 
@@ -15,8 +16,9 @@ pub struct Plan<'a> {
     ghost few: { length kinds.now ≤ 1024 },
 }
 
-// What is read from an accepted table: X, Y, and the kinds of its objects in the first `count` places.
-#[derive(Drop)]
+// What is read from an accepted table: X, Y, and the kinds of its objects in the first `count` places. The places after
+// them are all alike, so that the plan says all that is in it: only then can it be copied.
+#[derive(Clone, Copy)]
 pub struct Outline {
     x: u8,
     y: u8,
@@ -30,7 +32,24 @@ impl Model for Outline {
 
     ghost view = { λ o. record { x = o.x; y = o.y; kinds = take o.count o.kinds } };
 
-    ghost invariant = { λ o. o.count ≤ 1024 };
+    ghost invariant = { λ o. (o.count ≤ 1024) × (length o.kinds ≡ 1024)
+        × (o.kinds ≡ take o.count o.kinds ++ replicate (1024 - o.count) Kind.Signal) };
+
+    ghost inverse = { λ p. record {
+      x = p.x;
+      y = p.y;
+      count = length p.kinds;
+      kinds = p.kinds ++ replicate (1024 - length p.kinds) Kind.Signal;
+    } };
+}
+
+// An outline of X, Y and the first `count` of the kinds, where those after them are all alike.
+pub fn hold(x: u8, y: u8, count: usize, kinds: [Kind; 1024]) -> Outline
+    requires count_few { count ≤ 1024 }
+    requires rest_alike { drop count kinds ≡ replicate (1024 - count) Kind.Signal }
+    ensures { result ≡ record { x = x; y = y; kinds = take count kinds } }
+{
+    Outline { x, y, count, kinds }
 }
 
 impl Outline {
@@ -54,7 +73,9 @@ impl Outline {
         requires { count ≤ 1024 }
         ensures { result ≡ record { x = x; y = y; kinds = take count kinds } }
     {
-        Outline { x, y, count, kinds }
+        let mut kinds = kinds;
+        kinds[count..].fill(Kind::Signal);
+        hold(x, y, count, kinds)
     }
 
     // An outline of X, Y and layout numbers, one for each object.
@@ -66,11 +87,6 @@ impl Outline {
         for i in 0..numbers.len() {
             kinds[i] = elements::kind_numbered(numbers[i]);
         }
-        Outline {
-            x,
-            y,
-            count: numbers.len(),
-            kinds,
-        }
+        Outline::of_kinds(x, y, numbers.len(), kinds)
     }
 }

@@ -20,6 +20,8 @@ bounds-table-6 c = inside_given _ (passed _ c.read_table.ensures c.in_ok-read_ta
 pub object_count-count-requires : goal.object_count-count-requires
 object_count-count-requires c = head_given _ (passed _ c.read_table.ensures c.in_ok-read_table.was)
 
-pub of_kinds-requires : goal.of_kinds-requires
-of_kinds-requires c =
-    count_given _ (passed _ c.read_table.ensures c.in_ok-read_table.was) _ c.object_count-count.ensures
+pub hold-requires : goal.hold-requires
+hold-requires c = record {
+  count_few = count_given _ (passed _ c.read_table.ensures c.in_ok-read_table.was) _ c.object_count-count.ensures;
+  rest_alike = c.kinds_in-kinds.ensures.rest;
+}
