@@ -3,11 +3,11 @@
 -- Assumes nothing.
 use Prim.Native.Nat.{ℕ}
 use Rattle.std.specs.Prelude.{Ok, Err}
-use mathlib.Core.Path.{◌≡◌, refl, sym, ap, ◌∙◌}
+use mathlib.Core.Path.{◌≡◌, sym, ap, ◌∙◌}
 use Rattle.rows.specs.Values.{Finding}
 use Rattle.rows.specs.declared.Refusal.{Refusal}
 use Rattle.history.specs.declared.Answer.{Answer}
-use Rattle.history.specs.Verdict.{Refused, Verdict, refused, done, then, numbers, given, checked}
+use Rattle.history.specs.Verdict.{Refused, Verdict, refused, done, numbers, given}
 use Rattle.history.specs.Image.{found_in, ◌of◌⨾◌}
 
 pub is_bad : {A : Type 0} (f : Finding) (i : ℕ) (rest : Verdict A) (r : Refusal) → f ≡ Err r

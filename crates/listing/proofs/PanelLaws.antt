@@ -12,17 +12,16 @@ use mir.Syntax.{w8}
 use mir.Val.{Fits}
 use Rattle.elements.specs.Elements.{kind_of}
 use Rattle.history.specs.declared.Answer.{Answer}
-use Rattle.history.specs.Verdict.{Verdict, refused, done, then, told, given, checked, Puts}
+use Rattle.history.specs.Verdict.{Verdict, refused, done, then, told, checked, put, settled, Puts, decide, numbers}
 use Rattle.history.specs.Table.{Object, Table, Plan, objects_bytes, read_table, plan_of}
 use Rattle.history.specs.Image.{Image, words_bytes, read_image, Every, admits}
 use Rattle.history.specs.Calls.{read_plan, image_call}
 use Rattle.history.proofs.VerdictLaws.{used}
 use Rattle.history.proofs.TableLaws.{table_is}
-use Rattle.history.proofs.OutputLaws.{puts_as, refused_puts, written_puts}
+use Rattle.history.proofs.OutputLaws.{puts_as, written_puts}
 use Rattle.heads.specs.Heads.{objects_place, image_head, position_in, elements_in}
 use Rattle.heads.proofs.Parts.{written_objects, position_in_lem, elements_in_lem, image_inside}
 use Rattle.tables.proofs.AnswerLaws.{told_then}
-use Rattle.forms.proofs.UnderPlan.{table_refused, under_plan, image_starts}
 use Rattle.forms.proofs.Accepted.{image_accepted}
 use Rattle.text.specs.Grew.{Grew}
 use Rattle.text.specs.Wrote.{Wrote}
@@ -57,23 +56,32 @@ both_told t a =
     ap told (image_in t a) ∙ told_then (read_both t a) (λ (p : Panel). p.image)
     ∙ sym (told_then (read_both t a) (λ (p : Panel). panel_text p.table p.image))
 
--- what refuses the image's check refuses the whole, and leaves the output as it was
-image_puts : (b a out : List ℕ) {x : Answer} → Err x ≡ checked (image_call b a)
-    → Puts (text_of (read_both b a)) out (Err x) out
-image_puts b a out {x} e = go (read_both b a) (e ∙ ap checked (image_in b a))
+-- both are refused as the table or the image under its plan is; the first part shows `grind` what the law is about
+pub both_checked : (b a : List ℕ)
+    → (read_both b a ≡ read_both b a)
+    × (checked (read_both b a) ≡ checked (then (read_plan b) λ p. read_image p a))
+unfolding image_call
+both_checked b a = (refl, at (read_both b a) ∙ sym (ap checked (image_in b a)))
   where
-    go : (v : Verdict Panel) → Err x ≡ checked (then v (λ p. done p.image)) → Puts (text_of v) out (Err x) out
-    go (refused r) e = refused_puts _ out refl cc
-    go (done p) e = absurd (let z : ◌≡◌ {A = ℕ} 0 1 = cc in omega arith)
+    at : (v : Verdict Panel) → checked v ≡ checked (then v λ p. done p.image)
+    at (refused r) = refl
+    at (done p) = refl
 
-pub table_puts : (b a out : List ℕ) {x : Answer} → Err x ≡ given (λ (p : Plan). p) (read_plan b)
-    → Puts (text_of (read_both b a)) out (Err x) out
-table_puts b a out e = image_puts b a out (table_refused (image_starts b a) (λ i. tt) e)
+-- a refusal is what is told, and leaves the output as it was
+pub refusal_put : (v : Verdict (List ℕ)) (out : List ℕ)
+    → put v out ≡ decide v (λ r. Err (numbers r 0)) (λ b. put v out)
+unfolding put
+refusal_put (refused r) out = refl
+refusal_put (done b) out = refl
 
--- o is what is read of the table, and p the plan that is lent from there
-pub refused_image : (b : List ℕ) {o p : Plan} → Ok o ≡ given (λ (p : Plan). p) (read_plan b) → p ≡ o
-    → (a out : List ℕ) {x : Answer} → Err x ≡ checked (read_image p a) → Puts (text_of (read_both b a)) out (Err x) out
-refused_image b o-is p-is a out e = image_puts b a out (e ∙ ap checked (under_plan (image_starts b a) o-is p-is))
+pub refusal_settled : (v : Verdict (List ℕ)) (out : List ℕ)
+    → settled v out ≡ decide v (λ r. record { answer = numbers r 0; output = out }) (λ b. settled v out)
+unfolding settled
+refusal_settled (refused r) out = refl
+refusal_settled (done b) out = refl
+
+-- what `put_panel` goes by, whatever form its refusals have
+pub ruleset refusals = (both_checked, refusal_put, refusal_settled)
 
 -- ---- an accepted table and image
 

@@ -14,6 +14,7 @@ use tables::{Plan, outline};
 use text::Page;
 
 // Writes the lines of both, or returns the first refusal.
+#[tactic(auto, using(crate::proofs::PanelLaws::refusals))]
 pub fn put_panel(table: &[u8], image: &[u8], out: &mut [u8]) -> Result<u32, Answer>
     requires { 65536 ≤ length out.old }
     ensures { Puts (text_of (read_both table.now image.now))
