@@ -1,12 +1,13 @@
--- What a test says of every line of the catalogues holds of every type that is carried and its kind.
+-- Looking up a catalogue by its X: if none has this X, no kind is found. And what a test says of every line of the
+-- catalogues holds of every type that is carried and its kind.
 -- Assumes nothing.
-use mathlib.Core.Path.{◌≡◌, refl, subst⁻¹}
+use mathlib.Core.Path.{◌≡◌, ◌∙◌, refl, sym, ap, subst⁻¹}
 use mathlib.Core.Bool.{Bool, true, false, cond, ◌&&◌}
 use mathlib.Core.List.{List, [], ◌∷◌}
 use Prim.Native.Nat.{ℕ}
 use native.Mathlib.Omega.{arith}
 use lib.Dec.{T, eqb}
-use borrow.Author.Tests.{eqb-true}
+use borrow.Author.Tests.{ne_eqb, eqb-true}
 use Rattle.rows.proofs.Tests.{both_left, both_right}
 use Rattle.kinds.specs.Kinds.{find_in}
 use Rattle.kinds.specs.declared.Kind.{Kind}
@@ -14,6 +15,18 @@ use Rattle.std.proofs.Common.{Option, Some, None, is_some}
 use Rattle.kinds.proofs.Lookup.{all_lines, every_line}
 use Rattle.elements.specs.Types.{Catalogue, catalogues, find_under, find_by_type}
 use Rattle.elements.specs.Elements.{carried_kind, carried, kind_of}
+
+abbrev pub Unknown : ℕ → List Catalogue → Type 0
+Unknown x [] = Unit
+Unknown x (c ∷ cs) = (x ≡ c.x → ⊥) × Unknown x cs
+
+pub not_carried : (x type : ℕ) (cs : List Catalogue) → Unknown x cs → None ≡ find_under x type cs
+not_carried x type [] u = refl
+not_carried x type (c ∷ cs) u =
+    not_carried x type cs u.1
+    ∙ sym (ap (λ (b : Bool). cond b (find_in type c.types) (find_under x type cs)) (ne_eqb x c.x u.0))
+
+-- ---- every type that is carried
 
 abbrev pub all_types : (ℕ → ℕ → Kind → Bool) → List Catalogue → Bool
 all_types test [] = true

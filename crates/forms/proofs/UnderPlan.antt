@@ -7,12 +7,12 @@ use mathlib.Core.Path.{◌≡◌, refl, sym, ap, ◌∙◌}
 use mathlib.Core.List.{List}
 use Rattle.std.specs.Prelude.{Ok, Err}
 use Rattle.history.specs.declared.Answer.{Answer}
-use Rattle.history.specs.Verdict.{Verdict, refused, done, then, given, Puts}
+use Rattle.history.specs.Verdict.{Verdict, refused, done, then, given, Puts, Leaves}
 use Rattle.history.specs.Table.{Plan}
 use Rattle.history.specs.Image.{read_image}
 use Rattle.history.specs.Changes.{read_list}
 use Rattle.history.specs.Calls.{read_plan, image_call, list_call}
-use Rattle.history.proofs.OutputLaws.{first_puts, first_given, puts_as}
+use Rattle.history.proofs.OutputLaws.{first_puts, first_given, puts_as, puts_leave}
 
 -- the call v reads the table first
 pub record Starts {A : Type 0} (T : List ℕ) (v : Verdict A) (next : Plan → Verdict A) : Type 0 where
@@ -35,6 +35,11 @@ module _ {T : List ℕ} {A : Type 0} {v : Verdict A} {next : Plan → Verdict A}
 pub table_puts : {T : List ℕ} {v : Verdict (List ℕ)} {next : Plan → Verdict (List ℕ)} → Starts T v next
     → (out : List ℕ) {a : Answer} → Err a ≡ given (λ (p : Plan). p) (read_plan T) → Puts v out (Err a) out
 table_puts {T} {next = next} s out e = puts_as out (sym s.is) (first_puts (read_plan T) (λ (p : Plan). p) next out e)
+
+-- in the call's four numbers
+pub table_leaves : {T : List ℕ} {v : Verdict (List ℕ)} {next : Plan → Verdict (List ℕ)} → Starts T v next
+    → (out : List ℕ) {a : Answer} → Err a ≡ given (λ (p : Plan). p) (read_plan T) → Leaves v out a out
+table_leaves {v = v} s out e = puts_leave v out (table_puts s out e)
 
 -- ---- the checks of an image and of a list
 

@@ -1,5 +1,5 @@
--- The check of an element by itself, at each return; that a label's offset and size fit 32 bits; and the fields of a
--- state that is read.
+-- The check of an element by itself, at each return; that a label's offset and size fit 32 bits; the fields of a state
+-- that is read; and a backlog's output.
 -- Assumes nothing.
 use Prim.Native.Nat.{ℕ, zero, suc, ◌*◌, ◌≤◌, ◌<◌}
 use native.Mathlib.Omega.{arith}
@@ -18,11 +18,13 @@ use Rattle.kinds.specs.declared.Element.{Element}
 use Rattle.octets.specs.Octets.{number}
 use Rattle.elements.specs.Elements.{carried, kind_of, element_check}
 use Rattle.history.specs.declared.Answer.{Answer}
+use Rattle.history.specs.declared.Standing.{Standing}
 use Rattle.history.specs.Verdict.{Verdict, refused, done, numbers, unnamed, checked}
 use Rattle.history.specs.Table.{catalogue_good, Object, Table, object_bytes, objects_bytes, label_limit, read_table}
 use Rattle.history.specs.Table.{LegalTable}
 use Rattle.history.specs.Image.{element, found_in, ◌of◌⨾◌}
 use Rattle.history.specs.Calls.{read_state_call, Place, label_place, label_call}
+use Rattle.history.specs.Backlog.{backlog_call}
 use Rattle.history.proofs.VerdictLaws.{held, used}
 use Rattle.history.proofs.TableLaws.{nobody, table_is}
 use Rattle.tables.specs.LabelPlaces.{label_at, label_told}
@@ -32,7 +34,7 @@ use Rattle.panel.specs.Readings.{reading_of}
 use Rattle.fields.specs.declared.Plain.{Plain}
 use Rattle.fields.specs.PlainFields.{shown_plain, plain_of}
 use Rattle.gateway.specs.Calls.{element_call}
-use Rattle.gateway.specs.Slots.{slots, answer_slots, read_slots, fields_after, label_slots}
+use Rattle.gateway.specs.Slots.{slots, answer_slots, read_slots, fields_after, label_slots, standing_in}
 
 -- ---- a label is within the first 65,536 bytes
 
@@ -169,3 +171,12 @@ refused_read T A i before {fields} {a} e q n = e ∙ go (read_state_call T A i) 
     go : (v : Verdict Element) → a ≡ read_slots (plain_of (reading_of v)) → fields_after v before ≡ before
     go (refused r) q = refl
     go (done state) q = absurd (n (ap (λ (l : List ℕ). get_or l 0 0) q))
+
+-- ---- a backlog's output
+
+-- in terms of the tallies that C gives
+pub backlog_output_lem : (T A b out : List ℕ) (s : Standing) (tallies : List ℕ) → s ≡ standing_in tallies
+    → {m : List ℕ} → m ≡ (backlog_call T A b out s).output
+    → m ≡ (backlog_call T A b out (standing_in tallies)).output
+backlog_output_lem T A b out s tallies s-is e =
+    e ∙ ap (λ (s : Standing). (backlog_call T A b out s).output) s-is

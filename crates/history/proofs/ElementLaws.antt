@@ -30,9 +30,9 @@ pub was_accepted : {A : Type 0} (v : Finding) (i : ℕ) (r : Verdict A) {a : A} 
 was_accepted (Ok tt) i r e = (refl, e)
 was_accepted (Err x) i r e = absurd (let z : ◌≡◌ {A = ℕ} 0 1 = cc in omega arith)
 
-pub accepted_goes_on : {A : Type 0} (v : Finding) (i : ℕ) (r : Verdict A) → is_ok v ≡ true → (v of i ⨾ r) ≡ r
-accepted_goes_on (Ok tt) i r e = refl
-accepted_goes_on (Err x) i r e = absurd (let z : ◌≡◌ {A = ℕ} 0 1 = cc in omega arith)
+pub is_accepted_lem : {A : Type 0} (v : Finding) (i : ℕ) (r : Verdict A) → is_ok v ≡ true → (v of i ⨾ r) ≡ r
+is_accepted_lem (Ok tt) i r e = refl
+is_accepted_lem (Err x) i r e = absurd (let z : ◌≡◌ {A = ℕ} 0 1 = cc in omega arith)
 
 pub admits_fits : (k : Kind) (w : ℕ) → admits k w ≡ true → w < 256 ^ width_of k
 admits_fits k w h = ltb-true w (256 ^ width_of k) (left (ltb w (256 ^ width_of k)) _ h)

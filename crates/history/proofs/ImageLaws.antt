@@ -21,7 +21,7 @@ use Rattle.history.specs.Image.{elements_from, read_image, admits, Every, nil, a
 use Rattle.octets.proofs.NumberLaws.{length_bytes, read_bytes, drop_bytes, drop_is, cut, below}
 use Rattle.history.proofs.VerdictLaws.{all, left, right, held, used}
 use Rattle.history.proofs.FormLaws.{Formed, form_is, form_reads}
-use Rattle.history.proofs.ElementLaws.{was_accepted, accepted_goes_on, admits_fits, admits_accepted, width_few}
+use Rattle.history.proofs.ElementLaws.{was_accepted, is_accepted_lem, admits_fits, admits_accepted, width_few}
 
 -- ---- all elements
 
@@ -53,7 +53,7 @@ words_read i (and {a = k} {b = w} {xs = ks} {ys = ws} h r) =
       drop_bytes (width_of k) w (words_bytes ks ws),
       words_read (suc i) r,
     )
-    (accepted_goes_on (element k w) i _ (admits_accepted k w h))
+    (is_accepted_lem (element k w) i _ (admits_accepted k w h))
 
 -- the elements are read from their own bytes alone
 pub words_alone : (i : ℕ) (ks : List Kind) (b rest : List ℕ) → widths ks ≤ length b

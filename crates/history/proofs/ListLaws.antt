@@ -27,7 +27,7 @@ use Rattle.octets.proofs.NumberLaws.{length_bytes, read_bytes, drop_bytes, drop_
 use Rattle.history.proofs.VerdictLaws.{all, held, used}
 use Rattle.history.proofs.ChangeLaws.{lawful_swap}
 use Rattle.history.proofs.FormLaws.{Formed, form_is, form_reads}
-use Rattle.history.proofs.ElementLaws.{was_accepted, accepted_goes_on, admits_fits, admits_accepted, width_few}
+use Rattle.history.proofs.ElementLaws.{was_accepted, is_accepted_lem, admits_fits, admits_accepted, width_few}
 use Rattle.history.proofs.ImageLaws.{same_catalogue_lem, own_catalogue, Fair}
 
 -- ---- an entry
@@ -104,8 +104,8 @@ are_elements : (i : ℕ) (k : Kind) (b : List ℕ) → width_of k + width_of k �
 unfolding read_elements
 are_elements i k b room f =
     rw (le-leb (width_of k + width_of k) (length b) room)
-    (accepted_goes_on (element k (entry_of i k b).old) _ _ f.old
-    ∙ accepted_goes_on (element k (entry_of i k b).new) _ _ f.new)
+    (is_accepted_lem (element k (entry_of i k b).old) _ _ f.old
+    ∙ is_accepted_lem (element k (entry_of i k b).new) _ _ f.new)
 
 -- what an entry's checks tell together
 pub record Checked (ks : List Kind) (low : ℕ) (b : List ℕ) (e : Entry) : Type 0 where

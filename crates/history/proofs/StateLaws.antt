@@ -25,7 +25,7 @@ use Rattle.history.specs.Calls.{read_plan, placed, read_state_under, read_state_
 use Rattle.history.specs.Calls.{write_state_call}
 use Rattle.elements.specs.Elements.{same_kind}
 use Rattle.history.proofs.VerdictLaws.{held, used}
-use Rattle.history.proofs.ElementLaws.{was_accepted, accepted_goes_on, admits_accepted, word_again, state_again}
+use Rattle.history.proofs.ElementLaws.{was_accepted, is_accepted_lem, admits_accepted, word_again, state_again}
 use Rattle.history.proofs.ElementLaws.{state_admitted, same_kind_lem, is_same_kind, state_current, state_twelve}
 use Rattle.history.proofs.OperationLaws.{one_version}
 use Rattle.history.proofs.CallLaws.{legal_image}
@@ -162,7 +162,7 @@ module _ (T : List ℕ) {p : Plan} (t : read_plan T ≡ done p) where
         t,
         a.reads,
         state_checked p.kinds i e l s,
-        accepted_goes_on (element (kind_at p.kinds i) (word_of e)) i (done (word_of e)) h,
+        is_accepted_lem (element (kind_at p.kinds i) (word_of e)) i (done (word_of e)) h,
       )
 
   -- a state of the object's kind is written, unless DAT is 0 and another bit is 1: then it is refused with 12

@@ -111,6 +111,17 @@ pub record Reading (w first count : ℕ) (values : List ℕ) (k : ℕ) : Type 0 
   pub checking : Checking w (rows_from first count) (rows_from (first + k) (count - k))
   pub so_far : values ≡ padded (values_of w (rows_from first k))
 
+-- before the first row
+pub starts : (w first count : ℕ) → Reading w first count (replicate 24 0) 0
+starts w first count =
+    let e : first + 0 ≡ first = omega arith in
+    let e' : count - 0 ≡ count = omega arith in
+    record {
+      bound = omega arith;
+      checking = record { to_come = ap₂ (λ (i n : ℕ). check_rows w (rows_from i n)) (sym e) (sym e') };
+      so_far = refl;
+    }
+
 pub turn : {w first count : ℕ} {values : List ℕ} {k : ℕ} → Reading w first count values k → k < count → count ≤ 24
     → {f : Result ℕ Refusal} → f ≡ field_read w (row_at (first + k))
     → {v : ℕ} → f ≡ Ok v → Reading w first count (set values k v) (k + 1)
