@@ -76,9 +76,9 @@ pub fn shefumbari_read_state(
 {
     match read_fields(table, image, object) {
         Ok(plain) => {
+            *answer = read_slots(plain.kind);
             let shown = plain.fields;
             *fields = shown;
-            *answer = read_slots(plain.kind);
         }
         Err(refusal) => {
             *answer = answer_slots(refusal);
