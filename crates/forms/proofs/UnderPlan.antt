@@ -48,6 +48,10 @@ module _ (T b : List ℕ) where
   unfolding image_call
   image_starts = record { is = refl }
 
+  -- as one equation, for a proof that the check finds alone
+  pub image_read : image_call T b ≡ then (read_plan T) (λ p. read_image p b)
+  image_read = image_starts.is
+
   pub list_starts : Starts T (list_call T b) (λ p. read_list p b)
   unfolding list_call
   list_starts = record { is = refl }

@@ -18,7 +18,7 @@ pub fn check_image(table: &[u8], image: &[u8]) -> Answer
 }
 
 // As `check_image`, with a result for its numbers.
-#[tactic(auto, unfolding(history::specs::Calls::image_call))]
+#[tactic(auto, using(crate::proofs::UnderPlan::image_read))]
 fn read_image(table: &[u8], image: &[u8]) -> Result<(), Answer>
     ensures { result ≡ checked (image_call table.now image.now) }
 {

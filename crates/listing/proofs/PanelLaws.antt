@@ -22,6 +22,7 @@ use Rattle.history.proofs.OutputLaws.{puts_as, written_puts}
 use Rattle.heads.specs.Heads.{objects_place, image_head, position_in, elements_in}
 use Rattle.heads.proofs.Parts.{written_objects, position_in_lem, elements_in_lem, image_inside}
 use Rattle.tables.proofs.AnswerLaws.{told_then}
+use Rattle.forms.proofs.UnderPlan.{image_read}
 use Rattle.forms.proofs.Accepted.{image_accepted}
 use Rattle.text.specs.Grew.{Grew}
 use Rattle.text.specs.Wrote.{Wrote}
@@ -60,8 +61,7 @@ both_told t a =
 pub both_checked : (b a : List ℕ)
     → (read_both b a ≡ read_both b a)
     × (checked (read_both b a) ≡ checked (then (read_plan b) λ p. read_image p a))
-unfolding image_call
-both_checked b a = (refl, at (read_both b a) ∙ sym (ap checked (image_in b a)))
+both_checked b a = (refl, at (read_both b a) ∙ ap checked (sym (image_in b a) ∙ image_read b a))
   where
     at : (v : Verdict Panel) → checked v ≡ checked (then v λ p. done p.image)
     at (refused r) = refl

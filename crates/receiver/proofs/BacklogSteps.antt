@@ -12,7 +12,7 @@ use mir.Val.{Fits}
 use Rattle.std.specs.Prelude.{Ok, Err}
 use Rattle.history.specs.declared.Answer.{Answer}
 use Rattle.history.specs.declared.Standing.{Standing}
-use Rattle.history.specs.Verdict.{Refused, Verdict, refused, done, numbers, unnamed, given, checked}
+use Rattle.history.specs.Verdict.{Refused, Verdict, refused, done, then, numbers, unnamed, given, checked}
 use Rattle.history.specs.Form.{forms_in}
 use Rattle.history.specs.Table.{Plan}
 use Rattle.history.specs.Image.{read_image, AcceptedImage}
@@ -22,6 +22,7 @@ use Rattle.history.proofs.ImageLaws.{Fair}
 use Rattle.history.proofs.OutputLaws.{given_done}
 use Rattle.history.proofs.BacklogLaws.{forms_bytes, take_keeps}
 use Rattle.forms.proofs.Accepted.{image_accepted}
+use Rattle.forms.proofs.UnderPlan.{Starts, table_refused}
 use Rattle.receiver.specs.declared.Advance.{Advance}
 use Rattle.receiver.specs.Backlogs.{advance_of, Advances}
 use Rattle.receiver.proofs.Turns.{image_small}
@@ -83,12 +84,19 @@ module _ (A out : List ℕ) {n : ℕ} {m : List ℕ} (q : (n ≡ length A) × (n
 
 -- ---- the table
 
+plan_starts : (T : List ℕ) → Starts T (read_plan T) (λ p. done p)
+plan_starts T = record { is = go (read_plan T) }
+  where
+    go : (v : Verdict Plan) → v ≡ then v (λ p. done p)
+    go (refused r) = refl
+    go (done p) = refl
+
 module _ (T A b out : List ℕ) (s : Standing) {r : Advance} where
   pub table_stops : {a : Answer} → Err a ≡ given (λ (p : Plan). p) (read_plan T) → r ≡ advance_of (nothing_taken [] s a)
       → Advances (backlog_call T A b out s) r out
   unfolding backlog_call
   table_stops e n =
-      let f = refused_told (read_plan T) _ e in
+      let f = refused_told (read_plan T) _ (table_refused (plan_starts T) (λ (p : Plan). p) e) in
       rw f.1 (n ∙ ap (λ (a : Answer). advance_of (nothing_taken [] s a)) f.2, refl)
 
   -- o is what is read of the table, and p the plan that is lent from there
