@@ -19,10 +19,9 @@ use Rattle.history.specs.Image.{read_image, AcceptedImage}
 use Rattle.history.specs.Calls.{read_plan}
 use Rattle.history.specs.Backlog.{Backlog, nothing_taken, take_lists, backlog_under, backlog_call}
 use Rattle.history.proofs.ImageLaws.{Fair}
-use Rattle.history.proofs.OutputLaws.{given_done}
 use Rattle.history.proofs.BacklogLaws.{forms_bytes, take_keeps}
 use Rattle.forms.proofs.Accepted.{image_accepted}
-use Rattle.forms.proofs.UnderPlan.{Starts, table_refused}
+use Rattle.forms.proofs.UnderPlan.{Starts, under_plan}
 use Rattle.receiver.specs.declared.Advance.{Advance}
 use Rattle.receiver.specs.Backlogs.{advance_of, Advances}
 use Rattle.receiver.proofs.Turns.{image_small}
@@ -84,6 +83,7 @@ module _ (A out : List ℕ) {n : ℕ} {m : List ℕ} (q : (n ≡ length A) × (n
 
 -- ---- the table
 
+-- reading a plan is itself a call that reads the table first
 plan_starts : (T : List ℕ) → Starts T (read_plan T) (λ p. done p)
 plan_starts T = record { is = go (read_plan T) }
   where
@@ -96,13 +96,11 @@ module _ (T A b out : List ℕ) (s : Standing) {r : Advance} where
       → Advances (backlog_call T A b out s) r out
   unfolding backlog_call
   table_stops e n =
-      let f = refused_told (read_plan T) _ (table_refused (plan_starts T) (λ (p : Plan). p) e) in
+      let f = refused_told (read_plan T) _ e in
       rw f.1 (n ∙ ap (λ (a : Answer). advance_of (nothing_taken [] s a)) f.2, refl)
 
   -- o is what is read of the table, and p the plan that is lent from there
   pub table_goes : {o p : Plan} → Ok o ≡ given (λ (p : Plan). p) (read_plan T) → p ≡ o → {m : List ℕ}
       → Advances (backlog_under p A b out s) r m → Advances (backlog_call T A b out s) r m
   unfolding backlog_call
-  table_goes e l q =
-      let f = given_done (read_plan T) _ e in
-      rw f.1 (rw (l ∙ sym f.2) at q)
+  table_goes e l q = rw (sym (under_plan (plan_starts T) e l)) q
